@@ -1,0 +1,76 @@
+// limits.rs: the resource limits under which a chunk is read, and the ceiling of each.
+ghost use mathlib.Core.Path.{_≡_};
+ghost use lib.Dec.{leb};
+ghost use Rattle.format.specs.Pick.{both};
+ghost use Rattle.format.specs.Limits.{ceilings, withinCeilings};
+
+// The limits of a reading, with the names of the Rust.
+pub struct ResourceLimits {
+    pub max_input_bytes: usize,
+    pub max_nesting_depth: usize,
+    pub max_total_prototypes: usize,
+    pub max_instructions_per_proto: usize,
+    pub max_total_instructions: usize,
+    pub max_constants_per_proto: usize,
+    pub max_upvalues_per_proto: usize,
+    pub max_string_bytes: usize,
+    pub max_diagnostics: usize,
+}
+
+impl ResourceLimits {
+    // Each limit at its ceiling: the largest that a caller may ask for.
+    pub fn ceilings() -> ResourceLimits
+        ensures { λ r. ⌜ r ≡ ceilings ⌝ }
+    {
+        ResourceLimits {
+            max_input_bytes: 16777216,
+            max_nesting_depth: 200,
+            max_total_prototypes: 16777216,
+            max_instructions_per_proto: 16777216,
+            max_total_instructions: 16777216,
+            max_constants_per_proto: 16777216,
+            max_upvalues_per_proto: 16777216,
+            max_string_bytes: 16777216,
+            max_diagnostics: 10000,
+        }
+    }
+
+    // Whether no limit is above its ceiling: where this is false, the refusal is 21.
+    pub fn within_ceilings(self) -> bool
+        ensures { λ r. ⌜ r ≡ withinCeilings self ⌝ }
+    {
+        let top = ResourceLimits::ceilings();
+        let rest = under(self.max_diagnostics, top.max_diagnostics, true);
+        let rest = under(self.max_string_bytes, top.max_string_bytes, rest);
+        let rest = under(
+            self.max_upvalues_per_proto,
+            top.max_upvalues_per_proto,
+            rest,
+        );
+        let rest = under(
+            self.max_constants_per_proto,
+            top.max_constants_per_proto,
+            rest,
+        );
+        let rest = under(
+            self.max_total_instructions,
+            top.max_total_instructions,
+            rest,
+        );
+        let rest = under(
+            self.max_instructions_per_proto,
+            top.max_instructions_per_proto,
+            rest,
+        );
+        let rest = under(self.max_total_prototypes, top.max_total_prototypes, rest);
+        let rest = under(self.max_nesting_depth, top.max_nesting_depth, rest);
+        under(self.max_input_bytes, top.max_input_bytes, rest)
+    }
+}
+
+// Whether a limit is at most its ceiling, and the rest holds.
+fn under(limit: usize, ceiling: usize, rest: bool) -> bool
+    ensures { λ r. ⌜ r ≡ both (leb limit ceiling) rest ⌝ }
+{
+    if limit <= ceiling { rest } else { false }
+}
