@@ -1,3 +1,12 @@
 pub mod Pick
 pub mod Limits
 pub mod Refusals
+pub mod Form
+pub mod GrammarFields
+pub mod GrammarHeader
+pub mod Read
+pub mod ReadFields
+pub mod ReadHeader
+pub mod Shortest
+pub mod Lundump
+pub mod Ldump

@@ -1,11 +1,9 @@
 -- The ceilings of the nine limits (01, 'Limits').
 --     ceilings             the largest limits
 --     withinCeilings l     no limit of l is above its ceiling: the test behind refusal 21
-use Prim.Native.Nat.{ℕ}
-use mathlib.Core.Bool.{Bool, true, false}
+use mathlib.Core.Bool.{Bool, _&&_}
 use lib.Dec.{leb}
 use Rattle.format.specs.declared.limits.ResourceLimits.{ResourceLimits}
-use Rattle.format.specs.Pick.{both}
 
 abbrev pub ceilings : ResourceLimits
 ceilings = record {
@@ -22,13 +20,12 @@ ceilings = record {
 
 abbrev pub withinCeilings : ResourceLimits → Bool
 withinCeilings l =
-    both (leb (l .«max_input_bytes») (ceilings .«max_input_bytes»))
-    (both (leb (l .«max_nesting_depth») (ceilings .«max_nesting_depth»))
-    (both (leb (l .«max_total_prototypes») (ceilings .«max_total_prototypes»))
-    (both (leb (l .«max_instructions_per_proto») (ceilings .«max_instructions_per_proto»))
-    (both (leb (l .«max_total_instructions») (ceilings .«max_total_instructions»))
-    (both (leb (l .«max_constants_per_proto») (ceilings .«max_constants_per_proto»))
-    (both (leb (l .«max_upvalues_per_proto») (ceilings .«max_upvalues_per_proto»))
-    (both (leb (l .«max_string_bytes») (ceilings .«max_string_bytes»))
-    (both (leb (l .«max_diagnostics») (ceilings .«max_diagnostics»))
-    true))))))))
+    leb (l .«max_input_bytes») (ceilings .«max_input_bytes»)
+    && leb (l .«max_nesting_depth») (ceilings .«max_nesting_depth»)
+    && leb (l .«max_total_prototypes») (ceilings .«max_total_prototypes»)
+    && leb (l .«max_instructions_per_proto») (ceilings .«max_instructions_per_proto»)
+    && leb (l .«max_total_instructions») (ceilings .«max_total_instructions»)
+    && leb (l .«max_constants_per_proto») (ceilings .«max_constants_per_proto»)
+    && leb (l .«max_upvalues_per_proto») (ceilings .«max_upvalues_per_proto»)
+    && leb (l .«max_string_bytes») (ceilings .«max_string_bytes»)
+    && leb (l .«max_diagnostics») (ceilings .«max_diagnostics»)

@@ -1,7 +1,7 @@
 // limits.rs: the resource limits under which a chunk is read, and the ceiling of each.
 ghost use mathlib.Core.Path.{_≡_};
 ghost use lib.Dec.{leb};
-ghost use Rattle.format.specs.Pick.{both};
+ghost use mathlib.Core.Bool.{_&&_};
 ghost use Rattle.format.specs.Limits.{ceilings, withinCeilings};
 
 // The limits of a reading, with the names of the Rust.
@@ -40,37 +40,29 @@ impl ResourceLimits {
         ensures { λ r. ⌜ r ≡ withinCeilings self ⌝ }
     {
         let top = ResourceLimits::ceilings();
-        let rest = under(self.max_diagnostics, top.max_diagnostics, true);
-        let rest = under(self.max_string_bytes, top.max_string_bytes, rest);
-        let rest = under(
-            self.max_upvalues_per_proto,
-            top.max_upvalues_per_proto,
-            rest,
-        );
-        let rest = under(
-            self.max_constants_per_proto,
-            top.max_constants_per_proto,
-            rest,
-        );
-        let rest = under(
-            self.max_total_instructions,
-            top.max_total_instructions,
-            rest,
-        );
-        let rest = under(
+        let ok = and_under(true, self.max_input_bytes, top.max_input_bytes);
+        let ok = and_under(ok, self.max_nesting_depth, top.max_nesting_depth);
+        let ok = and_under(ok, self.max_total_prototypes, top.max_total_prototypes);
+        let ok = and_under(
+            ok,
             self.max_instructions_per_proto,
             top.max_instructions_per_proto,
-            rest,
         );
-        let rest = under(self.max_total_prototypes, top.max_total_prototypes, rest);
-        let rest = under(self.max_nesting_depth, top.max_nesting_depth, rest);
-        under(self.max_input_bytes, top.max_input_bytes, rest)
+        let ok = and_under(ok, self.max_total_instructions, top.max_total_instructions);
+        let ok = and_under(
+            ok,
+            self.max_constants_per_proto,
+            top.max_constants_per_proto,
+        );
+        let ok = and_under(ok, self.max_upvalues_per_proto, top.max_upvalues_per_proto);
+        let ok = and_under(ok, self.max_string_bytes, top.max_string_bytes);
+        and_under(ok, self.max_diagnostics, top.max_diagnostics)
     }
 }
 
-// Whether a limit is at most its ceiling, and the rest holds.
-fn under(limit: usize, ceiling: usize, rest: bool) -> bool
-    ensures { λ r. ⌜ r ≡ both (leb limit ceiling) rest ⌝ }
+// Whether `ok` holds and a limit is at most its ceiling.
+fn and_under(ok: bool, limit: usize, ceiling: usize) -> bool
+    ensures { λ r. ⌜ r ≡ ok && leb limit ceiling ⌝ }
 {
-    if limit <= ceiling { rest } else { false }
+    if ok { limit <= ceiling } else { false }
 }

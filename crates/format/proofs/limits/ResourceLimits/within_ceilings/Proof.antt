@@ -8,4 +8,4 @@ within-ceilings-spec =
     tie.close
     (tie.spec
     (λ c κs. search needs) (λ c κs. search needs) (λ c κs. search needs) (λ c κs. search needs) (λ c κs. search needs) (λ c κs. search needs) (λ c κs. search needs) (λ c κs. search needs) (λ c κs. search needs) (λ c κs. search needs)
-    (λ c. rw (c .under9 .ensures, c .before .under8 .ensures, c .before .before .under7 .ensures, c .before .before .before .under6 .ensures, c .before .before .before .before .under5 .ensures, c .before .before .before .before .before .under4 .ensures, c .before .before .before .before .before .before .under3 .ensures, c .before .before .before .before .before .before .before .under2 .ensures, c .before .before .before .before .before .before .before .before .under .ensures, c .before .before .before .before .before .before .before .before .before .ceilings .ensures)))
+    (λ c. rw (c .and-under9 .ensures, c .before .and-under8 .ensures, c .before .before .and-under7 .ensures, c .before .before .before .and-under6 .ensures, c .before .before .before .before .and-under5 .ensures, c .before .before .before .before .before .and-under4 .ensures, c .before .before .before .before .before .before .and-under3 .ensures, c .before .before .before .before .before .before .before .and-under2 .ensures, c .before .before .before .before .before .before .before .before .and-under .ensures, c .before .before .before .before .before .before .before .before .before .ceilings .ensures)))

@@ -1,0 +1,33 @@
+-- From lundump.c (Lua 5.4), close to the text: how Lua's own loader reads a number. A size_t has 64 bits.
+use mathlib.Core.List.{List, [], _∷_}
+use Prim.Native.Nat.{ℕ, _*_, _-_, _/_, _%_, _^_}
+use lib.Bits.{bitAnd, bitOr}
+use lib.Dec.{leb, eqb}
+use Rattle.format.specs.Pick.{pick}
+use Rattle.format.specs.Form.{Bytes}
+
+-- what is loaded and the bytes behind it, or one of the two errors
+pub data Loaded : Type 0 where
+  loaded : ℕ → Bytes → Loaded
+  truncatedChunk : Loaded
+  integerOverflow : Loaded
+
+-- do { b = loadByte(S); if (x >= limit) error(S, "integer overflow"); x = (x << 7) | (b & 0x7f); } while ((b & 0x80) == 0);
+abbrev pub loadUnsignedLoop : ℕ → ℕ → Bytes → Loaded
+loadUnsignedLoop limit x [] = truncatedChunk
+loadUnsignedLoop limit x (b ∷ s) =
+    let next = bitOr (x * 2 ^ 7 % 2 ^ 64) (bitAnd b 0x7f) in
+    let more = loadUnsignedLoop limit next s in
+    pick (leb limit x) integerOverflow (pick (eqb (bitAnd b 0x80) 0) more (loaded next s))
+
+-- size_t x = 0; limit >>= 7; ..
+abbrev pub loadUnsigned : ℕ → Bytes → Loaded
+loadUnsigned limit s = loadUnsignedLoop (limit / 2 ^ 7) 0 s
+
+-- return loadUnsigned(S, ~(size_t)0);
+abbrev pub loadSize : Bytes → Loaded
+loadSize s = loadUnsigned (2 ^ 64 - 1) s
+
+-- return cast_int(loadUnsigned(S, INT_MAX));
+abbrev pub loadInt : Bytes → Loaded
+loadInt s = loadUnsigned (2 ^ 31 - 1) s
