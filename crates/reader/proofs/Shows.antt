@@ -1,0 +1,66 @@
+-- From what a call showed back to what the reader of `format` gave: a refusal, or a value with the rest of the slice from the next cursor on.
+--     .._ok        of an answer `Ok`: the reader accepted, with the value, and left the slice from the cursor on
+--     .._err       of an answer `Err`: the reader refused so
+-- Assumes nothing.
+use mathlib.Core.Path.{_≡_, refl, sym, _∙_, ap}
+use mathlib.Core.List.{List}
+use Prim.Native.Nat.{ℕ}
+use native.Mathlib.Omega.{arith}
+use lib.ListN.{drop}
+use Rattle.format.specs.declared.refusal.Refusal.{Refusal}
+use Rattle.format.specs.Form.{Bytes, Form}
+use Rattle.format.specs.Read.{Read, ok, refused, Reader}
+use Rattle.format.proofs.Exact.{Exact}
+use Rattle.format.proofs.Left.{left}
+use Rattle.reader.specs.declared.cursor.Cursor.{Cursor}
+use Rattle.reader.specs.declared.cursor.CursorResult.the-variants as cursor
+use Rattle.reader.specs.declared.field.U8Result.the-variants as u8
+use Rattle.reader.specs.declared.field.U64Result.the-variants as u64
+use Rattle.reader.specs.Shown.{cursorAt, shownCursor, shownU8, shownU64}
+
+-- what a reader gave, with the rest left open
+pub record Was {A : Type 0} (o : Read A) (x : A) (to : ℕ) : Type 0 where
+  pub rest : Bytes
+  pub is : o ≡ ok x to rest
+
+-- the rest is the slice from the next place on
+pub onward : {A : Type 0} {r : Reader A} {F : Form A} → Exact r F → (s : Bytes) (at : ℕ) {x : A} {to : ℕ} → Was (r at (drop at s)) x to → r at (drop at s) ≡ ok x to (drop to s)
+onward exact s at {x} {to} w = w .is ∙ ap (λ rest. ok x to rest) (left exact s at (w .is))
+
+-- ## Each kind of answer
+pub u64-err : (o : Read ℕ) (q : Refusal) → u64.Err q ≡ shownU64 o → o ≡ refused q
+u64-err (ok v to rest) q e = absurd (let z : _≡_ {A = ℕ} 0 1 = cc in omega arith)
+u64-err (refused p) q e = cc
+
+pub u64-ok : (o : Read ℕ) (v : ℕ) (c : Cursor) → u64.Ok v c ≡ shownU64 o → Was o v (c .at)
+u64-ok (ok w to rest) v c e =
+    let value : v ≡ w = cc in
+    let next : c ≡ cursorAt to = cc in
+    record { rest = rest; is = rw (value, next) }
+u64-ok (refused p) v c e = absurd (let z : _≡_ {A = ℕ} 0 1 = cc in omega arith)
+
+pub u8-err : (o : Read ℕ) (q : Refusal) → u8.Err q ≡ shownU8 o → o ≡ refused q
+u8-err (ok v to rest) q e = absurd (let z : _≡_ {A = ℕ} 0 1 = cc in omega arith)
+u8-err (refused p) q e = cc
+
+pub u8-ok : (o : Read ℕ) (v : ℕ) (c : Cursor) → u8.Ok v c ≡ shownU8 o → Was o v (c .at)
+u8-ok (ok w to rest) v c e =
+    let value : v ≡ w = cc in
+    let next : c ≡ cursorAt to = cc in
+    record { rest = rest; is = rw (value, next) }
+u8-ok (refused p) v c e = absurd (let z : _≡_ {A = ℕ} 0 1 = cc in omega arith)
+
+pub cursor-err : {A : Type 0} (o : Read A) (q : Refusal) → cursor.Err q ≡ shownCursor o → o ≡ refused q
+cursor-err (ok v to rest) q e = absurd (let z : _≡_ {A = ℕ} 0 1 = cc in omega arith)
+cursor-err (refused p) q e = cc
+
+-- of what was passed over only the end is known
+pub record Passed {A : Type 0} (o : Read A) (to : ℕ) : Type 0 where
+  pub value : A
+  pub was : Was o value to
+
+pub cursor-ok : {A : Type 0} (o : Read A) (c : Cursor) → cursor.Ok c ≡ shownCursor o → Passed o (c .at)
+cursor-ok (ok w to rest) c e =
+    let next : c ≡ cursorAt to = cc in
+    record { value = w; was = record { rest = rest; is = rw next } }
+cursor-ok (refused p) c e = absurd (let z : _≡_ {A = ℕ} 0 1 = cc in omega arith)
