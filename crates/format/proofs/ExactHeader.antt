@@ -8,8 +8,8 @@ use lib.Dec.{T, eqb, eqb→eq, eqb-refl}
 use lib.ListN.{length}
 use Rattle.format.specs.declared.refusal.Refusal.{Refusal}
 use Rattle.format.specs.Form.{Bytes, Spelt}
-use Rattle.format.specs.GrammarHeader.{Header}
-use Rattle.format.specs.ReadHeader.{sameBytes, expect, header}
+use Rattle.format.specs.GrammarHeader.{BeforeFormat, BehindFormat, Header}
+use Rattle.format.specs.ReadHeader.{sameBytes, expect, beforeFormat, behindFormat, header}
 use Rattle.format.proofs.Exact.{Exact, exact-give, exact-here, exact-then, exact-place, exact-as, exact-test, exact-run}
 use Rattle.format.proofs.ExactFields.{exact-field}
 
@@ -35,17 +35,17 @@ exact-expect bytes refusal =
     exact-then (exact-run (length bytes)) λ b.
     exact-as (λ _ _ _. (λ g. (g .0, same-eq b bytes (g .1)), λ g. (g .0, rw (g .1) (same-refl bytes)))) (exact-test (sameBytes b bytes) (refusal place))
 
+pub exact-before : Exact beforeFormat BeforeFormat
+exact-before = exact-then (exact-expect _ _) λ _. exact-expect _ _
+
+pub exact-behind : Exact behindFormat BehindFormat
+exact-behind =
+    exact-then (exact-expect _ _) λ _.
+    exact-then (exact-expect _ _) λ _.
+    exact-then (exact-expect _ _) λ _.
+    exact-then (exact-expect _ _) λ _.
+    exact-then (exact-expect _ _) λ _.
+    exact-expect _ _
+
 pub exact-header : Exact header Header
-unfolding header
-exact-header =
-    exact-then (exact-expect _ _) λ _.
-    exact-then (exact-expect _ _) λ _.
-    exact-then exact-here λ place.
-    exact-then (exact-field 1) λ format.
-    exact-then (exact-expect _ _) λ _.
-    exact-then (exact-expect _ _) λ _.
-    exact-then (exact-expect _ _) λ _.
-    exact-then (exact-expect _ _) λ _.
-    exact-then (exact-expect _ _) λ _.
-    exact-then (exact-expect _ _) λ _.
-    exact-give _
+exact-header = exact-then exact-before λ _. exact-then exact-here λ place. exact-then (exact-field 1) λ format. exact-then exact-behind λ _. exact-give _

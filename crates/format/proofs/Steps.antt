@@ -1,6 +1,7 @@
 -- What the readers of runs, fields, numbers and strings give, by what the code's tests say: at a place of a slice s, or behind a size.
 -- Assumes nothing.
 use mathlib.Core.Path.{_≡_, refl, ap, _∙_}
+use mathlib.Core.Bool.{Bool, true, false}
 use mathlib.Core.List.{List, [], _∷_, _++_}
 use mathlib.Core.Logic.{_≢_}
 use mathlib.Core.Option.{Option, none, some}
@@ -8,14 +9,16 @@ use Prim.Native.Nat.{ℕ, zero, suc, _+_, _-_, _%_, _*_, _^_, _≤_, _<_}
 use native.Mathlib.Omega.{arith}
 use native.Mathlib.Numerals.{add-one}
 use native.Mathlib.Nat.{pow-suc, mul-comm, mul-assoc}
-use borrow.Author.Tests.{lt-ltb, le-ltb, le-leb, lt-leb}
+use lib.Dec.{leb}
+use borrow.Author.Tests.{lt-ltb, le-ltb, le-leb, lt-leb, leb-true}
 use lib.ListN.{length, take, drop, getD, length-drop, drop-of-length-le}
 use lib.Seq.{drop-cons, drop-drop, take-add, length-take-le}
 use Rattle.format.specs.declared.refusal.Refusal.the-variants.{VarintOverflow, StringBytes}
 use Rattle.format.specs.Form.{Bytes}
 use Rattle.format.specs.GrammarFields.{little}
-use Rattle.format.specs.Read.{Read, ok, refused, next, short, run}
+use Rattle.format.specs.Read.{Read, ok, refused, next, short, piece, run}
 use Rattle.format.specs.ReadFields.{field, groups, content}
+use Rattle.format.proofs.Exact.{never}
 
 -- ## Runs and fields of n bytes
 module _ (n at : ℕ) (s : Bytes) where
@@ -30,6 +33,14 @@ module _ (n at : ℕ) (s : Bytes) where
 
   pub field-enough : n ≤ length s → field n at s ≡ ok (little (take n s)) (at + n) (drop n s)
   field-enough h = rw (le-leb n (length s) h)
+
+-- what was read is there
+pub run-was : (n at : ℕ) (s : Bytes) {b : Bytes} {to : ℕ} {rest : Bytes} → run n at s ≡ ok b to rest → (n ≤ length s) × (take n s ≡ b)
+run-was n at s {b} {to} {rest} e = go (leb n (length s)) refl e
+  where
+    go : (t : Bool) → leb n (length s) ≡ t → piece t n at s ≡ ok b to rest → (n ≤ length s) × (take n s ≡ b)
+    go true t e = (leb-true n (length s) t, cc)
+    go false t e = absurd (never e)
 
 -- ## A field's value, for any width: the first byte, and 256 times the rest
 pub little-next : (n at : ℕ) (s : Bytes) → at < length s → little (take (suc n) (drop at s)) ≡ getD s at 0 + 256 * little (take n (drop (at + 1) s))

@@ -46,16 +46,25 @@ pub record Headed : Type 0 where
   pub header : declared.Header
   pub warnings : List Warning
 
-abbrev pub Header : Form Headed
-Header = do
+-- what stands before the format byte, and behind it
+abbrev pub BeforeFormat : Form (Unit {0})
+BeforeFormat = do
   Spelt signature
   Spelt (0x54 ∷ [])
-  place ← Here
-  format ← Byte
+
+abbrev pub BehindFormat : Form (Unit {0})
+BehindFormat = do
   Spelt luacData
   Spelt (4 ∷ [])
   Spelt (8 ∷ [])
   Spelt (8 ∷ [])
   Spelt luacInt
   Spelt luacNum
+
+abbrev pub Header : Form Headed
+Header = do
+  BeforeFormat
+  place ← Here
+  format ← Byte
+  BehindFormat
   Is (record { header = headerOf format; warnings = formatWarnings place format })

@@ -24,16 +24,24 @@ expect bytes refusal = do
   b ← run (length bytes)
   test (sameBytes b bytes) (refusal place)
 
-unfoldable pub header : Reader Headed
-header = do
+abbrev pub beforeFormat : Reader (Unit {0})
+beforeFormat = do
   expect signature Signature
   expect (0x54 ∷ []) Version
-  place ← here
-  format ← byte
+
+abbrev pub behindFormat : Reader (Unit {0})
+behindFormat = do
   expect luacData LuacData
   expect (4 ∷ []) InstructionSize
   expect (8 ∷ []) LuaIntegerSize
   expect (8 ∷ []) LuaNumberSize
   expect luacInt LuacInt
   expect luacNum LuacNum
+
+abbrev pub header : Reader Headed
+header = do
+  beforeFormat
+  place ← here
+  format ← byte
+  behindFormat
   give (record { header = headerOf format; warnings = formatWarnings place format })

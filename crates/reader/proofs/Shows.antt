@@ -9,14 +9,15 @@ use native.Mathlib.Omega.{arith}
 use lib.ListN.{drop}
 use Rattle.format.specs.declared.refusal.Refusal.{Refusal}
 use Rattle.format.specs.Form.{Bytes, Form}
-use Rattle.format.specs.Read.{Read, ok, refused, Reader}
+use Rattle.format.specs.Read.{Read, ok, refused, Reader, next, _>>_}
 use Rattle.format.proofs.Exact.{Exact}
 use Rattle.format.proofs.Left.{left}
 use Rattle.reader.specs.declared.cursor.Cursor.{Cursor}
+use Rattle.reader.specs.declared.cursor.CursorResult.{CursorResult}
 use Rattle.reader.specs.declared.cursor.CursorResult.the-variants as cursor
 use Rattle.reader.specs.declared.field.U8Result.the-variants as u8
 use Rattle.reader.specs.declared.field.U64Result.the-variants as u64
-use Rattle.reader.specs.Shown.{cursorAt, shownCursor, shownU8, shownU64}
+use Rattle.reader.specs.Shown.{cursorAt, andThen, shownCursor, shownU8, shownU64}
 
 -- what a reader gave, with the rest left open
 pub record Was {A : Type 0} (o : Read A) (x : A) (to : ℕ) : Type 0 where
@@ -64,3 +65,26 @@ cursor-ok (ok w to rest) c e =
     let next : c ≡ cursorAt to = cc in
     record { value = w; was = record { rest = rest; is = rw next } }
 cursor-ok (refused p) c e = absurd (let z : _≡_ {A = ℕ} 0 1 = cc in omega arith)
+
+-- one reader behind another, of which only the ends are shown
+pub then-shown : {A B : Type 0} {r : Reader A} {F : Form A} → Exact r F → (f : Reader B) (s : Bytes) (at : ℕ)
+    → shownCursor ((r >> f) at (drop at s)) ≡ andThen (shownCursor (r at (drop at s))) (λ to. shownCursor (f to (drop to s)))
+then-shown {r} exact f s at = go (r at (drop at s)) refl
+  where
+    go : (o : Read _) → r at (drop at s) ≡ o → shownCursor (next o (λ _. f)) ≡ andThen (shownCursor o) (λ to. shownCursor (f to (drop to s)))
+    go (ok x to rest) e = rw (left exact s at e)
+    go (refused q) e = refl
+
+-- a chain of calls, each behind the one before: what they show is what the chain of readers gives
+module _ (s : Bytes) (at : ℕ) where
+  pub on : {A B : Type 0} {r : Reader A} {F : Form A} → Exact r F → (f : Reader B) {x y : CursorResult} → x ≡ shownCursor (r at (drop at s))
+      → y ≡ andThen x (λ to. shownCursor (f to (drop to s))) → y ≡ shownCursor ((r >> f) at (drop at s))
+  on exact f e d = d ∙ ap (λ z. andThen z (λ to. shownCursor (f to (drop to s)))) e ∙ sym (then-shown exact f s at)
+
+-- and how the readers are grouped does not matter
+grouped : {A B C : Type 0} (o : Read A) (f : Reader B) (g : Reader C) → next (next o (λ _. f)) (λ _. g) ≡ next o (λ _. f >> g)
+grouped (ok x to rest) f g = refl
+grouped (refused q) f g = refl
+
+pub regroup : {A B C : Type 0} (r : Reader A) (f : Reader B) (g : Reader C) (at : ℕ) (s : Bytes) → ((r >> f) >> g) at s ≡ (r >> (f >> g)) at s
+regroup r f g at s = grouped (r at s) f g

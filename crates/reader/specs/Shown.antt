@@ -26,6 +26,11 @@ abbrev pub shownCursor : {A : Type 0} → Read A → CursorResult
 shownCursor (ok x to rest) = cursor.Ok (cursorAt to)
 shownCursor (refused q) = cursor.Err q
 
+-- what follows a call that showed this: nothing behind a refusal
+abbrev pub andThen : CursorResult → (ℕ → CursorResult) → CursorResult
+andThen (cursor.Ok c) f = f (c .at)
+andThen (cursor.Err q) f = cursor.Err q
+
 abbrev pub shownU8 : Read ℕ → U8Result
 shownU8 (ok v to rest) = u8.Ok v (cursorAt to)
 shownU8 (refused q) = u8.Err q

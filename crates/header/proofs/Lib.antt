@@ -1,0 +1,4 @@
+pub mod Same
+pub mod Expects
+pub mod FixedParts
+pub mod Answers
