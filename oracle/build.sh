@@ -23,7 +23,7 @@ validator=$out/luad-dialect-lua54/validator.rs
 copy=$out/validator_untruncated.rs
 calls=$(grep -c 'truncate_and_dedup_diagnostics(' "$validator" || true)
 [ "$calls" = 1 ] || fail "validator.rs has $calls lines that call truncate_and_dedup_diagnostics, not 1"
-sed '/^ *let diagnostics = truncate_and_dedup_diagnostics(.*);$/d' "$validator" > "$copy"
+sed '/^ *let .* = truncate_and_dedup_diagnostics(.*);$/d' "$validator" > "$copy"
 left=$(grep -c 'truncate_and_dedup_diagnostics(' "$copy" || true)
 [ "$left" = 0 ] || fail "the call of truncate_and_dedup_diagnostics is not a line by itself"
 
