@@ -1,6 +1,7 @@
 -- What a grammar is made of. A form of A relates a place, the bytes that begin there, and the value in A that they spell.
 -- There is no reader in this file: two forms one after the other are a concatenation of their bytes. `do` writes it so.
 use mathlib.Core.Path.{_≡_}
+use mathlib.Core.Bool.{Bool, true, false}
 use mathlib.Core.List.{List, [], _∷_, _++_}
 use Prim.Native.Nat.{ℕ, zero, suc, _+_, _<_}
 use lib.ListN.{length}
@@ -43,6 +44,15 @@ Here at bytes y = (bytes ≡ []) × (at ≡ y)
 -- no bytes, and P holds
 abbrev pub Given : Type 0 → Form (Unit {0})
 Given P at bytes u = (bytes ≡ []) × P
+
+-- no bytes at all are of this form
+abbrev pub Nothing : {A : Type 0} → Form A
+Nothing at bytes y = ⊥
+
+-- F where the test holds, else G
+abbrev pub When : {A : Type 0} → Bool → Form A → Form A → Form A
+When true F G = F
+When false F G = G
 
 -- any n bytes, which are the value
 abbrev pub Run : ℕ → Form Bytes

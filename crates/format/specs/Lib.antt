@@ -4,9 +4,13 @@ pub mod Refusals
 pub mod Form
 pub mod GrammarFields
 pub mod GrammarHeader
+pub mod Reading
+pub mod GrammarChunk
 pub mod Read
 pub mod ReadFields
 pub mod ReadHeader
+pub mod ReadChunk
 pub mod Shortest
+pub mod Copy
 pub mod Lundump
 pub mod Ldump
