@@ -1,0 +1,5 @@
+pub mod Tests
+pub mod Variants
+pub mod Opcodes
+pub mod Signs
+pub mod Words

@@ -1,0 +1,32 @@
+-- The table of the opcodes, read both ways. Each law is a test that antt computes.
+--     tag-number       an opcode's number is the position of its variant
+--     number-lt        it is below 83
+--     at-number        the table has at an opcode's number that opcode
+--     number-at        and at n the opcode whose number is n
+-- Assumes nothing.
+use mathlib.Core.Path.{_≡_, refl, sym, _∙_}
+use mathlib.Core.Bool.{Bool}
+use Prim.Native.Nat.{ℕ, _<_}
+use lib.Dec.{T, eqb, eqb→eq, ltb, lit<}
+use lib.ListN.{getD}
+use borrow.Author.Tests.{ltb-true}
+use denote.Enum.Declared.{tagOf}
+use Rattle.opcodes.specs.declared.opcode.Opcode54.{Opcode54}
+use Rattle.opcodes.specs.declared.opcode.Opcode54.the-variants.{Move}
+use Rattle.opcodes.specs.Table.{opcodes, numberOf}
+use Rattle.opcodes.proofs.opcode.Opcode54.{enum, the-type}
+use Rattle.opcodes.proofs.Tests.{at}
+use Rattle.opcodes.proofs.Variants.{of-every, same}
+
+pub tag-number : (o : Opcode54) → tagOf the-type o ≡ numberOf o
+tag-number o = eqb→eq _ _ (of-every enum (λ o. eqb (tagOf the-type o) (numberOf o)) tt o)
+
+pub number-lt : (o : Opcode54) → numberOf o < 83
+number-lt o = lit< (of-every enum (λ o. ltb (numberOf o) 83) tt o)
+
+pub at-number : (o : Opcode54) → getD opcodes (numberOf o) Move ≡ o
+at-number o =
+    same enum tt _ _ (of-every enum (λ o. eqb (tagOf the-type (getD opcodes (numberOf o) Move)) (tagOf the-type o)) tt o)
+
+pub number-at : (n : ℕ) → n < 83 → numberOf (getD opcodes n Move) ≡ n
+number-at n h = eqb→eq _ _ (at 83 (λ n. eqb (numberOf (getD opcodes n Move)) n) tt n h)

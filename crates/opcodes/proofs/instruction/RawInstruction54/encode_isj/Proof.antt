@@ -1,0 +1,24 @@
+-- `RawInstruction54::encode_isj` meets its contract: what `unbias` answers picks the case. Assumes nothing.
+use mathlib.Core.Path.{_∙_}
+use Prim.Native.Nat.{_^_}
+use borrow.Author.Needs.{needs}
+use Rattle.opcodes.specs.Lopcodes.{OFFSET-sJ, SIZE-sJ}
+use Rattle.opcodes.specs.Word.{encodedIAx}
+use Rattle.opcodes.proofs.Signs.{signed-field}
+use Rattle.opcodes.proofs.instruction.RawInstruction54.encode_isj.Statement.{statement}
+use Rattle.opcodes.proofs.instruction.RawInstruction54.encode_isj.Tie as tie
+
+pub encode-isj-spec : {M : Type 1} → statement M
+encode-isj-spec =
+    tie.close
+    (tie.spec
+    (λ c κs. search needs)
+    (λ c. search needs)
+    (λ c. search needs)
+    (λ c.
+    let u = c .before .before in
+    signed-field (u .before .fits .sj) OFFSET-sJ (2 ^ SIZE-sJ) _ (u .unbias .ensures) (c .enum-told .given .1))
+    (λ c κs. search needs)
+    (λ c.
+    let u = c .before .before .before .before in
+    c .encode-iax .ensures ∙ signed-field (u .before .fits .sj) OFFSET-sJ (2 ^ SIZE-sJ) _ (u .unbias .ensures) (c .before .before .ax .given .1)))

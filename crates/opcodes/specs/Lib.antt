@@ -1,0 +1,3 @@
+pub mod Lopcodes
+pub mod Table
+pub mod Word
