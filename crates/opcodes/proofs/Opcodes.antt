@@ -3,17 +3,17 @@
 --     number-lt        it is below 83
 --     at-number        the table has at an opcode's number that opcode
 --     number-at        and at n the opcode whose number is n
+--     mode-number      an opcode's mode is the one that lopcodes.c has at its number
 -- Assumes nothing.
-use mathlib.Core.Path.{_≡_, refl, sym, _∙_}
-use mathlib.Core.Bool.{Bool}
+use mathlib.Core.Path.{_≡_}
 use Prim.Native.Nat.{ℕ, _<_}
-use lib.Dec.{T, eqb, eqb→eq, ltb, lit<}
+use lib.Dec.{eqb, eqb→eq, ltb, lit<}
 use lib.ListN.{getD}
-use borrow.Author.Tests.{ltb-true}
 use denote.Enum.Declared.{tagOf}
 use Rattle.opcodes.specs.declared.opcode.Opcode54.{Opcode54}
 use Rattle.opcodes.specs.declared.opcode.Opcode54.the-variants.{Move}
-use Rattle.opcodes.specs.Table.{opcodes, numberOf}
+use Rattle.opcodes.specs.Lopcodes.{iABC, luaP-opmodes}
+use Rattle.opcodes.specs.Table.{opcodes, numberOf, modeNumber, modeOf}
 use Rattle.opcodes.proofs.opcode.Opcode54.{enum, the-type}
 use Rattle.opcodes.proofs.Tests.{at}
 use Rattle.opcodes.proofs.Variants.{of-every, same}
@@ -30,3 +30,6 @@ at-number o =
 
 pub number-at : (n : ℕ) → n < 83 → numberOf (getD opcodes n Move) ≡ n
 number-at n h = eqb→eq _ _ (at 83 (λ n. eqb (numberOf (getD opcodes n Move)) n) tt n h)
+
+pub mode-number : (o : Opcode54) → modeNumber (modeOf o) ≡ getD luaP-opmodes (numberOf o) iABC
+mode-number o = eqb→eq _ _ (of-every enum (λ o. eqb (modeNumber (modeOf o)) (getD luaP-opmodes (numberOf o) iABC)) tt o)

@@ -1,12 +1,13 @@
 -- The table of the opcodes.
 --     opcodes         the 83 opcodes, by number
 --     opcodeAt n      the opcode of number n, if there is one
---     numberOf, modeOf        an opcode's number and mode
+--     numberOf        an opcode's number
+--     modes, modeNumber       the five modes, and a mode's number
+--     modeOf          an opcode's mode
 use Prim.Native.Nat.{ℕ}
-use mathlib.Core.Bool.{Bool, true, false}
 use mathlib.Core.List.{List, [], _∷_}
 use lib.Dec.{ltb}
-use lib.ListN.{length, getD}
+use lib.ListN.{getD}
 use Rattle.format.specs.Pick.{pick}
 use Rattle.opcodes.specs.declared.opcode.Opcode54.{Opcode54}
 use Rattle.opcodes.specs.declared.opcode.Opcode54.the-variants as op
@@ -14,6 +15,7 @@ use Rattle.opcodes.specs.declared.opcode.OptionOpcode54.{OptionOpcode54}
 use Rattle.opcodes.specs.declared.opcode.OptionOpcode54.the-variants.{Some, None}
 use Rattle.opcodes.specs.declared.opcode.OpMode54.{OpMode54}
 use Rattle.opcodes.specs.declared.opcode.OpMode54.the-variants.{IABC, IABx, IAsBx, IAx, IsJ}
+use Rattle.opcodes.specs.Lopcodes.{iABC, iABx, iAsBx, iAx, isJ, luaP-opmodes}
 
 abbrev pub opcodes : List Opcode54
 opcodes =
@@ -115,15 +117,17 @@ numberOf op.Vararg = 80
 numberOf op.Varargprep = 81
 numberOf op.Extraarg = 82
 
--- by number
+-- lopcodes.h, OpMode: the modes, by number
 abbrev pub modes : List OpMode54
-modes =
-    IABC ∷ IAsBx ∷ IAsBx ∷ IABx ∷ IABx ∷ IABC ∷ IABC ∷ IABC ∷ IABC ∷ IABC ∷ IABC ∷ IABC ∷ IABC ∷ IABC ∷ IABC ∷ IABC ∷
-    IABC ∷ IABC ∷ IABC ∷ IABC ∷ IABC ∷ IABC ∷ IABC ∷ IABC ∷ IABC ∷ IABC ∷ IABC ∷ IABC ∷ IABC ∷ IABC ∷ IABC ∷ IABC ∷
-    IABC ∷ IABC ∷ IABC ∷ IABC ∷ IABC ∷ IABC ∷ IABC ∷ IABC ∷ IABC ∷ IABC ∷ IABC ∷ IABC ∷ IABC ∷ IABC ∷ IABC ∷ IABC ∷
-    IABC ∷ IABC ∷ IABC ∷ IABC ∷ IABC ∷ IABC ∷ IABC ∷ IABC ∷ IsJ ∷ IABC ∷ IABC ∷ IABC ∷ IABC ∷ IABC ∷ IABC ∷ IABC ∷
-    IABC ∷ IABC ∷ IABC ∷ IABC ∷ IABC ∷ IABC ∷ IABC ∷ IABC ∷ IABC ∷ IABx ∷ IABx ∷ IABx ∷ IABC ∷ IABx ∷ IABC ∷ IABx ∷
-    IABC ∷ IABC ∷ IAx ∷ []
+modes = IABC ∷ IABx ∷ IAsBx ∷ IAx ∷ IsJ ∷ []
 
+abbrev pub modeNumber : OpMode54 → ℕ
+modeNumber IABC = iABC
+modeNumber IABx = iABx
+modeNumber IAsBx = iAsBx
+modeNumber IAx = iAx
+modeNumber IsJ = isJ
+
+-- the mode that lopcodes.c has at the opcode's number
 abbrev pub modeOf : Opcode54 → OpMode54
-modeOf o = getD modes (numberOf o) IABC
+modeOf o = getD modes (getD luaP-opmodes (numberOf o) iABC) IABC

@@ -19,7 +19,8 @@ use Rattle.opcodes.specs.declared.instruction.Encoded.{Encoded}
 use Rattle.opcodes.specs.declared.instruction.Encoded.the-variants.{Word, Refused}
 use Rattle.opcodes.specs.declared.instruction.Unbiased.{Unbiased}
 use Rattle.opcodes.specs.declared.instruction.Unbiased.the-variants.{In, Out}
-use Rattle.opcodes.specs.Lopcodes.{SIZE-OP, SIZE-A, SIZE-B, SIZE-C, SIZE-Bx, SIZE-Ax, SIZE-sJ, POS-OP, POS-A, POS-k, POS-B, POS-C, POS-Bx, POS-Ax, POS-sJ, OFFSET-sC, OFFSET-sBx, OFFSET-sJ}
+use Rattle.opcodes.specs.Lopcodes.{SIZE-OP, SIZE-A, SIZE-B, SIZE-C, SIZE-Bx, SIZE-Ax, SIZE-sJ}
+use Rattle.opcodes.specs.Lopcodes.{POS-OP, POS-A, POS-k, POS-B, POS-C, POS-Bx, POS-Ax, POS-sJ, OFFSET-sC, OFFSET-sBx, OFFSET-sJ}
 use Rattle.opcodes.specs.Table.{opcodeAt, numberOf, modeOf}
 
 abbrev pub bits : ℕ → ℕ → ℕ → ℕ

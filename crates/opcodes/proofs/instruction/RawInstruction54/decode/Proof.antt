@@ -1,5 +1,5 @@
 -- `RawInstruction54::decode` meets its contract, field by field: a mask leaves a field's bits (`Signs.antt` for the signed ones). Assumes nothing.
-use mathlib.Core.Path.{_≡_, ap, sym, _∙_}
+use mathlib.Core.Path.{ap, sym, _∙_}
 use Prim.Native.Nat.{_/_, _%_, _^_}
 use native.Mathlib.Nat.{div-one}
 use lib.Bits.{and-mask}

@@ -1,5 +1,5 @@
 -- `RawInstruction54::encode` meets its contract: the opcode's mode picks the function that makes the word. Assumes nothing.
-use mathlib.Core.Path.{_≡_, ap, sym, _∙_}
+use mathlib.Core.Path.{ap, sym, _∙_}
 use mir.Syntax.{w32}
 use mir.Val.{SFits}
 use mir.Facts.{toZ-ofZ}

@@ -3,7 +3,6 @@ use mathlib.Core.Path.{_∙_}
 use Prim.Native.Nat.{_^_}
 use borrow.Author.Needs.{needs}
 use Rattle.opcodes.specs.Lopcodes.{OFFSET-sBx, SIZE-Bx}
-use Rattle.opcodes.specs.Word.{encodedIABx}
 use Rattle.opcodes.proofs.Signs.{signed-field}
 use Rattle.opcodes.proofs.instruction.RawInstruction54.encode_iasbx.Statement.{statement}
 use Rattle.opcodes.proofs.instruction.RawInstruction54.encode_iasbx.Tie as tie

@@ -3,7 +3,6 @@ use mathlib.Core.Path.{_∙_}
 use Prim.Native.Nat.{_^_}
 use borrow.Author.Needs.{needs}
 use Rattle.opcodes.specs.Lopcodes.{OFFSET-sJ, SIZE-sJ}
-use Rattle.opcodes.specs.Word.{encodedIAx}
 use Rattle.opcodes.proofs.Signs.{signed-field}
 use Rattle.opcodes.proofs.instruction.RawInstruction54.encode_isj.Statement.{statement}
 use Rattle.opcodes.proofs.instruction.RawInstruction54.encode_isj.Tie as tie
