@@ -119,4 +119,4 @@ module _ (o : Opcode54) where
       ∙ ap (λ v. CREATE-sJ (numberOf o) v 0) (sym (ap cast-uint (u .1) ∙ mod-eq-of-lt (omega arith)))
 
 pub words : (r : RawInstruction54) → Bytes r → (o : Opcode54) (w : ℕ) → r .opcode ≡ Some o → encoded r ≡ Word w → w ≡ created (modeOf o) (numberOf o) r
-words r h o w f e = by-mode o r h (modeOf o) (chosen r f refl refl ∙ e)
+words r h o w f e = by-mode o r h (modeOf o) (chosen r f refl refl refl ∙ e)

@@ -82,4 +82,4 @@ by-mode IAx o r = of-word (ltb (r .ax) (2 ^ 25)) _
 by-mode IsJ o r = handed (r .sj +ℤ pos 16777215) (2 ^ 25) (encodedIAx o) (λ n. of-word (ltb n (2 ^ 25)) _) ∙ signed 16777214 (r .sj)
 
 pub ranges : (r : RawInstruction54) (o : Opcode54) → r .opcode ≡ Some o → isWord (encoded r) ≡ inRange (modeOf o) r
-ranges r o f = ap isWord (sym (chosen r f refl refl)) ∙ by-mode (modeOf o) o r
+ranges r o f = ap isWord (sym (chosen r f refl refl refl)) ∙ by-mode (modeOf o) o r

@@ -85,7 +85,7 @@ module _ (w : ℕ) (fits : w < 2 ^ 32) where
   named h =
       let under : num < 83 = omega arith in
       let o = getD opcodes num Move in
-      sym (chosen (decoded w) (ap (λ t. pick t (Some o) None) (lt-ltb num 83 under)) refl refl)
+      sym (chosen (decoded w) (ap (λ t. pick t (Some o) None) (lt-ltb num 83 under)) refl refl refl)
       ∙ back o (number-at num under) (modeOf o)
 
   unnamed : encoded (decoded w) ≡ Word w → num ≤ 82

@@ -16,6 +16,7 @@ use Rattle.opcodes.specs.declared.opcode.Opcode54.{Opcode54}
 use Rattle.opcodes.specs.declared.opcode.OptionOpcode54.the-variants.{Some}
 use Rattle.opcodes.specs.declared.opcode.OpMode54.{OpMode54}
 use Rattle.opcodes.specs.declared.instruction.RawInstruction54.{RawInstruction54}
+use Rattle.opcodes.specs.declared.instruction.Encoded.{Encoded}
 use Rattle.opcodes.specs.Table.{modeOf}
 use Rattle.opcodes.specs.Word.{at, bits, byMode, byOpcode, encoded}
 
@@ -53,6 +54,7 @@ module _ (o : ℕ) (ho : o < 2 ^ SIZE-OP) where
 pub low-bits : (p n w : ℕ) → w % 2 ^ p + at p (bits p n w) ≡ w % 2 ^ (n + p)
 low-bits p n w = add-comm (w % 2 ^ p) (at p (bits p n w)) ∙ sym (mod-pow-add w n p)
 
-pub chosen : (r : RawInstruction54) {o : Opcode54} {m m′ : OpMode54} → r .opcode ≡ Some o → m ≡ modeOf o → m ≡ m′ → byMode m′ o r ≡ encoded r
+pub chosen : (r : RawInstruction54) {o : Opcode54} {m m′ : OpMode54} {u : Encoded}
+    → r .opcode ≡ Some o → m ≡ modeOf o → m ≡ m′ → u ≡ byMode m′ o r → u ≡ encoded r
 unfolding encoded
-chosen r {o} f e k = ap (λ x. byMode x o r) (sym k ∙ e) ∙ ap (λ x. byOpcode x r) (sym f)
+chosen r {o} f e k u = u ∙ ap (λ x. byMode x o r) (sym k ∙ e) ∙ ap (λ x. byOpcode x r) (sym f)

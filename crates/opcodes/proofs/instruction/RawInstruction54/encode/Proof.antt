@@ -19,6 +19,46 @@ refused : tie.Need-returns
 unfolding encoded
 refused c = ap (λ x. byOpcode x (c .before .before .args .self)) (sym (c .enum-told .given .1))
 
+abc : tie.Need-returns-2
+abc c =
+    let m = c .before .before .before in
+    let o = m .before .before in
+    let s = o .before .before in
+    chosen (s .args .self) (o .opcode .given .1) (m .mode .ensures) (c .before .enum-told2 .given .1)
+    (c .encode-iabc .ensures)
+
+abx : tie.Need-returns-3
+abx c =
+    let m = c .before .before .before in
+    let o = m .before .before in
+    let s = o .before .before in
+    chosen (s .args .self) (o .opcode .given .1) (m .mode .ensures) (c .before .enum-told3 .given .1)
+    (c .encode-iabx .ensures)
+
+asbx : tie.Need-returns-4
+asbx c =
+    let m = c .before .before .before .before in
+    let o = m .before .before in
+    let s = o .before .before in
+    chosen (s .args .self) (o .opcode .given .1) (m .mode .ensures) (c .before .before .enum-told4 .given .1)
+    (c .encode-iasbx .ensures ∙ ap (encodedIAsBx (o .opcode .given .0 .0) (s .args .self .a)) (toZ-ofZ {w = w32} (sbx-fits s)))
+
+ax : tie.Need-returns-5
+ax c =
+    let m = c .before .before .before in
+    let o = m .before .before in
+    let s = o .before .before in
+    chosen (s .args .self) (o .opcode .given .1) (m .mode .ensures) (c .before .enum-told5 .given .1)
+    (c .encode-iax .ensures)
+
+sj : tie.Need-returns-6
+sj c =
+    let m = c .before .before .before .before in
+    let o = m .before .before in
+    let s = o .before .before in
+    chosen (s .args .self) (o .opcode .given .1) (m .mode .ensures) (c .before .before .enum-told6 .given .1)
+    (c .encode-isj .ensures ∙ ap (encodedIsJ (o .opcode .given .0 .0)) (toZ-ofZ {w = w32} (sj-fits s)))
+
 pub encode-spec : {M : Type 1} → statement M
 encode-spec =
     tie.close
@@ -28,29 +68,4 @@ encode-spec =
     (λ c κs. search needs)
     (λ c. search needs) (λ c κs. search needs) (λ c. search needs) (λ c κs. search needs) (λ c. search needs)
     (λ c κs. search needs) (λ c. search needs) (λ c κs. search needs) (λ c. search needs) (λ c κs. search needs)
-    (λ c.
-    let m = c .before .before .before in
-    let o = m .before .before in
-    c .encode-iabc .ensures ∙ chosen (o .before .before .args .self) (o .opcode .given .1) (m .mode .ensures) (c .before .enum-told2 .given .1))
-    (λ c.
-    let m = c .before .before .before in
-    let o = m .before .before in
-    c .encode-iabx .ensures ∙ chosen (o .before .before .args .self) (o .opcode .given .1) (m .mode .ensures) (c .before .enum-told3 .given .1))
-    (λ c.
-    let m = c .before .before .before .before in
-    let o = m .before .before in
-    let s = o .before .before in
-    c .encode-iasbx .ensures
-    ∙ ap (λ z. encodedIAsBx (o .opcode .given .0 .0) (s .args .self .a) z) (toZ-ofZ {w = w32} (sbx-fits s))
-    ∙ chosen (s .args .self) (o .opcode .given .1) (m .mode .ensures) (c .before .before .enum-told4 .given .1))
-    (λ c.
-    let m = c .before .before .before in
-    let o = m .before .before in
-    c .encode-iax .ensures ∙ chosen (o .before .before .args .self) (o .opcode .given .1) (m .mode .ensures) (c .before .enum-told5 .given .1))
-    (λ c.
-    let m = c .before .before .before .before in
-    let o = m .before .before in
-    let s = o .before .before in
-    c .encode-isj .ensures
-    ∙ ap (λ z. encodedIsJ (o .opcode .given .0 .0) z) (toZ-ofZ {w = w32} (sj-fits s))
-    ∙ chosen (s .args .self) (o .opcode .given .1) (m .mode .ensures) (c .before .before .enum-told6 .given .1)))
+    abc abx asbx ax sj)

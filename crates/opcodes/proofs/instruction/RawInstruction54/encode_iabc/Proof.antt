@@ -9,14 +9,12 @@ use Rattle.opcodes.proofs.Words.{abc}
 use Rattle.opcodes.proofs.instruction.RawInstruction54.encode_iabc.Statement.{statement}
 use Rattle.opcodes.proofs.instruction.RawInstruction54.encode_iabc.Tie as tie
 
-pub encode-iabc-spec : {M : Type 1} → statement M
-encode-iabc-spec =
-    tie.close
-    (tie.spec
-    (λ c κs. search needs)
-    (λ c. search needs)
-    (λ c.
+word : tie.Need-returns
+word c =
     let s = c .before .before in
     rw (c .before .number .ensures, lt-ltb _ _ (c .if1 .taken))
-    (ap Word (abc _ (omega (arith, number-lt (s .args .opcode))) _ (omega arith) _ _ _ (c .if1 .taken) (omega arith) (omega arith))))
-    (λ c. simp (le-ltb _ _ (c .if1 .left))))
+    (ap Word (abc _ (omega (arith, number-lt (s .args .opcode))) _ (omega arith) _ _ _ (c .if1 .taken) (omega arith) (omega arith)))
+
+pub encode-iabc-spec : {M : Type 1} → statement M
+encode-iabc-spec =
+    tie.close (tie.spec (λ c κs. search needs) (λ c. search needs) word (λ c. simp (le-ltb _ _ (c .if1 .left))))

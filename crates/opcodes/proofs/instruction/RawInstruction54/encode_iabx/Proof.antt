@@ -9,14 +9,12 @@ use Rattle.opcodes.proofs.Words.{abx}
 use Rattle.opcodes.proofs.instruction.RawInstruction54.encode_iabx.Statement.{statement}
 use Rattle.opcodes.proofs.instruction.RawInstruction54.encode_iabx.Tie as tie
 
-pub encode-iabx-spec : {M : Type 1} → statement M
-encode-iabx-spec =
-    tie.close
-    (tie.spec
-    (λ c κs. search needs)
-    (λ c. search needs)
-    (λ c.
+word : tie.Need-returns
+word c =
     let s = c .before .before in
     rw (c .before .number .ensures, lt-ltb _ _ (c .if1 .taken))
-    (ap Word (abx _ (omega (arith, number-lt (s .args .opcode))) _ (omega arith) _ (c .if1 .taken))))
-    (λ c. simp (le-ltb _ _ (c .if1 .left))))
+    (ap Word (abx _ (omega (arith, number-lt (s .args .opcode))) _ (omega arith) _ (c .if1 .taken)))
+
+pub encode-iabx-spec : {M : Type 1} → statement M
+encode-iabx-spec =
+    tie.close (tie.spec (λ c κs. search needs) (λ c. search needs) word (λ c. simp (le-ltb _ _ (c .if1 .left))))
