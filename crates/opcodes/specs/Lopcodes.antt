@@ -1,5 +1,6 @@
 -- lopcodes.h and lopcodes.c of Lua 5.4.4: the sizes and positions of an instruction's fields, the macros that read and make a word, and each opcode's mode.
 -- A definition has its macro's name, with `-` for `_`, and its macro's text. An Instruction is an unsigned number of 32 bits.
+-- Left out are the macros that change a word in place (SET_OPCODE, SETARG_*), and the columns of luaP_opmodes but `mode`.
 use Prim.Native.Nat.{ℕ, _+_, _-_, _*_, _/_, _%_, _^_}
 use mathlib.Core.List.{List, [], _∷_}
 use lib.Bits.{bitAnd, bitOr}
@@ -172,10 +173,14 @@ CREATE-Ax o a = (o << POS-OP) ∣ (a << POS-Ax)
 abbrev pub CREATE-sJ : ℕ → ℕ → ℕ → ℕ
 CREATE-sJ o j k = (o << POS-OP) ∣ (j << POS-sJ) ∣ (k << POS-k)
 
--- C's conversion of an int to an unsigned number (`cast_uint`)
+-- llimits.h, cast_uint: an int, as an unsigned number of 32 bits
 abbrev pub cast-uint : ℤ → ℕ
 cast-uint (pos n) = n % 2 ^ 32
 cast-uint (negsuc n) = 2 ^ 32 - 1 - n % 2 ^ 32
+
+-- ---- NUM_OPCODES: the number of OP_EXTRAARG, and 1
+abbrev pub NUM-OPCODES : ℕ
+NUM-OPCODES = 82 + 1
 
 -- ---- luaP_opmodes: the column `mode`, in the order of the opcodes
 abbrev pub luaP-opmodes : List ℕ

@@ -1,4 +1,4 @@
--- The table of the opcodes.
+-- The table of the opcodes (lopcodes.h, OpCode, with the names of the Rust).
 --     opcodes         the 83 opcodes, by number
 --     opcodeAt n      the opcode of number n, if there is one
 --     numberOf        an opcode's number
@@ -15,7 +15,7 @@ use Rattle.opcodes.specs.declared.opcode.OptionOpcode54.{OptionOpcode54}
 use Rattle.opcodes.specs.declared.opcode.OptionOpcode54.the-variants.{Some, None}
 use Rattle.opcodes.specs.declared.opcode.OpMode54.{OpMode54}
 use Rattle.opcodes.specs.declared.opcode.OpMode54.the-variants.{IABC, IABx, IAsBx, IAx, IsJ}
-use Rattle.opcodes.specs.Lopcodes.{iABC, iABx, iAsBx, iAx, isJ, luaP-opmodes}
+use Rattle.opcodes.specs.Lopcodes.{iABC, iABx, iAsBx, iAx, isJ, NUM-OPCODES, luaP-opmodes}
 
 abbrev pub opcodes : List Opcode54
 opcodes =
@@ -30,7 +30,7 @@ opcodes =
     op.Closure ∷ op.Vararg ∷ op.Varargprep ∷ op.Extraarg ∷ []
 
 abbrev pub opcodeAt : ℕ → OptionOpcode54
-opcodeAt n = pick (ltb n 83) (Some (getD opcodes n op.Move)) None
+opcodeAt n = pick (ltb n NUM-OPCODES) (Some (getD opcodes n op.Move)) None
 
 abbrev pub numberOf : Opcode54 → ℕ
 numberOf op.Move = 0

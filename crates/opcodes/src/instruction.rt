@@ -23,7 +23,7 @@ pub struct RawInstruction54 {
     pub sj: i32,
 }
 
-// A word, or why there is none.
+// A word, or the refusal: NoOpcode, 28, before FieldRange, 27.
 pub enum Encoded {
     Word(u32),
     Refused(Refusal),
@@ -39,8 +39,8 @@ impl RawInstruction54 {
 
     pub const OFFSET_SJ: i32 = (1 << 24) - 1;
 
-    // The fields of a word. Not so: B read where C stands, sBx less 65,536.
-    pub fn decode(word: u32) -> RawInstruction54
+    // The fields of a word. Ruled out: B read where C stands, sBx with 65,536 taken off.
+    pub fn decode(word: u32) -> Self
         ensures { λ r. ⌜ r ≡ decoded word ⌝ }
     {
         let opcode_num = (word & 0x7F) as u8;
@@ -55,23 +55,23 @@ impl RawInstruction54 {
         let sbx = (bx as i32) - Self::OFFSET_SBX;
         let ax = (word >> 7) & 0x1FFFFFF;
         let sj = (ax as i32) - Self::OFFSET_SJ;
-        RawInstruction54 {
-            opcode_num: opcode_num,
-            opcode: opcode,
-            a: a,
-            k: k,
-            b: b,
-            sb: sb,
-            c: c,
-            sc: sc,
-            bx: bx,
-            sbx: sbx,
-            ax: ax,
-            sj: sj,
+        Self {
+            opcode_num,
+            opcode,
+            a,
+            k,
+            b,
+            sb,
+            c,
+            sc,
+            bx,
+            sbx,
+            ax,
+            sj,
         }
     }
 
-    // The word of mode iABC. Not so: a word where k is 2, B and C exchanged.
+    // The word of mode iABC. Ruled out: a word where k is 2; B and C exchanged.
     pub fn encode_iabc(opcode: Opcode54, a: u8, b: u8, c: u8, k: u8) -> Encoded
         ensures { λ r. ⌜ r ≡ encodedIABC opcode a b c k ⌝ }
     {
@@ -88,7 +88,7 @@ impl RawInstruction54 {
         Encoded::Refused(Refusal::FieldRange)
     }
 
-    // The word of mode iABx. Not so: a word where Bx is 131,072, or Bx cut to 17 bits.
+    // The word of mode iABx. Ruled out: a word where Bx is 131,072; Bx from bit 16 on.
     pub fn encode_iabx(opcode: Opcode54, a: u8, bx: u32) -> Encoded
         ensures { λ r. ⌜ r ≡ encodedIABx opcode a bx ⌝ }
     {
@@ -99,7 +99,7 @@ impl RawInstruction54 {
         Encoded::Refused(Refusal::FieldRange)
     }
 
-    // The word of mode iAsBx. Not so: a refusal where sBx is 65,536, a word where it is -65,536.
+    // The word of mode iAsBx. Ruled out: a refusal where sBx is 65,536; a word where it is -65,536.
     pub fn encode_iasbx(opcode: Opcode54, a: u8, sbx: i32) -> Encoded
         ensures { λ r. ⌜ r ≡ encodedIAsBx opcode a sbx ⌝ }
     {
@@ -109,7 +109,7 @@ impl RawInstruction54 {
         Self::encode_iabx(opcode, a, bx)
     }
 
-    // The word of mode iAx. Not so: a word where Ax is 33,554,432, or A in the place of Ax's low bits.
+    // The word of mode iAx. Ruled out: a word where Ax is 33,554,432; Ax from bit 15 on.
     pub fn encode_iax(opcode: Opcode54, ax: u32) -> Encoded
         ensures { λ r. ⌜ r ≡ encodedIAx opcode ax ⌝ }
     {
@@ -120,7 +120,7 @@ impl RawInstruction54 {
         Encoded::Refused(Refusal::FieldRange)
     }
 
-    // The word of mode isJ. Not so: a refusal where sJ is 16,777,216, a word where it is -16,777,216.
+    // The word of mode isJ. Ruled out: a refusal where sJ is 16,777,216; a word where it is -16,777,216.
     pub fn encode_isj(opcode: Opcode54, sj: i32) -> Encoded
         ensures { λ r. ⌜ r ≡ encodedIsJ opcode sj ⌝ }
     {
@@ -130,7 +130,8 @@ impl RawInstruction54 {
         Self::encode_iax(opcode, ax)
     }
 
-    // The word of the opcode and of the fields that its mode uses. Not so: field out of range before no opcode, a refusal for a field that the mode does not use.
+    // The word of the opcode and of the fields that its mode uses. Ruled out: 27 where there is no opcode; a refusal for a field that the mode
+    // does not use.
     pub fn encode(self) -> Encoded
         ensures { λ r. ⌜ r ≡ encoded self ⌝ }
     {

@@ -192,7 +192,7 @@ const OPCODES: [Opcode54; 83] = [
 ];
 
 impl Opcode54 {
-    // The opcode of a number, if there is one. Not so: an opcode for 83, MOVE for every number.
+    // The opcode of a number, if there is one. Ruled out: an opcode for 83; MOVE for every number.
     pub fn from_u8(op: u8) -> OptionOpcode54
         ensures { λ r. ⌜ r ≡ opcodeAt op ⌝ }
     {
@@ -203,7 +203,7 @@ impl Opcode54 {
         OptionOpcode54::None
     }
 
-    // The opcode's number. Not so: one too many, 0 for every opcode.
+    // The opcode's number. Ruled out: one too many; 0 for every opcode.
     pub fn number(self) -> u8
         ensures { λ r. ⌜ r ≡ numberOf self ⌝ }
     {
@@ -294,7 +294,7 @@ impl Opcode54 {
         }
     }
 
-    // The opcode's mode. Not so: LOADI with an unsigned Bx, FORLOOP with a signed one.
+    // The opcode's mode. Ruled out: LOADI with an unsigned Bx; FORLOOP with a signed one.
     pub fn mode(self) -> OpMode54
         ensures { λ r. ⌜ r ≡ modeOf self ⌝ }
     {
