@@ -1,6 +1,7 @@
 pub mod Exact
 pub mod ExactFields
 pub mod ExactHeader
+pub mod ExactChunk
 pub mod Left
 pub mod Steps
 pub mod ShortestLaws
