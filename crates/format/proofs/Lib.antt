@@ -6,5 +6,6 @@ pub mod Left
 pub mod Steps
 pub mod ShortestLaws
 pub mod LdumpLaws
+pub mod LdumpChunk
 pub mod LundumpLaws
 pub mod Cases

@@ -14,3 +14,5 @@ pub mod Shortest
 pub mod Copy
 pub mod Lundump
 pub mod Ldump
+pub mod LundumpFunctions
+pub mod LdumpFunctions

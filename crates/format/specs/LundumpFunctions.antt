@@ -1,0 +1,200 @@
+-- From lundump.c (Lua 5.4), close to the text: the order and the parts in which Lua's own loader takes a chunk. Each form has the name of its C function:
+-- the bytes that the function takes, and what it makes of them. A Proto is shown as our `Prototype`, and a tree of them as the list of its functions.
+-- Where 01 makes ours differ is said at each; `proofs/LundumpChunk.antt` shows that what these take, our grammar takes, with the same reading.
+-- Not here: memory (what a loader allocates, or writes behind an array's end), and what happens at a tag that is none (`lua_assert(0)`).
+use mathlib.Core.Path.{_≡_}
+use mathlib.Core.Bool.{Bool, true, false}
+use mathlib.Core.List.{List, [], _∷_, _++_}
+use mathlib.Core.Option.{Option, none, some}
+use Prim.Native.Nat.{ℕ, zero, suc, _+_}
+use lib.Dec.{eqb}
+use lib.ListN.{length}
+use Rattle.format.specs.declared.entry.UpvalueDesc.{UpvalueDesc}
+use Rattle.format.specs.declared.entry.AbsLineInfo.{AbsLineInfo}
+use Rattle.format.specs.Form.{Bytes, Form, Then, _>>=_, _>>_, Is, Here, Spelt, Nothing, When, Run, Many}
+use Rattle.format.specs.GrammarFields.{Field, LuaString}
+use Rattle.format.specs.GrammarHeader.{Headed, signature, luacData, luacInt, luacNum, headerOf}
+use Rattle.format.specs.Reading.{ConstantValue, nil, boolean, integer, float, short-string, long-string, LocalVar, Places, Prototype}
+use Rattle.format.specs.GrammarChunk.{Listed, orElse, inherit, Where, after, within, Loaded, outermost}
+use Rattle.format.specs.Lundump.{loaded, loadSize, loadInt}
+
+-- the bytes that `loadSize` and `loadInt` take to the last. Ours is a number for both: an int is below 2^31 - 128 here
+abbrev pub LoadSize : Form ℕ
+LoadSize at bytes v = loadSize bytes ≡ loaded v []
+
+abbrev pub LoadInt : Form ℕ
+LoadInt at bytes v = loadInt bytes ≡ loaded v []
+
+abbrev pub LoadByte : Form ℕ
+LoadByte = Field 1
+
+-- if (size == 0) return NULL; else --size bytes
+abbrev pub Content : ℕ → Form (Option LuaString)
+Content zero = Is none
+Content (suc size) = do
+  place ← Here
+  bytes ← Run size
+  Is (some (record { place = place; bytes = bytes }))
+
+abbrev pub LoadStringN : Form (Option LuaString)
+LoadStringN = do
+  size ← LoadSize
+  Content size
+
+-- if (st == NULL) error(S, "bad format for constant string"): ours reads it as empty
+abbrev pub NotNull : Option LuaString → Form LuaString
+NotNull none = Nothing
+NotNull (some t) = Is t
+
+abbrev pub LoadString : Form LuaString
+LoadString = do
+  st ← LoadStringN
+  NotNull st
+
+-- int n = loadInt(S); .. n of these
+abbrev pub LoadVector : {A : Type 0} → Form A → Form (Listed A)
+LoadVector F = do
+  n ← LoadInt
+  place ← Here
+  items ← Many n F
+  Is (record { place = place; items = items })
+
+abbrev pub LoadCode : Form (Listed ℕ)
+LoadCode = LoadVector (Field 4)
+
+-- switch (t): LUA_VNIL 0, LUA_VFALSE 1, LUA_VTRUE 17, LUA_VNUMFLT 19, LUA_VNUMINT 3, LUA_VSHRSTR 4, LUA_VLNGSTR 20
+abbrev pub LoadConstant : Form ConstantValue
+LoadConstant = do
+  t ← LoadByte
+  When (eqb t 0) (Is nil)
+      (When (eqb t 1) (Is (boolean false))
+      (When (eqb t 17) (Is (boolean true))
+      (When (eqb t 19) (do
+        n ← Field 8
+        Is (float n))
+      (When (eqb t 3) (do
+        n ← Field 8
+        Is (integer n))
+      (When (eqb t 4) (do
+        st ← LoadString
+        Is (short-string st))
+      (When (eqb t 20) (do
+        st ← LoadString
+        Is (long-string st))
+      Nothing))))))
+
+abbrev pub LoadConstants : Form (Listed ConstantValue)
+LoadConstants = LoadVector LoadConstant
+
+abbrev pub LoadUpvalues : Form (Listed UpvalueDesc)
+LoadUpvalues = LoadVector (do
+  instack ← LoadByte
+  idx ← LoadByte
+  kind ← LoadByte
+  Is (record { instack = instack; idx = idx; kind = kind }))
+
+-- for (i = 0; i < n; i++) loadFunction(S, f->p[i], f->source)
+abbrev pub LoadProtos : ℕ → (Where → Form (List Prototype)) → Where → Form (List Prototype)
+LoadProtos zero F w = Is []
+LoadProtos (suc n) F w = do
+  ps ← F w
+  more ← LoadProtos n F (after ps w)
+  Is (ps ++ more)
+
+-- what `loadDebug` loads. A local's name that is NULL is shown as `?`, as ours
+pub record Debug : Type 0 where
+  pub lineinfo-at : ℕ
+  pub lineinfo : Bytes
+  pub abslineinfo : Listed AbsLineInfo
+  pub locvars : Listed LocalVar
+  pub upvalue-names : Listed (Option LuaString)
+
+abbrev pub LoadDebug : Form Debug
+LoadDebug = do
+  n ← LoadInt
+  lineinfo-at ← Here
+  lineinfo ← Run n
+  abslineinfo ← LoadVector (do
+    pc ← LoadInt
+    line ← LoadInt
+    Is (record { pc = pc; line = line }))
+  locvars ← LoadVector (do
+    varname ← LoadStringN
+    place ← Here
+    startpc ← LoadInt
+    endpc ← LoadInt
+    Is (record { name = orElse varname (record { place = place; bytes = 63 ∷ [] }); startpc = startpc; endpc = endpc }))
+  upvalue-names ← LoadVector LoadStringN
+  Is (record { lineinfo-at = lineinfo-at; lineinfo = lineinfo; abslineinfo = abslineinfo; locvars = locvars; upvalue-names = upvalue-names })
+
+-- if (f->source == NULL) f->source = psource. The first argument bounds how deep functions nest; `Where` is how we number the functions
+unfoldable pub LoadFunction : ℕ → Where → Form (List Prototype)
+LoadFunction zero w = Nothing
+LoadFunction (suc left) w = do
+  start ← Here
+  source ← LoadStringN
+  linedefined ← LoadInt
+  lastlinedefined ← LoadInt
+  numparams ← LoadByte
+  is-vararg ← LoadByte
+  maxstacksize ← LoadByte
+  code ← LoadCode
+  k ← LoadConstants
+  upvalues ← LoadUpvalues
+  n ← LoadInt
+  protos-at ← Here
+  p ← LoadProtos n (LoadFunction left) (within w (inherit source (w .source)) (length (code .items)))
+  debug ← LoadDebug
+  end ← Here
+  Is (record {
+    depth = w .depth;
+    parent = w .parent;
+    start = start;
+    end = end;
+    source-name = inherit source (w .source);
+    line-defined = linedefined;
+    last-line-defined = lastlinedefined;
+    numparams = numparams;
+    is-vararg = is-vararg;
+    maxstacksize = maxstacksize;
+    instructions = code .items;
+    constants = k .items;
+    upvalues = upvalues .items;
+    protos = n;
+    line-info = debug .lineinfo;
+    abs-line-info = debug .abslineinfo .items;
+    loc-vars = debug .locvars .items;
+    upvalue-names = debug .upvalue-names .items;
+    places = record {
+      instructions = code .place;
+      constants = k .place;
+      upvalues = upvalues .place;
+      protos = protos-at;
+      line-info = debug .lineinfo-at;
+      abs-line-info = debug .abslineinfo .place;
+      loc-vars = debug .locvars .place;
+      upvalue-names = debug .upvalue-names .place;
+    };
+  } ∷ p)
+
+-- LUA_SIGNATURE, LUAC_VERSION, LUAC_FORMAT, LUAC_DATA, sizes, LUAC_INT, LUAC_NUM. Ours takes any format byte
+abbrev pub CheckHeader : Form Headed
+CheckHeader = do
+  Spelt signature
+  Spelt (0x54 ∷ [])
+  Spelt (0 ∷ [])
+  Spelt luacData
+  Spelt (4 ∷ [])
+  Spelt (8 ∷ [])
+  Spelt (8 ∷ [])
+  Spelt luacInt
+  Spelt luacNum
+  Is (record { header = headerOf 0; warnings = [] })
+
+-- `luaU_undump`: checkHeader(&S); cl = luaF_newLclosure(L, loadByte(&S)); loadFunction(&S, cl->p, NULL)
+abbrev pub Undump : ℕ → Form Loaded
+Undump left = do
+  headed ← CheckHeader
+  nupvalues ← LoadByte
+  functions ← LoadFunction left outermost
+  Is (record { headed = headed; functions = functions })
