@@ -5,24 +5,24 @@ use mathlib.Core.Path.{_≡_, refl, sym, _∙_, ap, ap₂}
 use mathlib.Core.Bool.{Bool, true, false}
 use mathlib.Core.List.{List, [], _∷_, _++_, append-assoc, map, flatten}
 use mathlib.Core.Option.{Option, none, some}
-use Prim.Native.Nat.{ℕ, suc, _^_, _<_}
-use lib.Dec.{lit<}
+use Prim.Native.Nat.{ℕ, zero, suc, _+_, _-_, _^_, _<_}
+use native.Mathlib.Omega.{arith}
+use lib.Dec.{eqb, lit<}
 use lib.ListN.{length}
 use Rattle.format.specs.declared.entry.AbsLineInfo.{AbsLineInfo}
-use Rattle.format.specs.Form.{Bytes}
-use Rattle.format.specs.GrammarFields.{LuaString}
-use Rattle.format.specs.Reading.{ConstantValue, nil, boolean, integer, float, short-string, long-string, LocalVar, Prototype}
+use Rattle.format.specs.Reading.{ConstantValue, nil, boolean, integer, float, short-string, long-string, LocalVar, Prototype, Reading}
 use Rattle.format.specs.Copy.{fieldBytes, stringBytes, optionBytes, constantBytes, upvalueBytes, anchorBytes, localBytes, listBytes, behindSource}
 use Rattle.format.specs.Shortest.{shortest}
 use Rattle.format.specs.LdumpFunctions.{dumpString, dumpEach, dumpConstant, dumpUpvalue, dumpAbsLineInfo, dumpLocVar, dumpFunction}
+use Rattle.format.specs.declared.limits.ResourceLimits.{ResourceLimits}
+use Rattle.format.specs.Form.{Bytes, Form}
+use Rattle.format.specs.GrammarFields.{LuaString, Content, String}
+use Rattle.format.specs.GrammarChunk.{Listed, orElse, Counted, CountedUpTo, Always, Tagged, Constant, Anchor, Local, Where, after, within, inherit, Forest, Body, Function, Loaded, Chunk}
+use Rattle.format.proofs.Every.{Every, any, every-then, every-is, every-given, every-nothing, every-when, every-number, every-run, every-many, All, all-append}
 use Rattle.format.proofs.LdumpLaws.{dumped}
 
 abbrev Fits : ℕ → Type 0
 Fits n = n < 2 ^ 64
-
-abbrev All : {A : Type 0} → (A → Type 0) → List A → Type 0
-All P [] = Unit {0}
-All P (x ∷ xs) = P x × All P xs
 
 -- the numbers that each part writes
 abbrev StringFits : Option LuaString → Type 0
@@ -110,3 +110,112 @@ copied-as-dumped source p nested h =
       list-is dumpString optionBytes string-is (p .upvalue-names) (h .upvalue-names),
       append-assoc,
     )
+
+-- ## In what was read every number fits
+below : {n : ℕ} → n < 2 ^ 64 - 128 → Fits n
+below h = omega arith
+
+content-fits : (limit size : ℕ) → size < 2 ^ 64 - 128 → Every (Content limit size) StringFits
+content-fits limit zero h = every-is tt
+content-fits limit (suc n) h =
+    every-then any λ _ _.
+    every-then any λ place _.
+    every-then (every-run n) λ bytes size.
+    every-is (rw size (below h))
+
+string-fits : (limit : ℕ) → Every (String limit) StringFits
+string-fits limit = every-then every-number λ size h. content-fits limit size h
+
+or-fits : (t : Option LuaString) (u : LuaString) → StringFits t → StringFits (some u) → StringFits (some (orElse t u))
+or-fits none u h k = k
+or-fits (some t) u h k = h
+
+always-fits : (limit : ℕ) (instead : Bytes) → Fits (suc (length instead)) → Every (Always limit instead) (λ t. StringFits (some t))
+always-fits limit instead k = every-then (string-fits limit) λ t h. every-then any λ place _. every-is (or-fits t _ h k)
+
+constant-fits : (limit : ℕ) → Every (Constant limit) ConstantFits
+constant-fits limit = every-then any λ tag _. tagged tag
+  where
+    tagged : (tag : ℕ) → Every (Tagged limit tag) ConstantFits
+    tagged tag =
+        every-when (eqb tag 0) (every-is tt)
+        (every-when (eqb tag 1) (every-is tt)
+        (every-when (eqb tag 17) (every-is tt)
+        (every-when (eqb tag 3) (every-then any λ n _. every-is tt)
+        (every-when (eqb tag 19) (every-then any λ n _. every-is tt)
+        (every-when (eqb tag 4) (every-then (always-fits limit [] (lit< tt)) λ t h. every-is h)
+        (every-when (eqb tag 20) (every-then (always-fits limit [] (lit< tt)) λ t h. every-is h)
+        every-nothing))))))
+
+anchor-fits : Every Anchor AnchorFits
+anchor-fits = every-then every-number λ pc h. every-then every-number λ line k. every-is (below h, below k)
+
+local-fits : (limit : ℕ) → Every (Local limit) LocalFits
+local-fits limit = every-then (always-fits limit (63 ∷ []) (lit< tt)) λ name h. every-then every-number λ startpc k. every-then every-number λ endpc l. every-is (h, below k, below l)
+
+counted-fits : {A : Type 0} {F : Form A} {P : A → Type 0} → Every F P → Every (Counted F) (λ l. ListFits P (l .items))
+counted-fits one = every-then every-number λ n h. every-then any λ place _. every-then (every-many n one) λ items k. every-is (rw (k .0) (below h), k .1)
+
+upTo-fits : {A : Type 0} {F : Form A} {P : A → Type 0} (limit : ℕ) → Every F P → Every (CountedUpTo limit F) (λ l. ListFits P (l .items))
+upTo-fits limit one =
+    every-then every-number λ n h. every-then any λ _ _. every-then any λ place _. every-then (every-many n one) λ items k. every-is (rw (k .0) (below h), k .1)
+
+forest-fits : (n : ℕ) {F : Where → Form (List Prototype)} (w : Where) → ((w : Where) → Every (F w) (All FunctionFits)) → Every (Forest n F w) (All FunctionFits)
+forest-fits zero w one = every-is tt
+forest-fits (suc n) w one = every-then (one w) λ ps h. every-then (forest-fits n (after ps w) one) λ more k. every-is (all-append FunctionFits ps more h k)
+
+body-fits : (L : ResourceLimits) {F : Where → Form (List Prototype)} → ((w : Where) → Every (F w) (All FunctionFits)) → (w : Where) → Every (Body L F w) (All FunctionFits)
+unfolding Body
+body-fits L one w =
+    every-then any λ start _.
+    every-then any λ spelt _.
+    every-then every-number λ line-defined h1.
+    every-then every-number λ last-line-defined h2.
+    every-then any λ numparams _.
+    every-then any λ is-vararg _.
+    every-then any λ maxstacksize _.
+    every-then every-number λ size h3.
+    every-then any λ _ _.
+    every-then any λ _ _.
+    every-then any λ instructions-at _.
+    every-then (every-many size any) λ instructions k3.
+    every-then (upTo-fits (L .«max_constants_per_proto») (constant-fits (L .«max_string_bytes»))) λ constants h4.
+    every-then (upTo-fits (L .«max_upvalues_per_proto») any) λ upvalues h5.
+    every-then every-number λ protos h6.
+    every-then any λ _ _.
+    every-then any λ protos-at _.
+    every-then (forest-fits protos (within w (inherit spelt (w .source)) size) one) λ nested rest.
+    every-then every-number λ line-info-size h7.
+    every-then any λ line-info-at _.
+    every-then (every-run line-info-size) λ line-info k7.
+    every-then (counted-fits anchor-fits) λ abs-line-info h8.
+    every-then (counted-fits (local-fits (L .«max_string_bytes»))) λ loc-vars h9.
+    every-then (counted-fits (string-fits (L .«max_string_bytes»))) λ upvalue-names h10.
+    every-then any λ end _.
+    every-is (
+      record {
+        line-defined = below h1;
+        last-line-defined = below h2;
+        instructions = rw (k3 .0) (below h3);
+        constants = h4;
+        upvalues = h5 .0;
+        protos = below h6;
+        line-info = rw k7 (below h7);
+        abs-line-info = h8;
+        loc-vars = h9;
+        upvalue-names = h10;
+      },
+      rest,
+    )
+
+function-fits : (L : ResourceLimits) (left : ℕ) (w : Where) → Every (Function L left w) (All FunctionFits)
+unfolding Function
+function-fits L zero w = body-fits L (λ w. every-nothing) w
+function-fits L (suc left) w = body-fits L (λ w. every-then any λ _ _. function-fits L left w) w
+
+-- every function of a chunk is one of which the law above speaks
+pub functions-fit : (L : ResourceLimits) (chunk : Bytes) (r : Reading) → Chunk L chunk r → All FunctionFits (r .functions)
+functions-fit L chunk r c =
+    let f = c .main .two .two in
+    let same : f .value ≡ r .functions = ap (λ (m : Loaded). m .functions) (f .two .1) ∙ ap (λ (q : Reading). q .functions) (c .shows) in
+    rw (← same) (function-fits L (L .«max_nesting_depth») _ .holds _ (f .front) (f .value) (f .one))

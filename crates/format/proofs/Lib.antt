@@ -2,6 +2,7 @@ pub mod Exact
 pub mod ExactFields
 pub mod ExactHeader
 pub mod ExactChunk
+pub mod Every
 pub mod Left
 pub mod Steps
 pub mod ShortestLaws
