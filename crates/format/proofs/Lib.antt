@@ -10,3 +10,4 @@ pub mod LdumpLaws
 pub mod LdumpChunk
 pub mod LundumpLaws
 pub mod Cases
+pub mod ChunkCases
