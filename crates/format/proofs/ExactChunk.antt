@@ -39,7 +39,7 @@ exact-pick : {A : Type 0} {r s : Reader A} {F G : Form A} (b : Bool) → Exact r
 exact-pick true one two = one
 exact-pick false one two = two
 
-exact-refuse : {A : Type 0} (q : Refusal) → Exact {A = A} (refuse q) Nothing
+pub exact-refuse : {A : Type 0} (q : Refusal) → Exact {A = A} (refuse q) Nothing
 exact-refuse q = record { sound = λ e. absurd (never e); complete = λ _ g. absurd g }
 
 pub exact-tagged : (limit place tag : ℕ) → Exact (tagged limit place tag) (Tagged limit tag)

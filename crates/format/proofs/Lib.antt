@@ -3,6 +3,7 @@ pub mod ExactFields
 pub mod ExactHeader
 pub mod ExactChunk
 pub mod Every
+pub mod Located
 pub mod ReadChunkLaws
 pub mod Left
 pub mod Steps
