@@ -13,3 +13,10 @@ pub mod LdumpChunk
 pub mod LundumpLaws
 pub mod Cases
 pub mod ChunkCases
+pub mod Below
+pub mod Build
+pub mod FieldBytes
+pub mod Wider
+pub mod Copies
+pub mod CopyEntries
+pub mod CopyFunctions

@@ -1,5 +1,6 @@
 -- The shortest spelling of a number (`specs/Shortest.antt`).
 --     shortest-spells      it spells the number
+--     shortest-below       it is made of bytes
 --     shortest-least       no spelling of the number is shorter
 --     length-shortest      how many bytes it takes: suc m from 128 ^ m to below 128 ^ (suc m)
 --     length-bits          so it takes the number's bits divided by 7, rounded up: what the leading zeros of a u64 say
@@ -11,25 +12,22 @@ use native.Mathlib.Omega.{arith}
 use native.Mathlib.Nat.{mul-le-mul-right, pow-suc, suc-mul, pos-of-ne-zero, pow-le-pow-right, le-div-iff-mul-le, div-lt-iff-lt-mul, le-trans, lt-of-lt-of-le}
 use lib.Pow.{pow-add}
 use lib.Count.{leadingZeros, leading-top}
-use lib.Dec.{lit<}
+use lib.Dec.{lit<, lit≤}
 use lib.ListN.{length, length-append}
 use Rattle.format.specs.Form.{Bytes, Below}
 use Rattle.format.specs.GrammarFields.{base128, Number}
 use Rattle.format.specs.Shortest.{groupsOf, shortest}
+use Rattle.format.proofs.Below.{below-join, below-more}
 
 -- ## It spells the number
 base128-end : (xs : List ℕ) (high x : ℕ) → base128 high (xs ++ x ∷ []) ≡ base128 high xs * 128 + x
 base128-end [] high x = refl
 base128-end (y ∷ xs) high x = base128-end xs (high * 128 + y) x
 
-below-end : (n : ℕ) (xs : List ℕ) (x : ℕ) → Below n xs → x < n → Below n (xs ++ x ∷ [])
-below-end n [] x h l = (l, tt)
-below-end n (y ∷ xs) x h l = (h .0, below-end n xs x (h .1) l)
-
 groups-small : (f n : ℕ) → Below 128 (groupsOf f n)
 groups-small zero n = tt
 groups-small (suc f) zero = tt
-groups-small (suc f) (suc n) = below-end 128 (groupsOf f (suc n / 128)) (suc n % 128) (groups-small f (suc n / 128)) (omega arith)
+groups-small (suc f) (suc n) = below-join 128 (groupsOf f (suc n / 128)) (suc n % 128 ∷ []) (groups-small f (suc n / 128)) (omega arith, tt)
 
 groups-value : (f n : ℕ) → n ≤ f → base128 0 (groupsOf f n) ≡ n
 groups-value zero n h = omega arith
@@ -47,6 +45,10 @@ shortest-spells v at h = record {
   value = rw (groups-value v (v / 128) (omega arith)) (omega arith);
   fits = h;
 }
+
+pub shortest-below : (v : ℕ) → Below 256 (shortest v)
+unfolding shortest
+shortest-below v = below-join 256 (groupsOf v (v / 128)) _ (below-more 128 256 (groupsOf v (v / 128)) (lit≤ tt) (groups-small v (v / 128))) (omega arith, tt)
 
 -- ## No spelling is shorter
 base128-bound : (more : List ℕ) (high : ℕ) → Below 128 more → base128 high more < suc high * 128 ^ length more
