@@ -97,9 +97,9 @@ tagged-copies limit tag =
     (when-copies (eqb tag 3) (λ t. field-copies λ n. is-copies (ap (λ k. fieldBytes 1 k ++ fieldBytes 8 n) (eqb→eq tag 3 t), refl))
     (when-copies (eqb tag 19) (λ t. field-copies λ n. is-copies (ap (λ k. fieldBytes 1 k ++ fieldBytes 8 n) (eqb→eq tag 19 t), refl))
     (when-copies (eqb tag 4) (λ t. then-copies (always-copies limit [] (empty-spellable limit)) λ x x′ b r.
-        is-copies (ap₂ (λ k c. fieldBytes 1 k ++ c) (eqb→eq tag 4 t) (append-nil b ∙ r .0), ap short-string (r .1)))
+    is-copies (ap₂ (λ k c. fieldBytes 1 k ++ c) (eqb→eq tag 4 t) (append-nil b ∙ r .0), ap short-string (r .1)))
     (when-copies (eqb tag 20) (λ t. then-copies (always-copies limit [] (empty-spellable limit)) λ x x′ b r.
-        is-copies (ap₂ (λ k c. fieldBytes 1 k ++ c) (eqb→eq tag 20 t) (append-nil b ∙ r .0), ap long-string (r .1)))
+    is-copies (ap₂ (λ k c. fieldBytes 1 k ++ c) (eqb→eq tag 20 t) (append-nil b ∙ r .0), ap long-string (r .1)))
     none-copies))))))
 
 pub constant-copies : (limit : ℕ) → Copies (Constant limit) (Constant limit) (As constantBytes keptConstant)

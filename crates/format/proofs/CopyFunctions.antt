@@ -135,8 +135,16 @@ body-copies L l src one w v a =
       new = refl;
       nested = c;
       each = e;
-      alike = λ source. rw (a .depth, a .parent, unmap instructions′ instructions (q₁ .1), q₂ .alike, unmap (upvalues′ .items) (upvalues .items) (q₃ .alike),
-          unmap (abs-line-info′ .items) (abs-line-info .items) (q₄ .alike), q₅ .alike, q₆ .alike);
+      alike = λ source. rw (
+        a .depth,
+        a .parent,
+        unmap instructions′ instructions (q₁ .1),
+        q₂ .alike,
+        unmap (upvalues′ .items) (upvalues .items) (q₃ .alike),
+        unmap (abs-line-info′ .items) (abs-line-info .items) (q₄ .alike),
+        q₅ .alike,
+        q₆ .alike,
+      );
       spelt = _;
       spelt′ = _;
       source = refl;

@@ -20,3 +20,7 @@ pub mod Wider
 pub mod Copies
 pub mod CopyEntries
 pub mod CopyFunctions
+pub mod KeptCopy
+pub mod ChunkUnique
+pub mod CopyMain
+pub mod CopyChunk

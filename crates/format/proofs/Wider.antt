@@ -1,6 +1,7 @@
 -- What belongs to the grammar under some limits belongs to it under any larger ones, with the same value: one law for each way to make a form.
 --     AtMostEach L N       each limit that the grammar tests is at most as large in L as in N
---     main-wider           all but the trailing bytes, and so a chunk: `proofs/CopyChunk.antt`
+--     main-wider           the law for all but the trailing bytes
+--     above L M            limits above any two
 -- Assumes nothing.
 use mathlib.Core.Bool.{Bool, true, false}
 use mathlib.Core.List.{List, [], _∷_, _++_}
@@ -137,3 +138,40 @@ module _ {L N : ResourceLimits} (le : AtMostEach L N) where
 
   pub main-wider : Wider (Main L) (Main N)
   main-wider = behind λ headed. behind λ forgotten. so (function-wider _ _ (le .nesting) _)
+
+-- each is at least 1, too
+abbrev pub above : ResourceLimits → ResourceLimits → ResourceLimits
+above L M = record {
+  «max_input_bytes» = L .«max_input_bytes» + M .«max_input_bytes» + 1;
+  «max_nesting_depth» = L .«max_nesting_depth» + M .«max_nesting_depth» + 1;
+  «max_total_prototypes» = L .«max_total_prototypes» + M .«max_total_prototypes» + 1;
+  «max_instructions_per_proto» = L .«max_instructions_per_proto» + M .«max_instructions_per_proto» + 1;
+  «max_total_instructions» = L .«max_total_instructions» + M .«max_total_instructions» + 1;
+  «max_constants_per_proto» = L .«max_constants_per_proto» + M .«max_constants_per_proto» + 1;
+  «max_upvalues_per_proto» = L .«max_upvalues_per_proto» + M .«max_upvalues_per_proto» + 1;
+  «max_string_bytes» = L .«max_string_bytes» + M .«max_string_bytes» + 1;
+  «max_diagnostics» = L .«max_diagnostics» + M .«max_diagnostics» + 1;
+}
+
+module _ (L M : ResourceLimits) where
+  pub above-left : AtMostEach L (above L M)
+  above-left = record {
+    nesting = omega arith;
+    prototypes = omega arith;
+    instructions = omega arith;
+    total-instructions = omega arith;
+    constants = omega arith;
+    upvalues = omega arith;
+    strings = omega arith;
+  }
+
+  pub above-right : AtMostEach M (above L M)
+  above-right = record {
+    nesting = omega arith;
+    prototypes = omega arith;
+    instructions = omega arith;
+    total-instructions = omega arith;
+    constants = omega arith;
+    upvalues = omega arith;
+    strings = omega arith;
+  }
