@@ -1,15 +1,13 @@
 -- A chunk has one reading.
 -- Assumes nothing.
-use mathlib.Core.Path.{_≡_, refl, sym, _∙_, ap}
-use mathlib.Core.List.{List, _++_}
-use Prim.Native.Nat.{ℕ}
+use mathlib.Core.Path.{_≡_, sym, _∙_, ap}
 use native.Mathlib.Nat.{zero-add}
 use lib.ListN.{length}
 use Rattle.format.specs.declared.limits.ResourceLimits.{ResourceLimits}
 use Rattle.format.specs.Form.{Bytes}
 use Rattle.format.specs.Reading.{Reading}
-use Rattle.format.specs.GrammarChunk.{Loaded, reading, Chunk}
-use Rattle.format.specs.Read.{Read, ok}
+use Rattle.format.specs.GrammarChunk.{Chunk}
+use Rattle.format.specs.Read.{ok}
 use Rattle.format.specs.ReadChunk.{main}
 use Rattle.format.proofs.ExactChunk.{exact-main}
 

@@ -3,7 +3,7 @@
 --     Copies F F′ S        what F spells, F′ spells anywhere by other bytes, so that S holds of the old value, the new value and the new bytes
 -- Assumes nothing.
 use mathlib.Core.Path.{_≡_, refl, sym, _∙_, ap, ap₂}
-use mathlib.Core.List.{List, [], _∷_, _++_, append-nil, map, flatten}
+use mathlib.Core.List.{[], _∷_, _++_, append-nil, map, flatten}
 use Prim.Native.Nat.{ℕ, zero, suc, _+_}
 use lib.ListN.{length}
 use Rattle.format.specs.Form.{Bytes, Below, Form, Then, Is, Here, Given, Nothing, Run, Many}

@@ -7,9 +7,8 @@
 --     copy-below       the copy is bytes
 -- Assumes nothing.
 use mathlib.Core.Path.{_≡_, refl, sym, _∙_, ap}
-use mathlib.Core.List.{List, [], _∷_, _++_}
 use mathlib.Core.Logic.{_↔_}
-use Prim.Native.Nat.{ℕ, _+_, _≤_}
+use Prim.Native.Nat.{_≤_}
 use native.Mathlib.Omega.{arith}
 use lib.ListN.{length}
 use Rattle.format.specs.declared.limits.ResourceLimits.{ResourceLimits}
@@ -18,7 +17,7 @@ use Rattle.format.specs.Reading.{Reading}
 use Rattle.format.specs.GrammarChunk.{Loaded, reading, Chunk}
 use Rattle.format.specs.Copy.{copy, keptFunctions, kept}
 use Rattle.format.proofs.Below.{below-split, below-join}
-use Rattle.format.proofs.Wider.{AtMostEach, main-wider, above, above-left, above-right}
+use Rattle.format.proofs.WiderChunk.{AtMostEach, main-wider, above, above-left, above-right}
 use Rattle.format.proofs.CopyMain.{standard, frontBytes, main-copied}
 use Rattle.format.proofs.KeptCopy.{kept-copy}
 use Rattle.format.proofs.ChunkUnique.{chunk-unique}

@@ -3,16 +3,13 @@
 use mathlib.Core.Path.{_≡_, refl, sym, _∙_, ap, ap₂}
 use mathlib.Core.Bool.{Bool, true, false}
 use mathlib.Core.List.{List, [], _∷_, _++_, append-assoc, append-nil, map, flatten, map-id}
-use mathlib.Core.Option.{Option, none, some}
+use mathlib.Core.Option.{Option, none}
 use Prim.Native.Nat.{ℕ, zero, suc, _+_, _-_, _^_, _≤_, _<_, zero-le}
-use native.Mathlib.Omega.{arith}
 use lib.Dec.{T, eqb, eqb→eq, lit<}
 use lib.ListN.{length}
-use Rattle.format.specs.declared.entry.UpvalueDesc.{UpvalueDesc}
-use Rattle.format.specs.declared.entry.AbsLineInfo.{AbsLineInfo}
 use Rattle.format.specs.Form.{Bytes, Below, Form, Then, Is, When, Many}
-use Rattle.format.specs.GrammarFields.{Field, Number, LuaString, Content, String}
-use Rattle.format.specs.Reading.{ConstantValue, short-string, long-string, LocalVar}
+use Rattle.format.specs.GrammarFields.{Field, LuaString, Content, String}
+use Rattle.format.specs.Reading.{short-string, long-string}
 use Rattle.format.specs.GrammarChunk.{Listed, Counted, CountedUpTo, orElse, Always, Tagged, Constant, Upvalue, Anchor, Local}
 use Rattle.format.specs.Shortest.{shortest}
 use Rattle.format.specs.Copy.{fieldBytes, stringBytes, optionBytes, constantBytes, upvalueBytes, anchorBytes, localBytes, listBytes, keptString, keptOption, keptConstant, keptLocal}
@@ -20,7 +17,7 @@ use Rattle.format.proofs.Below.{below-join}
 use Rattle.format.proofs.Build.{put, skip, last}
 use Rattle.format.proofs.FieldBytes.{field-below, field-spells}
 use Rattle.format.proofs.ShortestLaws.{shortest-spells, shortest-below}
-use Rattle.format.proofs.Copies.{Copied, Copies, parts, As, then-copies, is-copies, none-copies, here-copies, given-copies, number-copies, field-copies, run-copies, many-copies}
+use Rattle.format.proofs.Copies.{Copies, parts, As, then-copies, is-copies, none-copies, here-copies, given-copies, number-copies, field-copies, run-copies, many-copies}
 
 -- ## Strings
 content-copies : (limit size : ℕ) → Copies (Content limit size) (Content limit size) (λ t t′ c. As optionBytes keptOption t t′ (shortest size ++ c))

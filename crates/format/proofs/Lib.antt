@@ -17,8 +17,10 @@ pub mod Below
 pub mod Build
 pub mod FieldBytes
 pub mod Wider
+pub mod WiderChunk
 pub mod Copies
 pub mod CopyEntries
+pub mod CopyForest
 pub mod CopyFunctions
 pub mod KeptCopy
 pub mod ChunkUnique
