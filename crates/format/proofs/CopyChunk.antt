@@ -5,6 +5,7 @@
 --     copy-kept        equal copies are of readings that are equal in what is kept
 --     equal-copies     so copies are equal exactly where readings are, in what is kept; under any limits, for each chunk its own
 --     copy-below       the copy is bytes
+-- That a chunk has one reading, by which these go, is `chunk-unique` of `proofs/ReadChunkLaws.antt`.
 -- Assumes nothing.
 use mathlib.Core.Path.{_≡_, refl, sym, _∙_, ap}
 use mathlib.Core.Logic.{_↔_}
@@ -20,7 +21,7 @@ use Rattle.format.proofs.Below.{below-split, below-join}
 use Rattle.format.proofs.WiderChunk.{AtMostEach, main-wider, above, above-left, above-right}
 use Rattle.format.proofs.CopyMain.{standard, frontBytes, main-copied}
 use Rattle.format.proofs.KeptCopy.{kept-copy}
-use Rattle.format.proofs.ChunkUnique.{chunk-unique}
+use Rattle.format.proofs.ReadChunkLaws.{chunk-unique}
 
 -- ## Under the same limits, if they allow a string of one byte: an absent local name is written as `?`
 -- only functions and trailing bytes are kept

@@ -23,6 +23,5 @@ pub mod CopyEntries
 pub mod CopyForest
 pub mod CopyFunctions
 pub mod KeptCopy
-pub mod ChunkUnique
 pub mod CopyMain
 pub mod CopyChunk
