@@ -3,7 +3,7 @@
 --     ranges       where there is an opcode, they say whether the answer is a word
 -- Assumes nothing.
 use mathlib.Core.Path.{_≡_, refl, sym, ap, _∙_}
-use mathlib.Core.Bool.{Bool, true, false}
+use mathlib.Core.Bool.{Bool, true, false, _&&_}
 use Prim.Native.Nat.{ℕ, suc, _+_, _-_, _≤_, _^_}
 use native.Mathlib.Omega.{arith}
 use lib.Dec.{ltb, leb}
@@ -11,7 +11,7 @@ use lib.IntN.{ℤ, pos, negsuc, subℕ, _+ℤ_}
 use lib.Signed.{leZ}
 use borrow.Author.Tests.{lt-ltb, le-ltb, leb-true, leb-false}
 use Rattle.format.specs.declared.refusal.Refusal.the-variants.{FieldRange}
-use Rattle.format.specs.Pick.{pick, both}
+use Rattle.format.specs.Pick.{pick}
 use Rattle.opcodes.specs.declared.opcode.Opcode54.{Opcode54}
 use Rattle.opcodes.specs.declared.opcode.OptionOpcode54.the-variants.{Some}
 use Rattle.opcodes.specs.declared.opcode.OpMode54.{OpMode54}
@@ -29,9 +29,9 @@ use Rattle.opcodes.proofs.Words.{chosen}
 abbrev pub inRange : OpMode54 → RawInstruction54 → Bool
 inRange IABC r = ltb (r .k) 2
 inRange IABx r = ltb (r .bx) 131072
-inRange IAsBx r = both (leZ (negsuc 65534) (r .sbx)) (leZ (r .sbx) (pos 65536))
+inRange IAsBx r = leZ (negsuc 65534) (r .sbx) && leZ (r .sbx) (pos 65536)
 inRange IAx r = ltb (r .ax) (2 ^ 25)
-inRange IsJ r = both (leZ (negsuc 16777214) (r .sj)) (leZ (r .sj) (pos 16777216))
+inRange IsJ r = leZ (negsuc 16777214) (r .sj) && leZ (r .sj) (pos 16777216)
 
 abbrev pub isWord : Encoded → Bool
 isWord (Word w) = true
@@ -46,7 +46,7 @@ of-pick true n = refl
 of-pick false n = refl
 
 -- an offset k + 1 and twice as many numbers reach from -(k + 1) to k + 2
-signed : (k : ℕ) (z : ℤ) → isIn (unbiased (z +ℤ pos (suc k)) (suc k + suc k + 2)) ≡ both (leZ (negsuc k) z) (leZ z (pos (suc k + 1)))
+signed : (k : ℕ) (z : ℤ) → isIn (unbiased (z +ℤ pos (suc k)) (suc k + suc k + 2)) ≡ leZ (negsuc k) z && leZ z (pos (suc k + 1))
 signed k (pos n) = of-pick (ltb (n + suc k) (suc k + suc k + 2)) (n + suc k) ∙ go (leb n (suc k + 1)) refl
   where
     go : (t : Bool) → leb n (suc k + 1) ≡ t → ltb (n + suc k) (suc k + suc k + 2) ≡ leb n (suc k + 1)
@@ -54,7 +54,7 @@ signed k (pos n) = of-pick (ltb (n + suc k) (suc k + suc k + 2)) (n + suc k) ∙
     go false e = le-ltb (n + suc k) (suc k + suc k + 2) (omega (arith, leb-false n (suc k + 1) e)) ∙ sym e
 signed k (negsuc n) = go (leb n k) refl
   where
-    go : (t : Bool) → leb n k ≡ t → isIn (unbiased (subℕ (suc k) (suc n)) (suc k + suc k + 2)) ≡ both (leb n k) true
+    go : (t : Bool) → leb n k ≡ t → isIn (unbiased (subℕ (suc k) (suc n)) (suc k + suc k + 2)) ≡ leb n k && true
     go true e =
         let h : n ≤ k = leb-true n k e in
         rw (le-ltb (suc k) (suc n) (omega arith), e)

@@ -3,7 +3,7 @@
 --     each ks f, keyed     the test f passes at each number of a list, and so at a `match`'s key
 -- Assumes nothing.
 use mathlib.Core.Path.{_≡_, refl, sym, subst}
-use mathlib.Core.Bool.{Bool, true, false}
+use mathlib.Core.Bool.{Bool, true, false, _&&_}
 use mathlib.Core.List.{List, [], _∷_}
 use mathlib.Core.Logic.{inl, inr}
 use Prim.Native.Nat.{ℕ, zero, suc, _<_}
@@ -12,15 +12,14 @@ use native.Mathlib.Omega.{arith}
 use lib.Dec.{T, ltb}
 use borrow.Author.Tests.{ltb-true, ltb-false}
 use types.Run.{OneOf}
-use Rattle.format.specs.Pick.{both}
 
-pub both-parts : (a b : Bool) → T (both a b) → T a × T b
+pub both-parts : (a b : Bool) → T (a && b) → T a × T b
 both-parts true b t = (tt, t)
 both-parts false b t = absurd t
 
 abbrev pub below : ℕ → (ℕ → Bool) → Bool
 below zero f = true
-below (suc k) f = both (f k) (below k f)
+below (suc k) f = f k && below k f
 
 pub at : (k : ℕ) (f : ℕ → Bool) → T (below k f) → (n : ℕ) → n < k → T (f n)
 at zero f t n h = absurd (not-suc-le-zero h)
@@ -34,7 +33,7 @@ at (suc k) f t n h = go (at k f (both-parts (f k) (below k f) t .1) n) (ltb n k)
 
 abbrev pub each : List ℕ → (ℕ → Bool) → Bool
 each [] f = true
-each (k ∷ ks) f = both (f k) (each ks f)
+each (k ∷ ks) f = f k && each ks f
 
 pub keyed : (ks : List ℕ) (f : ℕ → Bool) → T (each ks f) → (x : ℕ) → OneOf ks x → T (f x)
 keyed [] f t x o = absurd o

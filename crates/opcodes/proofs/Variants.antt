@@ -3,7 +3,7 @@
 --     same         two values of one tag are one value
 -- Assumes nothing.
 use mathlib.Core.Path.{_≡_, refl, subst, ap}
-use mathlib.Core.Bool.{Bool, true, false}
+use mathlib.Core.Bool.{Bool, true, false, _&&_}
 use mathlib.Core.List.{List, [], _∷_}
 use mathlib.Core.Logic.{inl, inr}
 use native.Mathlib.Omega.{arith}
@@ -11,13 +11,12 @@ use lib.Dec.{T, eqb, eqb→eq}
 use denote.Struct.Field.{Field}
 use denote.Enum.Enum.{tag}
 use denote.Enum.Declared.{Record, Choice, rowss, intoss, declared, tagOf, values-one}
-use Rattle.format.specs.Pick.{both}
 use Rattle.opcodes.proofs.Tests.{both-parts}
 
 -- the test f passes at each variant, and none holds anything
 abbrev pub variants : (Fss : List (List Field)) → (Choice Fss → Bool) → Bool
 variants [] f = true
-variants ([] ∷ Fss) f = both (f (inl tt)) (variants Fss (λ c. f (inr c)))
+variants ([] ∷ Fss) f = f (inl tt) && variants Fss (λ c. f (inr c))
 variants ((F ∷ Fs) ∷ Fss) f = false
 
 passed : (Fss : List (List Field)) (f : Choice Fss → Bool) → T (variants Fss f) → (c : Choice Fss) → T (f c)
