@@ -17,6 +17,8 @@ use Rattle.format.specs.Reading.{Reading}
 use Rattle.format.specs.GrammarChunk.{Chunk}
 use Rattle.format.specs.ReadChunk.{shown, read}
 use Rattle.format.specs.Copy.{copy, kept}
+use Rattle.format.proofs.CopyChunk.{copy-belongs, copy-same}
+use Rattle.format.proofs.CopyChunk as copies
 use Rattle.format.proofs.ReadChunkLaws.{read-sound, read-within, read-complete, chunk-unique}
 
 -- the reader gives a reading of the chunk
@@ -45,3 +47,24 @@ shown-is-the-reading = read-sound
 -- 3. Any two readings that the grammar allows the bytes are equal.
 pub reading-unique : (L : ResourceLimits) (chunk : Bytes) (r q : Reading) → Chunk L chunk r → Chunk L chunk q → r ≡ q
 reading-unique = chunk-unique
+
+-- the copy of a reading is read, and both readings keep the same
+pub record CopyIsRead (L : ResourceLimits) (r : Reading) : Type 0 where
+  pub reading : Reading
+  pub is : read L (copy r) ≡ shown reading
+  pub keeps : kept reading ≡ kept r
+
+-- 4. Under the two premises (a string limit of at least 1, since an absent local name is written as `?`; the copy within the input limit) the copy of what was read is
+-- read under the same limits, with the same reading but for what `kept` sets aside.
+pub copy-is-read : (L : ResourceLimits) (chunk : Bytes) (r : Reading) → Below 256 chunk → read L chunk ≡ shown r → 1 ≤ L .«max_string_bytes» → length (copy r) ≤ L .«max_input_bytes» → CopyIsRead L r
+copy-is-read L chunk r bytes e string input =
+    let c = copy-belongs L chunk r (read-sound L chunk r e) bytes string in
+    record { reading = c .0; is = read-complete L (copy r) (c .0) (read-within L chunk r e .0) input (c .1); keeps = c .2 }
+
+-- 5. Copying the copy gives the same bytes, under whatever limits the copy is read.
+pub copy-of-copy : (L M : ResourceLimits) (chunk : Bytes) (r q : Reading) → Below 256 chunk → read L chunk ≡ shown r → read M (copy r) ≡ shown q → copy q ≡ copy r
+copy-of-copy L M chunk r q bytes e f = copy-same L M chunk r q (read-sound L chunk r e) bytes (read-sound M (copy r) q f)
+
+-- 6. Two scripts, each read under any limits, have equal copies exactly when their readings are equal but for what `kept` sets aside.
+pub equal-copies : (L M : ResourceLimits) (s t : Bytes) (r q : Reading) → Below 256 s → Below 256 t → read L s ≡ shown r → read M t ≡ shown q → copy r ≡ copy q ↔ kept r ≡ kept q
+equal-copies L M s t r q bytes bytes′ e f = copies.equal-copies L M s t r q (read-sound L s r e) (read-sound M t q f) bytes bytes′
