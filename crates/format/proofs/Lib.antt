@@ -11,6 +11,7 @@ pub mod ShortestLaws
 pub mod LdumpLaws
 pub mod LdumpChunk
 pub mod LundumpLaws
+pub mod LundumpParts
 pub mod Cases
 pub mod ChunkCases
 pub mod Below

@@ -39,11 +39,11 @@ behind two = then-wider same-wider two
 pub so : {A B : Type 0} {F F′ : Form A} {G : A → Form B} → Wider F F′ → Wider (Then F G) (Then F′ G)
 so one = then-wider one λ _. same-wider
 
-many-wider : {A : Type 0} {F G : Form A} (n : ℕ) → Wider F G → Wider (Many n F) (Many n G)
+pub many-wider : {A : Type 0} {F G : Form A} (n : ℕ) → Wider F G → Wider (Many n F) (Many n G)
 many-wider zero one = same-wider
 many-wider (suc n) one = then-wider one λ x. so (many-wider n one)
 
-when-wider : {A : Type 0} {F F′ G G′ : Form A} (b : Bool) → Wider F F′ → Wider G G′ → Wider (When b F G) (When b F′ G′)
+pub when-wider : {A : Type 0} {F F′ G G′ : Form A} (b : Bool) → Wider F F′ → Wider G G′ → Wider (When b F G) (When b F′ G′)
 when-wider true one two = one
 when-wider false one two = two
 

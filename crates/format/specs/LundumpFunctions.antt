@@ -1,6 +1,7 @@
 -- From lundump.c (Lua 5.4), close to the text: the order and the parts in which Lua's own loader takes a chunk. Each form has the name of its C function:
 -- the bytes that the function takes, and what it makes of them. A Proto is shown as our `Prototype`, and a tree of them as the list of its functions.
--- Where 01 makes ours differ is said at each; `proofs/LundumpChunk.antt` shows that what these take, our grammar takes, with the same reading.
+-- Where 01 makes ours differ is said at each. `proofs/LundumpParts.antt` shows of the parts that what these take, our grammar takes, with the same value; that a
+-- function has the same parts in the same order is to be seen by laying `LoadFunction` beside `Body` (GrammarChunk.antt).
 -- Not here: memory (what a loader allocates, or writes behind an array's end), and what happens at a tag that is none (`lua_assert(0)`).
 use mathlib.Core.Path.{_≡_}
 use mathlib.Core.Bool.{Bool, true, false}
@@ -11,7 +12,7 @@ use lib.Dec.{eqb}
 use lib.ListN.{length}
 use Rattle.format.specs.declared.entry.UpvalueDesc.{UpvalueDesc}
 use Rattle.format.specs.declared.entry.AbsLineInfo.{AbsLineInfo}
-use Rattle.format.specs.Form.{Bytes, Form, Then, _>>=_, _>>_, Is, Here, Spelt, Nothing, When, Run, Many}
+use Rattle.format.specs.Form.{Bytes, Below, Form, Then, _>>=_, _>>_, Is, Here, Spelt, Nothing, When, Run, Many}
 use Rattle.format.specs.GrammarFields.{Field, LuaString}
 use Rattle.format.specs.GrammarHeader.{Headed, signature, luacData, luacInt, luacNum, headerOf}
 use Rattle.format.specs.Reading.{ConstantValue, nil, boolean, integer, float, short-string, long-string, LocalVar, Places, Prototype}
@@ -20,10 +21,10 @@ use Rattle.format.specs.Lundump.{loaded, loadSize, loadInt}
 
 -- the bytes that `loadSize` and `loadInt` take to the last. Ours is a number for both: an int is below 2^31 - 128 here
 abbrev pub LoadSize : Form ℕ
-LoadSize at bytes v = loadSize bytes ≡ loaded v []
+LoadSize at bytes v = Below 256 bytes × (loadSize bytes ≡ loaded v [])
 
 abbrev pub LoadInt : Form ℕ
-LoadInt at bytes v = loadInt bytes ≡ loaded v []
+LoadInt at bytes v = Below 256 bytes × (loadInt bytes ≡ loaded v [])
 
 abbrev pub LoadByte : Form ℕ
 LoadByte = Field 1
@@ -62,19 +63,19 @@ LoadVector F = do
 abbrev pub LoadCode : Form (Listed ℕ)
 LoadCode = LoadVector (Field 4)
 
--- switch (t): LUA_VNIL 0, LUA_VFALSE 1, LUA_VTRUE 17, LUA_VNUMFLT 19, LUA_VNUMINT 3, LUA_VSHRSTR 4, LUA_VLNGSTR 20
+-- switch (t): LUA_VNIL 0, LUA_VFALSE 1, LUA_VTRUE 17, LUA_VNUMINT 3, LUA_VNUMFLT 19, LUA_VSHRSTR 4, LUA_VLNGSTR 20
 abbrev pub LoadConstant : Form ConstantValue
 LoadConstant = do
   t ← LoadByte
   When (eqb t 0) (Is nil)
       (When (eqb t 1) (Is (boolean false))
       (When (eqb t 17) (Is (boolean true))
-      (When (eqb t 19) (do
-        n ← Field 8
-        Is (float n))
       (When (eqb t 3) (do
         n ← Field 8
         Is (integer n))
+      (When (eqb t 19) (do
+        n ← Field 8
+        Is (float n))
       (When (eqb t 4) (do
         st ← LoadString
         Is (short-string st))
@@ -86,12 +87,15 @@ LoadConstant = do
 abbrev pub LoadConstants : Form (Listed ConstantValue)
 LoadConstants = LoadVector LoadConstant
 
-abbrev pub LoadUpvalues : Form (Listed UpvalueDesc)
-LoadUpvalues = LoadVector (do
+abbrev pub LoadUpvalue : Form UpvalueDesc
+LoadUpvalue = do
   instack ← LoadByte
   idx ← LoadByte
   kind ← LoadByte
-  Is (record { instack = instack; idx = idx; kind = kind }))
+  Is (record { instack = instack; idx = idx; kind = kind })
+
+abbrev pub LoadUpvalues : Form (Listed UpvalueDesc)
+LoadUpvalues = LoadVector LoadUpvalue
 
 -- for (i = 0; i < n; i++) loadFunction(S, f->p[i], f->source)
 abbrev pub LoadProtos : ℕ → (Where → Form (List Prototype)) → Where → Form (List Prototype)
@@ -101,7 +105,26 @@ LoadProtos (suc n) F w = do
   more ← LoadProtos n F (after ps w)
   Is (ps ++ more)
 
--- what `loadDebug` loads. A local's name that is NULL is shown as `?`, as ours
+-- the anchors and local variables of `loadDebug`. A local's name that is NULL is shown as `?`, as ours
+abbrev pub LoadAbsLineInfo : Form AbsLineInfo
+LoadAbsLineInfo = do
+  pc ← LoadInt
+  line ← LoadInt
+  Is (record { pc = pc; line = line })
+
+abbrev pub LoadVarName : Form LuaString
+LoadVarName = do
+  varname ← LoadStringN
+  place ← Here
+  Is (orElse varname (record { place = place; bytes = 63 ∷ [] }))
+
+abbrev pub LoadLocVar : Form LocalVar
+LoadLocVar = do
+  varname ← LoadVarName
+  startpc ← LoadInt
+  endpc ← LoadInt
+  Is (record { name = varname; startpc = startpc; endpc = endpc })
+
 pub record Debug : Type 0 where
   pub lineinfo-at : ℕ
   pub lineinfo : Bytes
@@ -114,16 +137,8 @@ LoadDebug = do
   n ← LoadInt
   lineinfo-at ← Here
   lineinfo ← Run n
-  abslineinfo ← LoadVector (do
-    pc ← LoadInt
-    line ← LoadInt
-    Is (record { pc = pc; line = line }))
-  locvars ← LoadVector (do
-    varname ← LoadStringN
-    place ← Here
-    startpc ← LoadInt
-    endpc ← LoadInt
-    Is (record { name = orElse varname (record { place = place; bytes = 63 ∷ [] }); startpc = startpc; endpc = endpc }))
+  abslineinfo ← LoadVector LoadAbsLineInfo
+  locvars ← LoadVector LoadLocVar
   upvalue-names ← LoadVector LoadStringN
   Is (record { lineinfo-at = lineinfo-at; lineinfo = lineinfo; abslineinfo = abslineinfo; locvars = locvars; upvalue-names = upvalue-names })
 
