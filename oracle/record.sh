@@ -1,6 +1,6 @@
 #!/bin/sh
-# Builds the judge, and records its answers to every generator's requests: crates/vectors/stdin and crates/vectors/stdout.
-# The two files are only ever made by this script.
+# Builds the judge, and records its answers to every generator's requests: stdin and stdout in crates/vectors. The two files there are only ever made
+# by this script. To try others: record.sh FOLDER GENERATOR .., and nothing outside that folder is written but target/oracle.
 set -eu
 here=$(cd "$(dirname "$0")" && pwd)
 top=$(dirname "$here")
@@ -10,6 +10,12 @@ kept=$top/crates/vectors
 # Each prints requests, the same in every run.
 generators="words.py"
 
+if [ $# -gt 0 ]; then
+    kept=$1
+    shift
+    generators=$*
+fi
+
 "$here/build.sh"
 {
     echo "# Made by oracle/record.sh from oracle/: $generators. The answers in stdout are the Rust's."
@@ -18,8 +24,8 @@ generators="words.py"
     done
 } > "$out/stdin"
 "$out/oracle" < "$out/stdin" > "$out/stdout"
+"$here/tally.py" "$out/stdin" "$out/stdout"
 
 # Both files are there in full before either is replaced.
 mkdir -p "$kept"
 mv "$out/stdin" "$out/stdout" "$kept/"
-echo "$(grep -vc '^#' "$kept/stdin") requests, $(grep -c '^end$' "$kept/stdout") answers"

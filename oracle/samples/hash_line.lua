@@ -1,0 +1,2 @@
+#!/usr/bin/env lua
+print("the first line is passed over")
