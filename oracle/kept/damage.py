@@ -11,7 +11,7 @@ def every_byte(requests):
     requests.title("damage: every byte")
     data = compiled()[EVERY_BYTE]
     for place in range(31, len(data)):
-        for value in (0x00, 0xff, data[place] ^ 1):
+        for value in (0xff, data[place] ^ 1):
             if value != data[place]:
                 requests.chunk(data[:place] + bytes([value]) + data[place + 1:])
 

@@ -22,11 +22,13 @@ def spread(word, count, parts, **rest):
 
 
 def kept(requests):
-    """Two findings at most instructions, so half the words: 9,999, then 10,001, then words that are not looked at."""
-    requests.title("stops: at 10,001 findings")
+    """Two findings at most instructions, so half the words. After 9,999 findings an instruction without any, and then one that brings them to 10,001;
+    the same with a warning of reading, which makes 9,999 the last. The words behind are not looked at."""
+    requests.title("stops: at 10,001 findings, and at 9,999 with a warning of reading")
     main = spread(TWICE, MOST // 2 - 5, 9)
-    main.nested.append(Function(words=[WARNED] + [TWICE] * 4 + [FINE, FINE, TWICE, TWICE], nested=[Function(words=[TWICE])]))
-    requests.chunk(chunk(main))
+    main.nested.append(Function(words=[WARNED] + [TWICE] * 4 + [FINE, TWICE, TWICE], nested=[Function(words=[TWICE])]))
+    for warnings in (0, 1):
+        requests.chunk(warned(main, warnings))
 
 
 def incomplete(requests):
