@@ -1,0 +1,4 @@
+pub mod NumberLaws
+pub mod OutputLaws
+pub mod SignLaws
+pub mod WordLaws

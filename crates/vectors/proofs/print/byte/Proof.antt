@@ -1,0 +1,17 @@
+-- `vectors::print::byte` meets its contract: what the calls say, put together. Assumes nothing.
+use borrow.Author.Needs.{needs}
+use Rattle.vectors.specs.Output.{waiting}
+use Rattle.vectors.proofs.OutputLaws.{put-twice}
+use Rattle.vectors.proofs.print.byte.Statement.{statement}
+use Rattle.vectors.proofs.print.byte.Tie as tie
+
+pub byte-spec : {M : Type 1} → statement M
+byte-spec =
+    tie.close
+    (tie.spec
+    (λ c κs. search needs)
+    (λ c κs. search needs)
+    (λ c κs. search needs)
+    (λ c κs. search needs)
+    (λ c. search needs)
+    (λ c. (search needs, put-twice (c .before .before .before .before .before .before .before .before .before .before .before .args .b) _ _ (waiting (c .before .before .before .before .before .before .before .before .before .before .before .args .out .now) (c .before .before .before .before .before .before .before .before .before .before .before .args .used)) _ _ (c .before .before .before .before .before .before .before .before .glyph .ensures) (c .before .before .before .glyph2 .ensures) (c .before .before .before .before .before .before .before .put .ensures .1) (c .before .before .put2 .ensures .1))))

@@ -1,0 +1,90 @@
+// Answers the requests on standard input, a line each, on standard output.
+ghost use Prim.Native.Nat.{_<_};
+ghost use lib.ListN.{length};
+ghost use Rattle.vectors.specs.Lines.{Within};
+use crate::line::Found;
+use crate::line::LONGEST;
+use crate::line::Lines;
+use crate::line::Step;
+
+mod fields;
+mod line;
+mod number;
+mod print;
+mod token;
+mod words;
+
+// The answer to one line. An empty line and a comment have none.
+fn answer(line: &[u8], out: &mut [u8], used: usize) -> usize
+    requires { ⌜ used < length (now out) ⌝ }
+    ensures { λ r. ⌜ r < length (now (out .exit)) ⌝ }
+{
+    if line.len() == 0 {
+        return used;
+    }
+    if line[0] == b'#' {
+        return used;
+    }
+    if line.len() > LONGEST {
+        return print::bad_request(out, used);
+    }
+    if token::begins(line, b"word ") {
+        return words::word(line, 5, out, used);
+    }
+    if token::begins(line, b"enc ") {
+        return words::enc(line, 4, out, used);
+    }
+    print::bad_request(out, used)
+}
+
+// The answer to what a step along the input found.
+fn respond(buf: &[u8], step: Step, out: &mut [u8], used: usize) -> usize
+    requires { ⌜ Within step (length (now buf)) ⌝ }
+    requires { ⌜ used < length (now out) ⌝ }
+    ensures { λ r. ⌜ r < length (now (out .exit)) ⌝ }
+{
+    let found = step.found;
+    let from = step.from;
+    let to = step.to;
+    match found {
+        Found::Line => answer(&buf[from..to], out, used),
+        Found::Nothing => used,
+        Found::End => used,
+    }
+}
+
+// Answers every line, and says how much of the last answers still waits in the buffer. Nothing
+// says that the input ends, so the loop counts its turns down from a number that no run uses up.
+fn answer_all(buf: &mut [u8], out: &mut [u8]) -> usize
+    requires { ⌜ 0 < length (now out) ⌝ }
+    ensures { λ r. ⌜ r < length (now (out .exit)) ⌝ }
+{
+    let mut lines = Lines::new();
+    let mut used = 0;
+    let mut turns = u64::MAX;
+    while turns > 0 {
+        let step = line::next(buf, lines);
+        let found = step.found;
+        if let Found::End = found {
+            return used;
+        }
+        used = respond(buf, step, out, used);
+        lines = step.rest;
+        turns -= 1;
+    }
+    used
+}
+
+fn run(buf: &mut [u8], out: &mut [u8])
+    requires { ⌜ 0 < length (now out) ⌝ }
+{
+    let used = answer_all(buf, out);
+    print::flush(out, used);
+}
+
+// The buffer of the input has room for two of the longest requests (line.rt says why).
+fn main() {
+    let mut buf = [0u8; 2097152];
+    let mut out = [0u8; 65536];
+    run(&mut buf, &mut out);
+}
