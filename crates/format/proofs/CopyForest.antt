@@ -47,10 +47,10 @@ around-after w v ps ps′ a e = record {
   parent = a .parent;
 }
 
-pub around-within : (w v : Where) (s t : Option LuaString) (n : ℕ) → Around w v → Around (within w s n) (within v t n)
-around-within w v s t n a = record {
+pub around-within : (w v : Where) (s t : Option LuaString) (n m : ℕ) → n ≡ m → Around w v → Around (within w s n) (within v t m)
+around-within w v s t n m e a = record {
   number = ap (λ k. k + 1) (a .number);
-  instructions = ap (λ k. k + n) (a .instructions);
+  instructions = ap₂ _+_ (a .instructions) e;
   depth = ap (λ k. k + 1) (a .depth);
   parent = a .number;
 }

@@ -6,6 +6,7 @@ use mathlib.Core.Path.{_≡_, refl, sym, _∙_, ap, ap₂}
 use mathlib.Core.List.{List, [], _∷_, _++_, append-nil, foldr}
 use mathlib.Core.Option.{Option, none, some}
 use Prim.Native.Nat.{ℕ, zero, suc, _≤_}
+use lib.ListN.{length}
 use lib.Seq.{take-at, drop-at}
 use Rattle.format.specs.declared.limits.ResourceLimits.{ResourceLimits}
 use Rattle.format.specs.Form.{Bytes, Form}
@@ -58,7 +59,7 @@ body-copies L l src one w v a =
     number-copies λ protos.
     given-copies (λ h. h) (
     here-copies λ protos-at protos-at′.
-    then-copies (forest-copies protos _ _ (around-within w v _ _ size a) one) λ inner inner′ c e.
+    then-copies (forest-copies protos _ _ (around-within w v _ _ (length instructions) (length instructions′) (ap length (sym (unmap instructions′ instructions (q₁ .1)))) a) one) λ inner inner′ c e.
     number-copies λ line-info-size.
     here-copies λ line-info-at line-info-at′.
     run-copies λ line-info h.

@@ -5,6 +5,7 @@ use mathlib.Core.Bool.{Bool, true, false}
 use mathlib.Core.List.{List, [], _∷_, _++_}
 use Prim.Native.Nat.{ℕ, zero, suc, _+_}
 use lib.Dec.{eqb}
+use lib.ListN.{length}
 use Rattle.format.specs.declared.limits.ResourceLimits.{ResourceLimits}
 use Rattle.format.specs.declared.refusal.Refusal.{Refusal}
 use Rattle.format.specs.declared.refusal.Refusal.the-variants.{ConstantTag, Instructions, TotalInstructions, Constants, Upvalues, Prototypes, TotalPrototypes}
@@ -92,7 +93,7 @@ exact-body L one w =
     exact-then exact-number λ protos.
     exact-then (exact-atMost protos (L .«max_total_prototypes») (Prototypes first)) λ _.
     exact-then exact-here λ protos-at.
-    exact-then (exact-forest protos (within w (inherit spelt (w .source)) size) one) λ nested.
+    exact-then (exact-forest protos (within w (inherit spelt (w .source)) (length instructions)) one) λ nested.
     exact-then exact-number λ line-info-size.
     exact-then exact-here λ line-info-at.
     exact-then (exact-run line-info-size) λ line-info.

@@ -184,7 +184,7 @@ body-fits L one w =
     every-then every-number λ protos h6.
     every-then any λ _ _.
     every-then any λ protos-at _.
-    every-then (forest-fits protos (within w (inherit spelt (w .source)) size) one) λ nested rest.
+    every-then (forest-fits protos (within w (inherit spelt (w .source)) (length instructions)) one) λ nested rest.
     every-then every-number λ line-info-size h7.
     every-then any λ line-info-at _.
     every-then (every-run line-info-size) λ line-info k7.

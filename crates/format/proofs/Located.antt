@@ -140,7 +140,7 @@ module _ (L : ResourceLimits) (s : Bytes) where
       at-then exact-number any λ protos _ _.
       at-then (exact-atMost protos (L .«max_total_prototypes») (Prototypes first)) any λ _ _ _.
       at-here λ protos-at.
-      at-then (exact-forest protos (within w (inherit spelt (w .source)) size) exact) (at-forest protos (within w (inherit spelt (w .source)) size) exact one) λ nested _ rest.
+      at-then (exact-forest protos (within w (inherit spelt (w .source)) (length instructions)) exact) (at-forest protos (within w (inherit spelt (w .source)) (length instructions)) exact one) λ nested _ rest.
       at-then exact-number any λ line-info-size _ _.
       at-here λ line-info-at.
       at-then (exact-run line-info-size) (at-run line-info-size) λ line-info _ h4.

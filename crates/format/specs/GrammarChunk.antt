@@ -151,7 +151,7 @@ Body L F w = do
   protos ← Number
   Given (protos ≤ L .«max_total_prototypes»)
   protos-at ← Here
-  nested ← Forest protos F (within w (inherit spelt (w .source)) size)
+  nested ← Forest protos F (within w (inherit spelt (w .source)) (length instructions))
   line-info-size ← Number
   line-info-at ← Here
   line-info ← Run line-info-size

@@ -131,7 +131,7 @@ body L r w = do
   protos ← number
   atMost protos (L .«max_total_prototypes») (Prototypes first)
   protos-at ← here
-  nested ← forest protos r (within w (inherit spelt (w .source)) size)
+  nested ← forest protos r (within w (inherit spelt (w .source)) (length instructions))
   line-info-size ← number
   line-info-at ← here
   line-info ← run line-info-size
