@@ -5,9 +5,32 @@ use mathlib.Core.Bool.{Bool, true, false}
 use mathlib.Core.List.{List, [], _∷_, _++_, map}
 use mathlib.Core.Option.{Option, none, some}
 use Prim.Native.Nat.{ℕ}
-use lib.ListN.{replicate, take}
+use lib.ListN.{length, replicate, set, take}
 use Rattle.format.specs.declared.limits.ResourceLimits.{ResourceLimits}
-use Rattle.format.specs.declared.refusal.Refusal.the-variants.{Truncated, Overflow, InputBytes, LimitAboveCeiling, NestingDepth, TotalPrototypes, Prototypes, TotalInstructions}
+use Rattle.format.specs.declared.refusal.Refusal.the-variants.{
+  Truncated,
+  Overflow,
+  Signature,
+  Version,
+  LuacData,
+  InstructionSize,
+  LuaIntegerSize,
+  LuaNumberSize,
+  LuacInt,
+  LuacNum,
+  ConstantTag,
+  StringBytes,
+  Instructions,
+  TotalInstructions,
+  Constants,
+  Upvalues,
+  Prototypes,
+  NestingDepth,
+  TotalPrototypes,
+  InputBytes,
+  LimitAboveCeiling,
+}
+use Rattle.format.specs.declared.header.Warning.{Warning}
 use Rattle.format.specs.declared.header.Warning.the-variants.{NonStandardFormat, TrailingBytes}
 use Rattle.format.specs.Form.{Bytes}
 use Rattle.format.specs.GrammarFields.{LuaString}
@@ -179,21 +202,53 @@ nested-functions =
     }
     ∷ []
 
-nested-reading : Reading
+-- with these warnings
+warned-reading : List Warning → Reading
 unfolding nested-functions ab empty
-nested-reading = record {
+warned-reading warnings = record {
   header = headerOf 1;
-  warnings = NonStandardFormat 5 ∷ TrailingBytes 120 ∷ [];
+  warnings = warnings;
   functions = nested-functions;
   trailing-at = 120;
   trailing = 9 ∷ [];
 }
+
+nested-reading : Reading
+unfolding warned-reading nested-functions ab empty
+nested-reading = warned-reading (NonStandardFormat 5 ∷ TrailingBytes 120 ∷ [])
+
+-- ## Main and two functions side by side in it, each with one word
+sibling : Bytes
+sibling = 0x80 ∷ 0x80 ∷ 0x80 ∷ 0 ∷ 0 ∷ 2 ∷ 0x81 ∷ 0 ∷ 0 ∷ 0 ∷ 0 ∷ replicate 7 0x80
+
+siblings : Bytes
+unfolding header sibling
+siblings = header 0 ++ 0 ∷ 0x80 ∷ 0x80 ∷ 0x80 ∷ 0 ∷ 0 ∷ 2 ∷ 0x81 ∷ 0 ∷ 0 ∷ 0 ∷ 0 ∷ 0x80 ∷ 0x80 ∷ 0x82 ∷ sibling ++ sibling ++ 0x80 ∷ 0x80 ∷ 0x80 ∷ 0x80 ∷ []
+
+-- ## A constant whose tag is none
+tagged : Bytes
+unfolding header
+tagged = header 0 ++ 0 ∷ 0x80 ∷ 0x80 ∷ 0x80 ∷ 0 ∷ 0 ∷ 2 ∷ 0x80 ∷ 0x81 ∷ 2 ∷ []
 
 -- ## The cases
 record Case : Type 0 where
   limits : ResourceLimits
   input : Bytes
   result : Outcome
+
+-- the ceilings with other limits of instructions, constants and upvalues in a function, string bytes and diagnostics
+entries : ℕ → ℕ → ℕ → ℕ → ℕ → ResourceLimits
+entries instructions constants upvalues bytes diagnostics = record {
+  «max_input_bytes» = 16777216;
+  «max_nesting_depth» = 200;
+  «max_total_prototypes» = 16777216;
+  «max_instructions_per_proto» = instructions;
+  «max_total_instructions» = 16777216;
+  «max_constants_per_proto» = constants;
+  «max_upvalues_per_proto» = upvalues;
+  «max_string_bytes» = bytes;
+  «max_diagnostics» = diagnostics;
+}
 
 -- the ceilings with other limits of nesting, nested functions, instructions in all and input
 limited : ℕ → ℕ → ℕ → ℕ → ResourceLimits
@@ -210,7 +265,7 @@ limited nesting functions instructions input = record {
 }
 
 cases : List Case
-unfolding header small small-reading empty deltas grandchild child second nested ab nested-functions nested-reading limited
+unfolding header small small-reading empty deltas grandchild child second nested ab nested-functions warned-reading nested-reading sibling siblings tagged entries limited
 cases =
     record { limits = ceilings; input = small; result = shown small-reading }
     ∷ record { limits = ceilings; input = take 45 small; result = refusal (Truncated 45) }
@@ -226,10 +281,30 @@ cases =
     ∷ record { limits = limited 2 3 0 121; input = nested; result = refusal (TotalInstructions 40) }
     ∷ record { limits = limited 2 3 1 120; input = nested; result = refusal InputBytes }
     ∷ record { limits = limited 201 3 1 120; input = nested; result = refusal LimitAboveCeiling }
+    ∷ record { limits = entries 0 2 1 2 2; input = nested; result = refusal (Instructions 40) }
+    ∷ record { limits = entries 1 1 1 2 2; input = nested; result = refusal (Constants 45) }
+    ∷ record { limits = entries 1 2 0 2 2; input = nested; result = refusal (Upvalues 58) }
+    ∷ record { limits = entries 1 2 1 1 2; input = nested; result = refusal (StringBytes 32) }
+    ∷ record { limits = entries 1 2 1 2 2; input = nested; result = shown nested-reading }
+    ∷ record { limits = entries 1 2 1 2 1; input = nested; result = shown (warned-reading (NonStandardFormat 5 ∷ [])) }
+    ∷ record { limits = entries 1 2 1 2 0; input = nested; result = shown (warned-reading []) }
+    ∷ record { limits = limited 200 2 2 200; input = siblings; result = refusal (TotalInstructions 70) }
+    ∷ record { limits = limited 200 2 1 200; input = siblings; result = refusal (TotalInstructions 52) }
+    ∷ record { limits = limited 200 1 3 200; input = siblings; result = refusal (Prototypes 45) }
+    ∷ record { limits = ceilings; input = tagged; result = refusal (ConstantTag 40) }
+    ∷ record { limits = ceilings; input = set small 0 0x1a; result = refusal (Signature 0) }
+    ∷ record { limits = ceilings; input = set small 3 0x62; result = refusal (Signature 0) }
+    ∷ record { limits = ceilings; input = set small 4 0x53; result = refusal (Version 4) }
+    ∷ record { limits = ceilings; input = set small 11 0x0b; result = refusal (LuacData 6) }
+    ∷ record { limits = ceilings; input = set small 12 8; result = refusal (InstructionSize 12) }
+    ∷ record { limits = ceilings; input = set small 13 4; result = refusal (LuaIntegerSize 13) }
+    ∷ record { limits = ceilings; input = set small 14 4; result = refusal (LuaNumberSize 14) }
+    ∷ record { limits = ceilings; input = set small 22 1; result = refusal (LuacInt 15) }
+    ∷ record { limits = ceilings; input = set small 30 0xc0; result = refusal (LuacNum 23) }
     ∷ []
 
 cases-hold : map (λ (c : Case). read (c .limits) (c .input)) cases ≡ map (λ (c : Case). c .result) cases
-unfolding cases read body function header small small-reading empty deltas grandchild child second nested ab nested-functions nested-reading limited
+unfolding cases read body function header small small-reading empty deltas grandchild child second nested ab nested-functions warned-reading nested-reading sibling siblings tagged entries limited
 cases-hold = refl
 
 -- the copies: format 0, byte 31 is main's one upvalue, nested sources absent, the absent local name written as `?`
@@ -246,6 +321,15 @@ copied =
     ++ 0x80 ∷ 0x80 ∷ 0x80 ∷ 0x80 ∷ 9 ∷ [])
     ∷ []
 
+-- three functions, where the total of instructions is not above the limit
+functionsOf : Outcome → ℕ
+functionsOf (shown r) = length (r .functions)
+functionsOf (refusal q) = 0
+
+siblings-read : functionsOf (read (limited 200 2 3 200) siblings) ≡ 3
+unfolding functionsOf read body function header sibling siblings limited
+siblings-read = refl
+
 copies-hold : copy small-reading ∷ copy nested-reading ∷ [] ≡ copied
-unfolding copied copy behindSource listBytes shortest mathlib.Core.List.flatten header small small-reading empty nested-functions nested-reading ab
+unfolding copied copy behindSource listBytes shortest mathlib.Core.List.flatten header small small-reading empty nested-functions warned-reading nested-reading ab
 copies-hold = refl

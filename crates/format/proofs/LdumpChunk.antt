@@ -1,5 +1,6 @@
--- The copy of a function behind its source is what ldump.c's `dumpFunction` writes there, where every number fits a size_t, as it does in what was read.
--- 01 parts from ldump.c in the sources alone: a nested one is absent in the copy, where `dumpFunction` writes one that differs from its parent's.
+-- The copy of a function behind its source is what ldump.c's `dumpFunction` writes there, where it has as many upvalue names as upvalues and every number fits a
+-- size_t, as it does in what was read. So 01 parts from ldump.c in three things: a nested source is absent in the copy, where `dumpFunction` writes one that differs from
+-- its parent's; the copy has the upvalue names that were read, where `dumpFunction` writes as many as upvalues; and an absent local name is `?` in the copy.
 -- Assumes nothing.
 use mathlib.Core.Path.{_≡_, refl, sym, _∙_, ap, ap₂}
 use mathlib.Core.Bool.{Bool, true, false}
@@ -13,7 +14,7 @@ use Rattle.format.specs.declared.entry.AbsLineInfo.{AbsLineInfo}
 use Rattle.format.specs.Reading.{ConstantValue, nil, boolean, integer, float, short-string, long-string, LocalVar, Prototype, Reading}
 use Rattle.format.specs.Copy.{fieldBytes, stringBytes, optionBytes, constantBytes, upvalueBytes, anchorBytes, localBytes, listBytes, behindSource}
 use Rattle.format.specs.Shortest.{shortest}
-use Rattle.format.specs.LdumpFunctions.{dumpString, dumpEach, dumpConstant, dumpUpvalue, dumpAbsLineInfo, dumpLocVar, dumpFunction}
+use Rattle.format.specs.LdumpFunctions.{dumpString, dumpEach, dumpConstant, dumpUpvalue, dumpAbsLineInfo, dumpLocVar, upvalueNames, dumpFunction}
 use Rattle.format.specs.declared.limits.ResourceLimits.{ResourceLimits}
 use Rattle.format.specs.Form.{Bytes, Form}
 use Rattle.format.specs.GrammarFields.{LuaString, Content, String}
@@ -94,10 +95,16 @@ all-any (x ∷ xs) = (tt, all-any xs)
 plain-is : {A : Type 0} (f : A → Bytes) (xs : List A) → Fits (length xs) → dumpEach f xs ≡ listBytes f xs
 plain-is f xs h = list-is f f (λ x _. refl) xs (h, all-any xs)
 
-pub copied-as-dumped : (source : Bytes) (p : Prototype) (nested : Bytes) → FunctionFits p → dumpFunction source p nested ≡ source ++ behindSource p nested
+all-named : (names : List (Option LuaString)) → upvalueNames (length names) names ≡ names
+all-named [] = refl
+all-named (name ∷ names) = ap (λ l. name ∷ l) (all-named names)
+
+pub copied-as-dumped : (source : Bytes) (p : Prototype) (nested : Bytes) → FunctionFits p → length (p .upvalues) ≡ length (p .upvalue-names)
+    → dumpFunction source p nested ≡ source ++ behindSource p nested
 unfolding behindSource
-copied-as-dumped source p nested h =
-    rw (
+copied-as-dumped source p nested h same =
+    let names : upvalueNames (length (p .upvalues)) (p .upvalue-names) ≡ p .upvalue-names = rw same (all-named (p .upvalue-names)) in
+    rw (names, 
       dumped (p .line-defined) (h .line-defined),
       dumped (p .last-line-defined) (h .last-line-defined),
       plain-is (fieldBytes 4) (p .instructions) (h .instructions),

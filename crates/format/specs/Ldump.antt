@@ -1,4 +1,4 @@
--- From ldump.c (Lua 5.4), close to the text: how Lua itself writes a number. A size_t has 64 bits.
+-- From ldump.c (Lua 5.4.4), close to the text: how Lua itself writes a number. A size_t has 64 bits.
 use mathlib.Core.List.{List, [], _∷_}
 use Prim.Native.Nat.{ℕ, zero, suc, _+_, _/_, _^_}
 use lib.Bits.{bitAnd, bitOr}

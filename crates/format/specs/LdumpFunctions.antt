@@ -1,9 +1,9 @@
--- From ldump.c (Lua 5.4), close to the text: what `dumpFunction` writes of a function, each part under the name of its C function. (Not stripped.)
--- `proofs/LdumpChunk.antt` shows that the copy of a function behind its source is this, and where 01 makes the sources differ.
+-- From ldump.c (Lua 5.4.4), close to the text: what `dumpFunction` writes of a function, each part under the name of its C function. (Not stripped.)
+-- `proofs/LdumpChunk.antt` shows that the copy of a function behind its source is this, where it has as many upvalue names as upvalues.
 use mathlib.Core.Bool.{Bool, true, false}
 use mathlib.Core.List.{List, [], _∷_, _++_, map, flatten}
 use mathlib.Core.Option.{Option, none, some}
-use Prim.Native.Nat.{ℕ, suc}
+use Prim.Native.Nat.{ℕ, zero, suc}
 use lib.ListN.{length}
 use Rattle.format.specs.declared.entry.UpvalueDesc.{UpvalueDesc}
 use Rattle.format.specs.declared.entry.AbsLineInfo.{AbsLineInfo}
@@ -58,13 +58,20 @@ dumpProtos f nested = dumpInt (f .protos) ++ nested
 abbrev pub dumpAbsLineInfo : AbsLineInfo → Bytes
 dumpAbsLineInfo a = dumpInt (a .pc) ++ dumpInt (a .line)
 
+-- `f->locvars[i].varname`; one that is NULL is dumped as NULL, where our reading, and so our copy, has `?`
 abbrev pub dumpLocVar : LocalVar → Bytes
 dumpLocVar l = dumpString (some (l .name)) ++ (dumpInt (l .startpc) ++ dumpInt (l .endpc))
+
+-- n = f->sizeupvalues names, `f->upvalues[i].name`: those that were loaded, NULL for the others
+abbrev pub upvalueNames : ℕ → List (Option LuaString) → List (Option LuaString)
+upvalueNames zero names = []
+upvalueNames (suc n) [] = none ∷ upvalueNames n []
+upvalueNames (suc n) (name ∷ names) = name ∷ upvalueNames n names
 
 abbrev pub dumpDebug : Prototype → Bytes
 dumpDebug f =
     dumpInt (length (f .line-info)) ++ (f .line-info
-    ++ (dumpEach dumpAbsLineInfo (f .abs-line-info) ++ (dumpEach dumpLocVar (f .loc-vars) ++ dumpEach dumpString (f .upvalue-names))))
+    ++ (dumpEach dumpAbsLineInfo (f .abs-line-info) ++ (dumpEach dumpLocVar (f .loc-vars) ++ dumpEach dumpString (upvalueNames (length (f .upvalues)) (f .upvalue-names)))))
 
 -- if (D->strip || f->source == psource) dumpString(D, NULL); else dumpString(D, f->source): `source` is what that writes
 abbrev pub dumpFunction : Bytes → Prototype → Bytes → Bytes

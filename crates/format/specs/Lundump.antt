@@ -1,4 +1,4 @@
--- From lundump.c (Lua 5.4), close to the text: how Lua's own loader reads a number. A size_t has 64 bits.
+-- From lundump.c (Lua 5.4.4), close to the text: how Lua's own loader reads a number. A size_t has 64 bits.
 use mathlib.Core.List.{List, [], _∷_}
 use Prim.Native.Nat.{ℕ, _*_, _-_, _/_, _%_, _^_}
 use lib.Bits.{bitAnd, bitOr}

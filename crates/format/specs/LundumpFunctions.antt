@@ -1,4 +1,4 @@
--- From lundump.c (Lua 5.4), close to the text: the order and the parts in which Lua's own loader takes a chunk. Each form has the name of its C function:
+-- From lundump.c (Lua 5.4.4), close to the text: the order and the parts in which Lua's own loader takes a chunk. Each form has the name of its C function:
 -- the bytes that the function takes, and what it makes of them. A Proto is shown as our `Prototype`, and a tree of them as the list of its functions.
 -- Where 01 makes ours differ is said at each. `proofs/LundumpParts.antt` shows of the parts that what these take, our grammar takes, with the same value; that a
 -- function has the same parts in the same order is to be seen by laying `LoadFunction` beside `Body` (GrammarChunk.antt).
@@ -63,26 +63,31 @@ LoadVector F = do
 abbrev pub LoadCode : Form (Listed ℕ)
 LoadCode = LoadVector (Field 4)
 
+-- The strings are told apart by their tag, as ours; Lua then keeps a string short or long by its length, whatever its tag.
 -- switch (t): LUA_VNIL 0, LUA_VFALSE 1, LUA_VTRUE 17, LUA_VNUMINT 3, LUA_VNUMFLT 19, LUA_VSHRSTR 4, LUA_VLNGSTR 20
+abbrev pub LoadTagged : ℕ → Form ConstantValue
+LoadTagged t =
+    When (eqb t 0) (Is nil)
+    (When (eqb t 1) (Is (boolean false))
+    (When (eqb t 17) (Is (boolean true))
+    (When (eqb t 3) (do
+      n ← Field 8
+      Is (integer n))
+    (When (eqb t 19) (do
+      n ← Field 8
+      Is (float n))
+    (When (eqb t 4) (do
+      st ← LoadString
+      Is (short-string st))
+    (When (eqb t 20) (do
+      st ← LoadString
+      Is (long-string st))
+    Nothing))))))
+
 abbrev pub LoadConstant : Form ConstantValue
 LoadConstant = do
   t ← LoadByte
-  When (eqb t 0) (Is nil)
-      (When (eqb t 1) (Is (boolean false))
-      (When (eqb t 17) (Is (boolean true))
-      (When (eqb t 3) (do
-        n ← Field 8
-        Is (integer n))
-      (When (eqb t 19) (do
-        n ← Field 8
-        Is (float n))
-      (When (eqb t 4) (do
-        st ← LoadString
-        Is (short-string st))
-      (When (eqb t 20) (do
-        st ← LoadString
-        Is (long-string st))
-      Nothing))))))
+  LoadTagged t
 
 abbrev pub LoadConstants : Form (Listed ConstantValue)
 LoadConstants = LoadVector LoadConstant
