@@ -1,4 +1,4 @@
-// Requests: what a line asks for. A line that is not spelt as PROTOCOL says is no request.
+// Requests: what a line asks for. A line that is not spelt as docs/PROTOCOL.md says is no request.
 use luad_core::limits::ResourceLimits;
 use luad_dialect_lua54::opcodes::{Opcode54, RawInstruction54};
 use std::slice::Split;

@@ -104,7 +104,8 @@ pub copied-as-dumped : (source : Bytes) (p : Prototype) (nested : Bytes) → Fun
 unfolding behindSource
 copied-as-dumped source p nested h same =
     let names : upvalueNames (length (p .upvalues)) (p .upvalue-names) ≡ p .upvalue-names = rw same (all-named (p .upvalue-names)) in
-    rw (names, 
+    rw (
+      names,
       dumped (p .line-defined) (h .line-defined),
       dumped (p .last-line-defined) (h .last-line-defined),
       plain-is (fieldBytes 4) (p .instructions) (h .instructions),

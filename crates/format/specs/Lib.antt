@@ -1,6 +1,7 @@
 pub mod Pick
 pub mod Limits
 pub mod Refusals
+pub mod Warnings
 pub mod Form
 pub mod GrammarFields
 pub mod GrammarHeader

@@ -1,4 +1,6 @@
 // What a chunk's header shows, and the warnings of a reading.
+ghost use mathlib.Core.Path.{_≡_};
+ghost use Rattle.format.specs.Warnings.{warned};
 
 // The Rust's `Header`, without its texts: `signature` and `luac_data` are the same in every file that is read.
 pub struct Header {
@@ -20,4 +22,34 @@ pub enum Warning {
     NonStandardFormat(usize),
     // L54-CHUNK-001.
     TrailingBytes(usize),
+}
+
+// The code of the Rust's diagnostic.
+pub enum WarningCode {
+    L54Header003,
+    L54Chunk001,
+}
+
+// A warning's code and place.
+pub struct WarningReport {
+    pub code: WarningCode,
+    pub place: usize,
+}
+
+impl Warning {
+    // Ruled out: the two codes exchanged, a place of 0.
+    pub fn report(self) -> WarningReport
+        ensures { λ r. ⌜ r ≡ warned self ⌝ }
+    {
+        match self {
+            Warning::NonStandardFormat(place) => WarningReport {
+                code: WarningCode::L54Header003,
+                place: place,
+            },
+            Warning::TrailingBytes(place) => WarningReport {
+                code: WarningCode::L54Chunk001,
+                place: place,
+            },
+        }
+    }
 }
