@@ -1,2 +1,4 @@
 pub mod Turns
 pub mod FixedWidth
+pub mod Signed
+pub mod Constants

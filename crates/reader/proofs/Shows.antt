@@ -29,6 +29,12 @@ pub record Was {A : Type 0} (o : Read A) (x : A) (to : ℕ) : Type 0 where
   pub rest : Bytes
   pub is : o ≡ ok x to rest
 
+-- and of the value only what is shown of it
+pub record Showed {A B : Type 0} (of : A → B) (o : Read A) (shown : B) (to : ℕ) : Type 0 where
+  pub value : A
+  pub was : Was o value to
+  pub shows : shown ≡ of value
+
 -- the rest is the slice from the next place on
 pub onward : {A : Type 0} {r : Reader A} {F : Form A} → Exact r F → (s : Bytes) (at : ℕ) {x : A} {to : ℕ} → Was (r at (drop at s)) x to → r at (drop at s) ≡ ok x to (drop to s)
 onward exact s at {x} {to} w = w .is ∙ ap (λ rest. ok x to rest) (left exact s at (w .is))
@@ -71,13 +77,7 @@ pub string-err : (o : Read (Option LuaString)) (q : Refusal) → string.Err q �
 string-err (ok t to rest) q e = absurd (let z : _≡_ {A = ℕ} 0 1 = cc in omega arith)
 string-err (refused p) q e = cc
 
--- of a string only its place and length are known
-pub record WasString (o : Read (Option LuaString)) (shown : OptionString) (to : ℕ) : Type 0 where
-  pub value : Option LuaString
-  pub was : Was o value to
-  pub shows : shown ≡ optionString value
-
-pub string-ok : (o : Read (Option LuaString)) (shown : OptionString) (c : Cursor) → string.Ok shown c ≡ shownString o → WasString o shown (c .at)
+pub string-ok : (o : Read (Option LuaString)) (shown : OptionString) (c : Cursor) → string.Ok shown c ≡ shownString o → Showed optionString o shown (c .at)
 string-ok (ok t to rest) shown c e =
     let next : c ≡ cursorAt to = cc in
     record { value = t; was = record { rest = rest; is = rw next }; shows = cc }
