@@ -4,6 +4,7 @@ use lib.ListN.{length}
 use mir.Syntax.{w64}
 use mir.Val.{toZ}
 use Rattle.format.specs.GrammarFields.{LuaString}
+use Rattle.format.specs.declared.entry.AbsLineInfo.{AbsLineInfo}
 use Rattle.format.specs.Reading as reading
 use Rattle.format.specs.Read.{Read, ok, refused}
 use Rattle.reader.specs.declared.string.OptionString.{OptionString}
@@ -13,11 +14,16 @@ use Rattle.reader.specs.declared.string.StringResult.{StringResult}
 use Rattle.reader.specs.declared.string.StringResult.the-variants as string
 use Rattle.reader.specs.declared.field.U64Result.{U64Result}
 use Rattle.reader.specs.declared.field.U64Result.the-variants as u64
-use Rattle.reader.specs.Shown.{cursorAt}
+use Rattle.reader.specs.Shown.{cursorAt, optionString}
 use Rattle.lists.specs.declared.constant.ConstantValue.{ConstantValue}
 use Rattle.lists.specs.declared.constant.ConstantValue.the-variants as constant
 use Rattle.lists.specs.declared.constant.ConstantResult.{ConstantResult}
 use Rattle.lists.specs.declared.constant.ConstantResult.the-variants as answer
+use Rattle.lists.specs.declared.debug.AnchorResult.{AnchorResult}
+use Rattle.lists.specs.declared.debug.AnchorResult.the-variants as anchor
+use Rattle.lists.specs.declared.debug.LocalResult.{LocalResult}
+use Rattle.lists.specs.declared.debug.LocalResult.the-variants as local
+use Rattle.lists.specs.Readers.{RawLocal}
 
 -- ## Constants
 -- a string, or where it is absent an empty one at the place behind its size
@@ -58,3 +64,12 @@ constantValue (reading.long-string t) = constant.LongString (stringAt t)
 abbrev pub shownConstant : Read reading.ConstantValue → ConstantResult
 shownConstant (ok k to rest) = answer.Ok (constantValue k) (cursorAt to)
 shownConstant (refused q) = answer.Err q
+
+-- ## Debug information
+abbrev pub shownAnchor : Read AbsLineInfo → AnchorResult
+shownAnchor (ok a to rest) = anchor.Ok a (cursorAt to)
+shownAnchor (refused q) = anchor.Err q
+
+abbrev pub shownLocal : Read RawLocal → LocalResult
+shownLocal (ok l to rest) = local.Ok (optionString (l .name)) (l .startpc) (l .endpc) (cursorAt to)
+shownLocal (refused q) = local.Err q
