@@ -1,5 +1,5 @@
 -- `lists::constant::skip_constants` meets its contract. The invariant: what all constants show those left show (`Turns.antt`). Assumes nothing.
-use mathlib.Core.Path.{refl}
+use mathlib.Core.Path.{refl, sym, _∙_}
 use native.Mathlib.Omega.{arith}
 use borrow.Author.Needs.{needs}
 use lib.ListN.{drop}
@@ -16,35 +16,22 @@ Inv-loop s n max-string-bytes next₀ left₀ next left = Rest (constant max-str
 abbrev μ-loop : tie.MeasureT-loop
 μ-loop s n max-string-bytes next₀ left₀ next left = left
 
-returns : tie.Need-returns Inv-loop μ-loop
-returns c =
-    let a = c .before .before .before .before .before .before .before .args in
-    let l = c .before .before .before .before .before .loop in
-    let r = constant (a .max-string-bytes) in
-    stops r (a .s .now) (a .n) (a .cursor .at) (l .left) (l .next .at) (l .inv) (omega arith) _ (constant-err (r (l .next .at) (drop (l .next .at) (a .s .now))) _ (cc))
-
-loop-again : tie.Need-loop-again Inv-loop μ-loop
-loop-again c =
-    let a = c .before .before .before .before .before .before .before .args in
-    let l = c .before .before .before .before .before .loop in
-    let r = constant (a .max-string-bytes) in
-    goes-on r (a .s .now) (a .n) (a .cursor .at) (l .left) (l .next .at) (l .inv) (omega arith) (exact-constant (a .max-string-bytes))
-    (constant-ok (r (l .next .at) (drop (l .next .at) (a .s .now))) (c .before .read2 .given .0 .0) (c .before .read2 .given .0 .1 .0) (cc) .was)
-
 pub skip-constants-spec : {M : Type 1} → statement M
 skip-constants-spec =
     tie.close
     (tie.spec
     Inv-loop
     μ-loop
-    (λ c. refl)
-    (λ c κs. search needs)
-    (λ c. search needs)
-    returns
-    (λ c. search needs)
-    (λ c. search needs)
-    (λ c. search needs)
-    loop-again
+    (λ c. refl) (λ c κs. search needs) (λ c. search needs)
+    (λ c.
+    let a = c .before .before .before .before .before .before .before .args in
+    let l = c .before .before .before .before .before .loop in
+    stops (constant (a .max-string-bytes)) (a .s .now) (a .n) (a .cursor .at) (l .left) (l .next .at) (l .inv) (omega arith) _ (constant-err (constant (a .max-string-bytes) (l .next .at) (drop (l .next .at) (a .s .now))) _ (sym (c .before .read .given .1) ∙ c .before .before .before .read-constant .ensures)))
+    (λ c. search needs) (λ c. search needs) (λ c. search needs)
+    (λ c.
+    let a = c .before .before .before .before .before .before .before .args in
+    let l = c .before .before .before .before .before .loop in
+    goes-on (constant (a .max-string-bytes)) (a .s .now) (a .n) (a .cursor .at) (l .left) (l .next .at) (l .inv) (omega arith) (exact-constant (a .max-string-bytes)) (constant-ok (constant (a .max-string-bytes) (l .next .at) (drop (l .next .at) (a .s .now))) _ _ (sym (c .before .read2 .given .1) ∙ c .before .before .before .read-constant .ensures) .was))
     (λ c.
     let a = c .before .before .before .args in
     let l = c .before .loop in

@@ -1,5 +1,5 @@
 -- `lists::strings::skip_strings` meets its contract. The invariant: what all strings show those left show (`Turns.antt`). Assumes nothing.
-use mathlib.Core.Path.{refl}
+use mathlib.Core.Path.{refl, sym, _∙_}
 use native.Mathlib.Omega.{arith}
 use borrow.Author.Needs.{needs}
 use lib.ListN.{drop}
@@ -16,35 +16,22 @@ Inv-loop s n max-string-bytes next₀ left₀ next left = Rest (string max-strin
 abbrev μ-loop : tie.MeasureT-loop
 μ-loop s n max-string-bytes next₀ left₀ next left = left
 
-returns : tie.Need-returns Inv-loop μ-loop
-returns c =
-    let a = c .before .before .before .before .before .before .before .args in
-    let l = c .before .before .before .before .before .loop in
-    let r = string (a .max-string-bytes) in
-    stops r (a .s .now) (a .n) (a .cursor .at) (l .left) (l .next .at) (l .inv) (omega arith) _ (string-err (r (l .next .at) (drop (l .next .at) (a .s .now))) _ (cc))
-
-loop-again : tie.Need-loop-again Inv-loop μ-loop
-loop-again c =
-    let a = c .before .before .before .before .before .before .before .args in
-    let l = c .before .before .before .before .before .loop in
-    let r = string (a .max-string-bytes) in
-    goes-on r (a .s .now) (a .n) (a .cursor .at) (l .left) (l .next .at) (l .inv) (omega arith) (exact-string (a .max-string-bytes))
-    (string-ok (r (l .next .at) (drop (l .next .at) (a .s .now))) (c .before .read2 .given .0 .0) (c .before .read2 .given .0 .1 .0) (cc) .was)
-
 pub skip-strings-spec : {M : Type 1} → statement M
 skip-strings-spec =
     tie.close
     (tie.spec
     Inv-loop
     μ-loop
-    (λ c. refl)
-    (λ c κs. search needs)
-    (λ c. search needs)
-    returns
-    (λ c. search needs)
-    (λ c. search needs)
-    (λ c. search needs)
-    loop-again
+    (λ c. refl) (λ c κs. search needs) (λ c. search needs)
+    (λ c.
+    let a = c .before .before .before .before .before .before .before .args in
+    let l = c .before .before .before .before .before .loop in
+    stops (string (a .max-string-bytes)) (a .s .now) (a .n) (a .cursor .at) (l .left) (l .next .at) (l .inv) (omega arith) _ (string-err (string (a .max-string-bytes) (l .next .at) (drop (l .next .at) (a .s .now))) _ (sym (c .before .read .given .1) ∙ c .before .before .before .read-string-lua54 .ensures)))
+    (λ c. search needs) (λ c. search needs) (λ c. search needs)
+    (λ c.
+    let a = c .before .before .before .before .before .before .before .args in
+    let l = c .before .before .before .before .before .loop in
+    goes-on (string (a .max-string-bytes)) (a .s .now) (a .n) (a .cursor .at) (l .left) (l .next .at) (l .inv) (omega arith) (exact-string (a .max-string-bytes)) (string-ok (string (a .max-string-bytes) (l .next .at) (drop (l .next .at) (a .s .now))) _ _ (sym (c .before .read2 .given .1) ∙ c .before .before .before .read-string-lua54 .ensures) .was))
     (λ c.
     let a = c .before .before .before .args in
     let l = c .before .loop in
