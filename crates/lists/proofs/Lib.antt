@@ -3,3 +3,4 @@ pub mod FixedWidth
 pub mod Signed
 pub mod Constants
 pub mod DebugInfo
+pub mod Listing
