@@ -4,3 +4,4 @@ pub mod Signed
 pub mod Constants
 pub mod DebugInfo
 pub mod Listing
+pub mod Counts

@@ -66,19 +66,19 @@ module _ {A : Type 0} {count : Reader ℕ} {F : Form ℕ} (exact : Exact count F
       (listed-shown v (c .at) (r v (c .at) (drop (c .at) s)) (λ xs to rest d. sized v .size (c .at) (drop (c .at) s) d))
 
 -- ## A count up to a limit
-abbrev CountUpTo : ℕ → Form ℕ
+abbrev pub CountUpTo : ℕ → Form ℕ
 CountUpTo limit = Then Number λ n. Then (Given (n ≤ limit)) λ _. Is n
 
-exact-countUpTo : (limit : ℕ) (refusal : Refusal) → Exact (countUpTo limit refusal) (CountUpTo limit)
+pub exact-countUpTo : (limit : ℕ) (refusal : Refusal) → Exact (countUpTo limit refusal) (CountUpTo limit)
 exact-countUpTo limit refusal = exact-then exact-number λ n. exact-then (exact-atMost n limit refusal) λ _. exact-give n
 
 module _ (limit : ℕ) (refusal : Refusal) (s : Bytes) (at : ℕ) where
-  pub limit-refused : (q : Refusal) → u64.Err q ≡ shownU64 (number at (drop at s)) → u64.Err q ≡ shownU64 (countUpTo limit refusal at (drop at s))
-  limit-refused q e = rw (u64-err (number at (drop at s)) q e)
+  pub limit-refused : {z : U64Result} {q : Refusal} → z ≡ u64.Err q → z ≡ shownU64 (number at (drop at s)) → z ≡ shownU64 (countUpTo limit refusal at (drop at s))
+  limit-refused {q} told e = rw (u64-err (number at (drop at s)) q (sym told ∙ e)) told
 
-  module _ (v : ℕ) (c : Cursor) (e : u64.Ok v c ≡ shownU64 (number at (drop at s))) where
+  module _ {z : U64Result} {v : ℕ} {c : Cursor} (told : z ≡ u64.Ok v c) (e : z ≡ shownU64 (number at (drop at s))) where
     tested : countUpTo limit refusal at (drop at s) ≡ (atMost v limit refusal >> give v) (c .at) (drop (c .at) s)
-    tested = rw (onward exact-number s at (u64-ok (number at (drop at s)) v c e))
+    tested = rw (onward exact-number s at (u64-ok (number at (drop at s)) v c (sym told ∙ e)))
 
     pub above-limit : limit < v → u64.Err refusal ≡ shownU64 (countUpTo limit refusal at (drop at s))
     above-limit h = rw (tested, lt-leb v limit h)
@@ -86,18 +86,18 @@ module _ (limit : ℕ) (refusal : Refusal) (s : Bytes) (at : ℕ) where
     pub within-limit : v ≤ limit → u64.Ok v c ≡ shownU64 (countUpTo limit refusal at (drop at s))
     within-limit h = rw (tested, le-leb v limit h)
 
-module _ {A : Type 0} {F : Form A} (limit : ℕ) (refusal : ℕ → Refusal) {r : Reader A} (exact : Exact r F) (s : Bytes) (at : ℕ) where
-  same-list : (b : Bool) (n to : ℕ) (rest : Bytes)
-      → (test b (refusal at) >> behindCount (λ n. many n r) n) to rest ≡ next ((test b (refusal at) >> give n) to rest) (behindCount (λ n. many n r))
-  same-list true n to rest = refl
-  same-list false n to rest = refl
+-- what follows a test, with what was tested handed on
+test-then : {A B : Type 0} (b : Bool) (q : Refusal) (x : A) (f : A → Reader B) (at : ℕ) (s : Bytes) → (test b q >> f x) at s ≡ next ((test b q >> give x) at s) f
+test-then true q x f at s = refl
+test-then false q x f at s = refl
 
+pub tested-then : {A B : Type 0} (b : A → Bool) (q : Refusal) (f : A → Reader B) (o : Read A) → next o (λ x. test (b x) q >> f x) ≡ next (next o (λ x. test (b x) q >> give x)) f
+tested-then b q f (ok x to rest) = test-then (b x) q x f to rest
+tested-then b q f (refused p) = refl
+
+module _ {A : Type 0} {F : Form A} (limit : ℕ) (refusal : ℕ → Refusal) {r : Reader A} (exact : Exact r F) (s : Bytes) (at : ℕ) where
   up-to : countedUpTo limit refusal r at (drop at s) ≡ (countUpTo limit (refusal at) >>= behindCount (λ n. many n r)) at (drop at s)
-  up-to = go (number at (drop at s))
-    where
-      go : (o : Read ℕ) → next o (λ n. atMost n limit (refusal at) >> behindCount (λ n. many n r) n) ≡ next (next o (λ n. atMost n limit (refusal at) >> give n)) (behindCount (λ n. many n r))
-      go (ok n to rest) = same-list (leb n limit) n to rest
-      go (refused q) = refl
+  up-to = tested-then (λ n. leb n limit) (refusal at) (behindCount (λ n. many n r)) (number at (drop at s))
 
   pub up-to-refused : {z : U64Result} {q : Refusal} → z ≡ u64.Err q → z ≡ shownU64 (countUpTo limit (refusal at) at (drop at s)) → list.Err q ≡ shownList (countedUpTo limit refusal r at (drop at s))
   up-to-refused told e = rw up-to (count-refused (exact-countUpTo limit (refusal at)) (many-sized exact) s at told e)

@@ -93,3 +93,134 @@ pub fn upvalues_list(s: &[u8], cursor: Cursor, max_upvalues: usize) -> ListResul
         }
     }
 }
+
+// The deltas. Ruled out: place plus size that wraps, the refusal at the place of the count.
+pub fn line_info_list(s: &[u8], cursor: Cursor) -> ListResult
+    ensures { λ r. ⌜ r ≡ shownList (lineInfo (cursor .at) (drop (cursor .at) (now (s .entry)))) ⌝ }
+{
+    let read = read_varint_lua54(s, cursor);
+    match read {
+        U64Result::Err(refusal) => ListResult::Err(refusal),
+        U64Result::Ok { value, next } => {
+            let count = value as usize;
+            listed(read_exact(s, next, count), count, next.at)
+        }
+    }
+}
+
+// Ruled out: a limit on anchors, the count of numbers given as that of anchors.
+pub fn anchors_list(s: &[u8], cursor: Cursor) -> ListResult
+    ensures { λ r. ⌜ r ≡ shownList (spec.counted spec.anchor (cursor .at) (drop (cursor .at) (now (s .entry)))) ⌝ }
+{
+    let read = read_varint_lua54(s, cursor);
+    match read {
+        U64Result::Err(refusal) => ListResult::Err(refusal),
+        U64Result::Ok { value, next } => {
+            let count = value as usize;
+            listed(skip_anchors(s, next, count), count, next.at)
+        }
+    }
+}
+
+// Ruled out: a list that ends at an absent name, the cursor behind the last name.
+pub fn locals_list(s: &[u8], cursor: Cursor, max_string_bytes: usize) -> ListResult
+    ensures { λ r. ⌜ r ≡ shownList (spec.counted (spec.local «max_string_bytes») (cursor .at) (drop (cursor .at) (now (s .entry)))) ⌝ }
+{
+    let read = read_varint_lua54(s, cursor);
+    match read {
+        U64Result::Err(refusal) => ListResult::Err(refusal),
+        U64Result::Ok { value, next } => {
+            let count = value as usize;
+            listed(
+                skip_locals(s, next, count, max_string_bytes),
+                count,
+                next.at,
+            )
+        }
+    }
+}
+
+// The upvalue names. Ruled out: absent names not counted, more names than upvalues refused.
+pub fn names_list(s: &[u8], cursor: Cursor, max_string_bytes: usize) -> ListResult
+    ensures { λ r. ⌜ r ≡ shownList (spec.counted (string «max_string_bytes») (cursor .at) (drop (cursor .at) (now (s .entry)))) ⌝ }
+{
+    let read = read_varint_lua54(s, cursor);
+    match read {
+        U64Result::Err(refusal) => ListResult::Err(refusal),
+        U64Result::Ok { value, next } => {
+            let count = value as usize;
+            listed(
+                skip_strings(s, next, count, max_string_bytes),
+                count,
+                next.at,
+            )
+        }
+    }
+}
+
+// How many instructions: at most so many in a function, and with those of the functions before at most so many in all.
+fn instruction_count(
+    s: &[u8],
+    cursor: Cursor,
+    max_instructions_per_proto: usize,
+    instructions_before: usize,
+    max_total_instructions: usize,
+) -> U64Result
+    ensures { λ r. ⌜ r ≡ shownU64 (codeCount «max_instructions_per_proto» «instructions_before» «max_total_instructions» (cursor .at) (drop (cursor .at) (now (s .entry)))) ⌝ }
+{
+    let first = cursor.at;
+    let refusal = Refusal::Instructions(first);
+    let read = count_up_to(s, cursor, max_instructions_per_proto, refusal);
+    let U64Result::Ok { value, next: _ } = read else {
+        return read;
+    };
+    if max_total_instructions < instructions_before {
+        return U64Result::Err(Refusal::TotalInstructions(first));
+    }
+    if max_total_instructions - instructions_before < value as usize {
+        return U64Result::Err(Refusal::TotalInstructions(first));
+    }
+    read
+}
+
+// Ruled out: the total not tested, 15 where 14 holds too.
+pub fn instructions_list(
+    s: &[u8],
+    cursor: Cursor,
+    max_instructions_per_proto: usize,
+    instructions_before: usize,
+    max_total_instructions: usize,
+) -> ListResult
+    ensures { λ r. ⌜ r ≡ shownList (code «max_instructions_per_proto» «instructions_before» «max_total_instructions» (cursor .at) (drop (cursor .at) (now (s .entry)))) ⌝ }
+{
+    let read = instruction_count(
+        s,
+        cursor,
+        max_instructions_per_proto,
+        instructions_before,
+        max_total_instructions,
+    );
+    match read {
+        U64Result::Err(refusal) => ListResult::Err(refusal),
+        U64Result::Ok { value, next } => {
+            let count = value as usize;
+            listed(skip_words(s, next, count), count, next.at)
+        }
+    }
+}
+
+// How many functions nest in this one. Ruled out: a count above the limit accepted, the place behind the count as that of its refusal.
+pub fn protos_count(s: &[u8], cursor: Cursor, max_total_prototypes: usize) -> ListResult
+    ensures { λ r. ⌜ r ≡ shownCount (protosCount «max_total_prototypes» (cursor .at) (drop (cursor .at) (now (s .entry)))) ⌝ }
+{
+    let refusal = Refusal::Prototypes(cursor.at);
+    let read = count_up_to(s, cursor, max_total_prototypes, refusal);
+    match read {
+        U64Result::Err(refusal) => ListResult::Err(refusal),
+        U64Result::Ok { value, next } => ListResult::Ok {
+            count: value as usize,
+            place: next.at,
+            next: next,
+        },
+    }
+}
