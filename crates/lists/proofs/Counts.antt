@@ -4,6 +4,7 @@ use mathlib.Core.Path.{_≡_, refl, sym, _∙_, ap}
 use mathlib.Core.Bool.{Bool, true, false}
 use mathlib.Core.List.{List}
 use Prim.Native.Nat.{ℕ, _+_, _<_, _≤_}
+use native.Mathlib.Omega.{arith}
 use borrow.Author.Tests.{le-leb, lt-leb}
 use lib.Dec.{leb}
 use lib.ListN.{drop}
@@ -19,8 +20,8 @@ use Rattle.reader.specs.declared.cursor.Cursor.{Cursor}
 use Rattle.reader.specs.declared.cursor.CursorResult.{CursorResult}
 use Rattle.reader.specs.declared.field.U64Result.{U64Result}
 use Rattle.reader.specs.declared.field.U64Result.the-variants as u64
-use Rattle.reader.specs.Shown.{shownCursor, shownU64}
-use Rattle.reader.proofs.Shows.{onward, u64-err, u64-ok}
+use Rattle.reader.specs.Shown.{cursorAt, shownCursor, shownU64}
+use Rattle.reader.proofs.Shows.{Was, onward, u64-err, u64-ok}
 use Rattle.lists.specs.declared.counted.ListResult.{ListResult}
 use Rattle.lists.specs.declared.counted.ListResult.the-variants as list
 use Rattle.lists.specs.Readers.{countUpTo, codeCount, code, Count, protosCount}
@@ -92,3 +93,16 @@ module _ (limit : ℕ) (s : Bytes) (at : ℕ) where
       ap countOf (sym told ∙ e)
       ∙ count-shown (countUpTo limit (Prototypes at) at (drop at s))
       ∙ sym (ap shownCount (tested-then (λ n. leb n limit) (Prototypes at) placed (number at (drop at s))))
+
+-- ## From what was shown back to what was read
+pub count-err : (o : Read Count) (q : Refusal) → list.Err q ≡ shownCount o → o ≡ refused q
+count-err (ok n to rest) q e = absurd (let z : _≡_ {A = ℕ} 0 1 = cc in omega arith)
+count-err (refused p) q e = cc
+
+pub count-ok : (o : Read Count) (count place : ℕ) (c : Cursor) → list.Ok count place c ≡ shownCount o → Was o (record { count = count; place = place }) (c .at)
+count-ok (ok n to rest) count place c e =
+    let many : count ≡ n .count = cc in
+    let first : place ≡ n .place = cc in
+    let next : c ≡ cursorAt to = cc in
+    record { rest = rest; is = rw (many, first, next) }
+count-ok (refused p) count place c e = absurd (let z : _≡_ {A = ℕ} 0 1 = cc in omega arith)

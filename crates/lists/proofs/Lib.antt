@@ -5,3 +5,4 @@ pub mod Constants
 pub mod DebugInfo
 pub mod Listing
 pub mod Counts
+pub mod Within

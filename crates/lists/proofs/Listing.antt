@@ -28,8 +28,8 @@ use Rattle.reader.specs.declared.cursor.Cursor.{Cursor}
 use Rattle.reader.specs.declared.cursor.CursorResult.{CursorResult}
 use Rattle.reader.specs.declared.field.U64Result.{U64Result}
 use Rattle.reader.specs.declared.field.U64Result.the-variants as u64
-use Rattle.reader.specs.Shown.{shownCursor, shownU64}
-use Rattle.reader.proofs.Shows.{onward, u64-err, u64-ok}
+use Rattle.reader.specs.Shown.{cursorAt, shownCursor, shownU64}
+use Rattle.reader.proofs.Shows.{Was, onward, u64-err, u64-ok}
 use Rattle.lists.specs.declared.counted.ListResult.{ListResult}
 use Rattle.lists.specs.declared.counted.ListResult.the-variants as list
 use Rattle.lists.specs.Readers.{countUpTo, codeCount, code}
@@ -105,3 +105,20 @@ module _ {A : Type 0} {F : Form A} (limit : ℕ) (refusal : ℕ → Refusal) {r 
   pub up-to-read : {z : U64Result} {v : ℕ} {c : Cursor} → z ≡ u64.Ok v c → z ≡ shownU64 (countUpTo limit (refusal at) at (drop at s)) → {x : CursorResult} {y : ListResult} → x ≡ shownCursor (many v r (c .at) (drop (c .at) s)) → y ≡ listedOf x v (c .at)
       → y ≡ shownList (countedUpTo limit refusal r at (drop at s))
   up-to-read told e p q = rw up-to (count-read (exact-countUpTo limit (refusal at)) (many-sized exact) s at told e p q)
+
+-- ## From what was shown back to what was read
+pub list-err : {A : Type 0} (o : Read (Listed A)) (q : Refusal) → list.Err q ≡ shownList o → o ≡ refused q
+list-err (ok l to rest) q e = absurd (let z : _≡_ {A = ℕ} 0 1 = cc in omega arith)
+list-err (refused p) q e = cc
+
+pub record WasList {A : Type 0} (o : Read (Listed A)) (count place to : ℕ) : Type 0 where
+  pub value : Listed A
+  pub was : Was o value to
+  pub counted : count ≡ length (value .items)
+  pub placed : place ≡ value .place
+
+pub list-ok : {A : Type 0} (o : Read (Listed A)) (count place : ℕ) (c : Cursor) → list.Ok count place c ≡ shownList o → WasList o count place (c .at)
+list-ok (ok l to rest) count place c e =
+    let next : c ≡ cursorAt to = cc in
+    record { value = l; was = record { rest = rest; is = rw next }; counted = cc; placed = cc }
+list-ok (refused p) count place c e = absurd (let z : _≡_ {A = ℕ} 0 1 = cc in omega arith)
