@@ -1,6 +1,6 @@
 -- What the code shows of what was read behind a constant's tag is what the reader shows of the constant.
 -- Assumes nothing.
-use mathlib.Core.Path.{_≡_, refl, sym, _∙_, ap}
+use mathlib.Core.Path.{_≡_, refl}
 use mathlib.Core.List.{[]}
 use mathlib.Core.Option.{Option, none, some}
 use Prim.Native.Nat.{ℕ}
@@ -18,7 +18,7 @@ use Rattle.format.proofs.ExactFields.{exact-field}
 use Rattle.reader.specs.declared.cursor.Cursor.{Cursor}
 use Rattle.reader.specs.declared.field.U8Result.the-variants as u8
 use Rattle.reader.specs.Shown.{cursorAt, shownU8, shownU64, shownString}
-use Rattle.reader.proofs.Shows.{Was, Showed, onward, u8-err, u8-ok}
+use Rattle.reader.proofs.Shows.{Showed, onward, u8-err, u8-ok}
 use Rattle.lists.specs.declared.constant.ConstantValue as declared
 use Rattle.lists.specs.declared.constant.ConstantResult.{ConstantResult}
 use Rattle.lists.specs.declared.constant.ConstantResult.the-variants as answer

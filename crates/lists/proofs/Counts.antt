@@ -1,8 +1,6 @@
 -- The counts of instructions and of nested functions, in the code's terms: by whether a count within the first limit is read, and the total.
 -- Assumes nothing.
 use mathlib.Core.Path.{_≡_, refl, sym, _∙_, ap}
-use mathlib.Core.Bool.{Bool, true, false}
-use mathlib.Core.List.{List}
 use Prim.Native.Nat.{ℕ, _+_, _<_, _≤_}
 use native.Mathlib.Omega.{arith}
 use borrow.Author.Tests.{le-leb, lt-leb}
@@ -12,7 +10,7 @@ use Rattle.format.specs.declared.refusal.Refusal.{Refusal}
 use Rattle.format.specs.declared.refusal.Refusal.the-variants.{Instructions, TotalInstructions, Prototypes}
 use Rattle.format.specs.Form.{Bytes, Form, Then, Is, Given}
 use Rattle.format.specs.GrammarChunk.{Listed}
-use Rattle.format.specs.Read.{Read, ok, refused, Reader, next, _>>=_, _>>_, give, here, test, atMost, many}
+use Rattle.format.specs.Read.{Read, ok, refused, Reader, next, _>>=_, _>>_, give, here, atMost, many}
 use Rattle.format.specs.ReadFields.{field, number}
 use Rattle.format.proofs.Exact.{Exact, exact-give, exact-then, exact-place, exact-atMost}
 use Rattle.format.proofs.ExactFields.{exact-field}

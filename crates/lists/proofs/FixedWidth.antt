@@ -1,18 +1,16 @@
 -- Passing over fields of any width w without a loop: by how many there are.
 -- Assumes nothing.
-use mathlib.Core.Path.{_≡_, refl, sym, _∙_, ap}
-use mathlib.Core.List.{List, [], _∷_}
-use Prim.Native.Nat.{ℕ, zero, suc, _+_, _-_, _*_, _≤_, _<_}
+use mathlib.Core.Path.{_≡_, refl, sym, _∙_}
+use mathlib.Core.List.{List, _∷_}
+use Prim.Native.Nat.{ℕ, zero, suc, _+_, _*_, _≤_, _<_}
 use native.Mathlib.Omega.{arith}
 use native.Mathlib.Nat.{zero-mul, suc-mul}
 use lib.ListN.{length, drop, length-drop}
-use Rattle.format.specs.declared.refusal.Refusal.{Refusal}
 use Rattle.format.specs.Form.{Bytes}
 use Rattle.format.specs.Read.{Read, ok, refused, Reader, next, _>>=_, give, short, many}
 use Rattle.format.specs.ReadFields.{field}
 use Rattle.format.specs.ReadChunk.{upvalue}
 use Rattle.format.proofs.Steps.{field-short, field-enough}
-use Rattle.reader.specs.declared.cursor.CursorResult.{CursorResult}
 use Rattle.reader.specs.declared.cursor.CursorResult.the-variants as cursor
 use Rattle.reader.specs.Shown.{cursorAt, shownCursor}
 use Rattle.lists.proofs.Turns.{same-end}

@@ -5,23 +5,22 @@
 --     up-to-..         for `countedUpTo`
 --     code-..          for the instructions
 -- Assumes nothing.
-use mathlib.Core.Path.{_≡_, refl, sym, _∙_, ap}
+use mathlib.Core.Path.{_≡_, refl, sym, _∙_}
 use mathlib.Core.Bool.{Bool, true, false}
-use mathlib.Core.List.{List, [], _∷_}
-use Prim.Native.Nat.{ℕ, zero, suc, _+_, _<_, _≤_}
+use mathlib.Core.List.{List}
+use Prim.Native.Nat.{ℕ, _<_, _≤_}
 use native.Mathlib.Omega.{arith}
 use borrow.Author.Tests.{le-leb, lt-leb}
 use lib.Dec.{leb}
-use lib.ListN.{length, take, drop}
+use lib.ListN.{length, drop}
 use Rattle.format.specs.declared.refusal.Refusal.{Refusal}
-use Rattle.format.specs.declared.refusal.Refusal.the-variants.{Instructions, TotalInstructions}
 use Rattle.format.specs.Form.{Bytes, Form, Then, Is, Given}
 use Rattle.format.specs.GrammarFields.{Number}
 use Rattle.format.specs.GrammarChunk.{Listed}
 use Rattle.format.specs.Read.{Read, ok, refused, Reader, next, _>>=_, _>>_, give, here, test, atMost, run, many}
-use Rattle.format.specs.ReadFields.{field, number}
+use Rattle.format.specs.ReadFields.{number}
 use Rattle.format.specs.ReadChunk.{countedUpTo}
-use Rattle.format.proofs.Exact.{Exact, exact-give, exact-then, exact-place, exact-atMost, exact-run, exact-many}
+use Rattle.format.proofs.Exact.{Exact, exact-give, exact-then, exact-atMost, exact-run, exact-many}
 use Rattle.format.proofs.Every.{any, every-run, every-many}
 use Rattle.format.proofs.ExactFields.{exact-number}
 use Rattle.reader.specs.declared.cursor.Cursor.{Cursor}
@@ -32,7 +31,7 @@ use Rattle.reader.specs.Shown.{cursorAt, shownCursor, shownU64}
 use Rattle.reader.proofs.Shows.{Was, onward, u64-err, u64-ok}
 use Rattle.lists.specs.declared.counted.ListResult.{ListResult}
 use Rattle.lists.specs.declared.counted.ListResult.the-variants as list
-use Rattle.lists.specs.Readers.{countUpTo, codeCount, code}
+use Rattle.lists.specs.Readers.{countUpTo}
 use Rattle.lists.specs.Shown.{listedOf, shownList}
 
 -- ## How many items are read

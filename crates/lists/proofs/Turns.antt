@@ -1,15 +1,14 @@
 -- Passing over n items, one turn at a time: for any reader of an item.
 -- Assumes nothing.
-use mathlib.Core.Path.{_≡_, refl, sym, _∙_, ap}
-use mathlib.Core.List.{List, [], _∷_}
-use Prim.Native.Nat.{ℕ, zero, suc, _-_, _≤_, _<_}
+use mathlib.Core.Path.{_≡_, refl, _∙_, ap}
+use mathlib.Core.List.{List, _∷_}
+use Prim.Native.Nat.{ℕ, suc, _-_, _≤_, _<_}
 use native.Mathlib.Omega.{arith}
 use lib.ListN.{drop}
 use Rattle.format.specs.declared.refusal.Refusal.{Refusal}
 use Rattle.format.specs.Form.{Bytes, Form}
 use Rattle.format.specs.Read.{Read, ok, refused, Reader, next, _>>=_, give, many}
 use Rattle.format.proofs.Exact.{Exact}
-use Rattle.reader.specs.declared.cursor.Cursor.{Cursor}
 use Rattle.reader.specs.declared.cursor.CursorResult.the-variants as cursor
 use Rattle.reader.specs.Shown.{cursorAt, shownCursor}
 use Rattle.reader.proofs.Shows.{Was, onward}

@@ -1,19 +1,23 @@
--- The readers of counts and lists that `body` is made of, with what `body` reads behind them: for any continuation f.
+-- The readers of counts and lists that `body` is made of.
+--     ..-within    with what `body` reads behind them, for any continuation f
+--     exact-..     they read exactly a form
 -- Assumes nothing.
 use mathlib.Core.Path.{_≡_, refl, sym, _∙_, ap}
 use mathlib.Core.Bool.{Bool, true, false}
 use mathlib.Core.List.{List}
-use Prim.Native.Nat.{ℕ, _+_}
+use Prim.Native.Nat.{ℕ, _+_, _≤_}
 use lib.Dec.{leb}
 use lib.ListN.{length}
 use Rattle.format.specs.declared.refusal.Refusal.{Refusal}
 use Rattle.format.specs.declared.refusal.Refusal.the-variants.{Instructions, TotalInstructions, Prototypes}
-use Rattle.format.specs.Form.{Bytes}
+use Rattle.format.specs.Form.{Bytes, Form, Then, Is, Here, Given, Run, Many}
+use Rattle.format.specs.GrammarFields.{Field, Number}
 use Rattle.format.specs.GrammarChunk.{Listed}
 use Rattle.format.specs.Read.{Read, ok, refused, Reader, next, _>>=_, _>>_, give, here, test, atMost, run, many}
 use Rattle.format.specs.ReadFields.{field, number}
-use Rattle.format.proofs.ExactFields.{exact-field}
-use Rattle.lists.specs.Readers.{code, lineInfo, protosCount}
+use Rattle.format.proofs.Exact.{Exact, exact-give, exact-here, exact-then, exact-place, exact-atMost, exact-run, exact-many}
+use Rattle.format.proofs.ExactFields.{exact-field, exact-number}
+use Rattle.lists.specs.Readers.{Count, code, lineInfo, protosCount}
 use Rattle.lists.proofs.Listing.{Sized, many-sized, run-sized, behindCount}
 
 -- two readers one after the other, and a third behind them
@@ -77,3 +81,35 @@ pub protos-within : {B : Type 0} (f : ℕ → ℕ → Reader B) (limit at : ℕ)
 protos-within f limit at s =
     behind (number at s) (λ n to rest. behind-test (leb n limit) (Prototypes at) _ _ (λ c. f (c .count) (c .place)) to rest refl)
     ∙ sym (regroup (number at s) _ (λ c. f (c .count) (c .place)))
+
+-- ## They read exactly a form, with the limits
+abbrev pub LineInfo : Form (Listed ℕ)
+LineInfo = Then Number λ n. Then Here λ place. Then (Run n) λ deltas. Is (record { place = place; items = deltas })
+
+pub exact-lineInfo : Exact lineInfo LineInfo
+exact-lineInfo = exact-then exact-number λ n. exact-then exact-here λ place. exact-then (exact-run n) λ deltas. exact-give _
+
+abbrev pub Code : ℕ → ℕ → ℕ → Form (Listed ℕ)
+Code per-proto before total =
+    Then Number λ n.
+    Then (Given (n ≤ per-proto)) λ _.
+    Then (Given (before + n ≤ total)) λ _.
+    Then Here λ place.
+    Then (Many n (Field 4)) λ words.
+    Is (record { place = place; items = words })
+
+pub exact-code : (per-proto before total : ℕ) → Exact (code per-proto before total) (Code per-proto before total)
+exact-code per-proto before total =
+    exact-place λ first.
+    exact-then exact-number λ n.
+    exact-then (exact-atMost n per-proto (Instructions first)) λ _.
+    exact-then (exact-atMost (before + n) total (TotalInstructions first)) λ _.
+    exact-then exact-here λ place.
+    exact-then (exact-many n (exact-field 4)) λ words.
+    exact-give _
+
+abbrev pub ProtosCount : ℕ → Form Count
+ProtosCount limit = Then Number λ n. Then (Given (n ≤ limit)) λ _. Then Here λ place. Is (record { count = n; place = place })
+
+pub exact-protosCount : (limit : ℕ) → Exact (protosCount limit) (ProtosCount limit)
+exact-protosCount limit = exact-place λ first. exact-then exact-number λ n. exact-then (exact-atMost n limit (Prototypes first)) λ _. exact-then exact-here λ place. exact-give _

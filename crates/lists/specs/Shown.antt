@@ -1,4 +1,4 @@
--- What the code shows of what a reader of `format` gives: entries.
+-- What the code shows of what a reader gives, of an entry or a list: the value and the cursor behind it, or the refusal.
 use Prim.Native.Nat.{ℕ}
 use lib.ListN.{length}
 use mir.Syntax.{w64}

@@ -22,7 +22,7 @@ pub fn skip_words(s: &[u8], cursor: Cursor, n: usize) -> CursorResult
     CursorResult::Err(short(4, at + there * 4))
 }
 
-// Passes over n upvalues of three bytes. Ruled out: an upvalue of two bytes accepted at the end, the place of an upvalue instead of that of its missing byte.
+// Passes over n upvalues of three bytes. Ruled out: two bytes accepted for the last one, its place instead of that of its missing byte.
 pub fn skip_upvalues(s: &[u8], cursor: Cursor, n: usize) -> CursorResult
     ensures { λ r. ⌜ r ≡ shownCursor (many n upvalue (cursor .at) (drop (cursor .at) (now (s .entry)))) ⌝ }
 {

@@ -1,6 +1,4 @@
 -- `lists::constant::read_tagged` meets its contract: by the tag, and what was read behind it (`Constants.antt`). Assumes nothing.
-use mathlib.Core.Path.{_∙_}
-use mathlib.Core.Logic.{inl, inr}
 use borrow.Author.Needs.{needs}
 use borrow.Author.Tests.{ne-eqb}
 use lib.ListN.{drop}
@@ -8,8 +6,6 @@ use Rattle.format.specs.ReadFields.{field, string}
 use Rattle.lists.proofs.Constants.{integer-shown, float-shown, short-shown, long-shown}
 use Rattle.lists.proofs.constant.read_tagged.Statement.{statement}
 use Rattle.lists.proofs.constant.read_tagged.Tie as tie
-use Rattle.lists.proofs.constant.read_tagged.Reads as reads
-use Rattle.lists.proofs.constant.read_tagged.Lts as lts
 
 pub read-tagged-spec : {M : Type 1} → statement M
 read-tagged-spec =
