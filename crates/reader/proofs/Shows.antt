@@ -4,11 +4,13 @@
 -- Assumes nothing.
 use mathlib.Core.Path.{_≡_, refl, sym, _∙_, ap}
 use mathlib.Core.List.{List}
+use mathlib.Core.Option.{Option}
 use Prim.Native.Nat.{ℕ}
 use native.Mathlib.Omega.{arith}
 use lib.ListN.{drop}
 use Rattle.format.specs.declared.refusal.Refusal.{Refusal}
 use Rattle.format.specs.Form.{Bytes, Form}
+use Rattle.format.specs.GrammarFields.{LuaString}
 use Rattle.format.specs.Read.{Read, ok, refused, Reader, next, _>>_}
 use Rattle.format.proofs.Exact.{Exact}
 use Rattle.format.proofs.Left.{left}
@@ -16,13 +18,22 @@ use Rattle.reader.specs.declared.cursor.Cursor.{Cursor}
 use Rattle.reader.specs.declared.cursor.CursorResult.{CursorResult}
 use Rattle.reader.specs.declared.cursor.CursorResult.the-variants as cursor
 use Rattle.reader.specs.declared.field.U8Result.the-variants as u8
+use Rattle.reader.specs.declared.field.U32Result.the-variants as u32
 use Rattle.reader.specs.declared.field.U64Result.the-variants as u64
-use Rattle.reader.specs.Shown.{cursorAt, andThen, shownCursor, shownU8, shownU64}
+use Rattle.reader.specs.declared.string.OptionString.{OptionString}
+use Rattle.reader.specs.declared.string.StringResult.the-variants as string
+use Rattle.reader.specs.Shown.{cursorAt, andThen, shownCursor, shownU8, shownU32, shownU64, optionString, shownString}
 
 -- what a reader gave, with the rest left open
 pub record Was {A : Type 0} (o : Read A) (x : A) (to : ℕ) : Type 0 where
   pub rest : Bytes
   pub is : o ≡ ok x to rest
+
+-- and of the value only what is shown of it
+pub record Showed {A B : Type 0} (of : A → B) (o : Read A) (shown : B) (to : ℕ) : Type 0 where
+  pub value : A
+  pub was : Was o value to
+  pub shows : shown ≡ of value
 
 -- the rest is the slice from the next place on
 pub onward : {A : Type 0} {r : Reader A} {F : Form A} → Exact r F → (s : Bytes) (at : ℕ) {x : A} {to : ℕ} → Was (r at (drop at s)) x to → r at (drop at s) ≡ ok x to (drop to s)
@@ -50,6 +61,27 @@ u8-ok (ok w to rest) v c e =
     let next : c ≡ cursorAt to = cc in
     record { rest = rest; is = rw (value, next) }
 u8-ok (refused p) v c e = absurd (let z : _≡_ {A = ℕ} 0 1 = cc in omega arith)
+
+pub u32-err : (o : Read ℕ) (q : Refusal) → u32.Err q ≡ shownU32 o → o ≡ refused q
+u32-err (ok v to rest) q e = absurd (let z : _≡_ {A = ℕ} 0 1 = cc in omega arith)
+u32-err (refused p) q e = cc
+
+pub u32-ok : (o : Read ℕ) (v : ℕ) (c : Cursor) → u32.Ok v c ≡ shownU32 o → Was o v (c .at)
+u32-ok (ok w to rest) v c e =
+    let value : v ≡ w = cc in
+    let next : c ≡ cursorAt to = cc in
+    record { rest = rest; is = rw (value, next) }
+u32-ok (refused p) v c e = absurd (let z : _≡_ {A = ℕ} 0 1 = cc in omega arith)
+
+pub string-err : (o : Read (Option LuaString)) (q : Refusal) → string.Err q ≡ shownString o → o ≡ refused q
+string-err (ok t to rest) q e = absurd (let z : _≡_ {A = ℕ} 0 1 = cc in omega arith)
+string-err (refused p) q e = cc
+
+pub string-ok : (o : Read (Option LuaString)) (shown : OptionString) (c : Cursor) → string.Ok shown c ≡ shownString o → Showed optionString o shown (c .at)
+string-ok (ok t to rest) shown c e =
+    let next : c ≡ cursorAt to = cc in
+    record { value = t; was = record { rest = rest; is = rw next }; shows = cc }
+string-ok (refused p) shown c e = absurd (let z : _≡_ {A = ℕ} 0 1 = cc in omega arith)
 
 pub cursor-err : {A : Type 0} (o : Read A) (q : Refusal) → cursor.Err q ≡ shownCursor o → o ≡ refused q
 cursor-err (ok v to rest) q e = absurd (let z : _≡_ {A = ℕ} 0 1 = cc in omega arith)

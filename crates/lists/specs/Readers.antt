@@ -1,0 +1,77 @@
+-- Readers that `format`'s are made of: a local variable with its name as it is spelt, and parts of `body`.
+use mathlib.Core.List.{[], _∷_}
+use mathlib.Core.Option.{Option}
+use Prim.Native.Nat.{ℕ, _+_}
+use Rattle.format.specs.declared.refusal.Refusal.{Refusal}
+use Rattle.format.specs.declared.refusal.Refusal.the-variants.{Instructions, TotalInstructions, Prototypes}
+use Rattle.format.specs.GrammarFields.{LuaString}
+use Rattle.format.specs.GrammarChunk.{Listed, orElse}
+use Rattle.format.specs.Reading.{LocalVar}
+use Rattle.format.specs.Read.{Reader, next, _>>=_, _>>_, give, here, atMost, run, many}
+use Rattle.format.specs.ReadFields.{field, number, string}
+
+-- ## A local variable
+-- its name, if it has one, and the place behind the name
+pub record RawLocal : Type 0 where
+  pub name : Option LuaString
+  pub behind : ℕ
+  pub startpc : ℕ
+  pub endpc : ℕ
+
+abbrev pub rawLocal : ℕ → Reader RawLocal
+rawLocal limit = do
+  name ← string limit
+  behind ← here
+  startpc ← number
+  endpc ← number
+  give (record { name = name; behind = behind; startpc = startpc; endpc = endpc })
+
+-- an absent name reads as `?`
+abbrev pub named : RawLocal → LocalVar
+named l = record { name = orElse (l .name) (record { place = l .behind; bytes = 63 ∷ [] }); startpc = l .startpc; endpc = l .endpc }
+
+-- ## Counts
+abbrev pub countUpTo : ℕ → Refusal → Reader ℕ
+countUpTo limit refusal = do
+  n ← number
+  atMost n limit refusal
+  give n
+
+-- how many instructions, behind `before` of the functions before
+abbrev pub codeCount : ℕ → ℕ → ℕ → Reader ℕ
+codeCount per-proto before total = do
+  first ← here
+  size ← countUpTo per-proto (Instructions first)
+  atMost (before + size) total (TotalInstructions first)
+  give size
+
+-- how many functions nest in one, and the place behind that number
+pub record Count : Type 0 where
+  pub count : ℕ
+  pub place : ℕ
+
+abbrev pub protosCount : ℕ → Reader Count
+protosCount limit = do
+  first ← here
+  protos ← number
+  atMost protos limit (Prototypes first)
+  place ← here
+  give (record { count = protos; place = place })
+
+-- ## Lists
+abbrev pub code : ℕ → ℕ → ℕ → Reader (Listed ℕ)
+code per-proto before total = do
+  first ← here
+  size ← number
+  atMost size per-proto (Instructions first)
+  atMost (before + size) total (TotalInstructions first)
+  place ← here
+  words ← many size (field 4)
+  give (record { place = place; items = words })
+
+abbrev pub lineInfo : Reader (Listed ℕ)
+lineInfo = do
+  size ← number
+  place ← here
+  deltas ← run size
+  give (record { place = place; items = deltas })

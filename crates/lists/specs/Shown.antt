@@ -1,0 +1,94 @@
+-- What the code shows of what a reader gives, of an entry or a list: the value and the cursor behind it, or the refusal.
+use Prim.Native.Nat.{ℕ}
+use lib.ListN.{length}
+use mir.Syntax.{w64}
+use mir.Val.{toZ}
+use Rattle.format.specs.GrammarFields.{LuaString}
+use Rattle.format.specs.declared.entry.AbsLineInfo.{AbsLineInfo}
+use Rattle.format.specs.GrammarChunk.{Listed}
+use Rattle.format.specs.Reading as reading
+use Rattle.format.specs.Read.{Read, ok, refused}
+use Rattle.reader.specs.declared.cursor.CursorResult.{CursorResult}
+use Rattle.reader.specs.declared.cursor.CursorResult.the-variants as cursor
+use Rattle.reader.specs.declared.string.OptionString.{OptionString}
+use Rattle.reader.specs.declared.string.OptionString.the-variants as option
+use Rattle.reader.specs.declared.string.StringAt.{StringAt}
+use Rattle.reader.specs.declared.string.StringResult.{StringResult}
+use Rattle.reader.specs.declared.string.StringResult.the-variants as string
+use Rattle.reader.specs.declared.field.U64Result.{U64Result}
+use Rattle.reader.specs.declared.field.U64Result.the-variants as u64
+use Rattle.reader.specs.Shown.{cursorAt, optionString}
+use Rattle.lists.specs.declared.constant.ConstantValue.{ConstantValue}
+use Rattle.lists.specs.declared.constant.ConstantValue.the-variants as constant
+use Rattle.lists.specs.declared.constant.ConstantResult.{ConstantResult}
+use Rattle.lists.specs.declared.constant.ConstantResult.the-variants as answer
+use Rattle.lists.specs.declared.counted.ListResult.{ListResult}
+use Rattle.lists.specs.declared.counted.ListResult.the-variants as list
+use Rattle.lists.specs.declared.debug.AnchorResult.{AnchorResult}
+use Rattle.lists.specs.declared.debug.AnchorResult.the-variants as anchor
+use Rattle.lists.specs.declared.debug.LocalResult.{LocalResult}
+use Rattle.lists.specs.declared.debug.LocalResult.the-variants as local
+use Rattle.lists.specs.Readers.{RawLocal, Count}
+
+-- ## Constants
+-- a string, or where it is absent an empty one at the place behind its size
+abbrev pub orEmpty : OptionString → ℕ → StringAt
+orEmpty (option.Some t) place = t
+orEmpty option.None place = record { place = place; len = 0 }
+
+-- a constant by its tag, of what was read behind it
+abbrev pub integerOf : U64Result → ConstantResult
+integerOf (u64.Ok v c) = answer.Ok (constant.Integer (toZ w64 v)) c
+integerOf (u64.Err q) = answer.Err q
+
+abbrev pub floatOf : U64Result → ConstantResult
+floatOf (u64.Ok v c) = answer.Ok (constant.Float v) c
+floatOf (u64.Err q) = answer.Err q
+
+abbrev pub shortStringOf : StringResult → ConstantResult
+shortStringOf (string.Ok t c) = answer.Ok (constant.ShortString (orEmpty t (c .at))) c
+shortStringOf (string.Err q) = answer.Err q
+
+abbrev pub longStringOf : StringResult → ConstantResult
+longStringOf (string.Ok t c) = answer.Ok (constant.LongString (orEmpty t (c .at))) c
+longStringOf (string.Err q) = answer.Err q
+
+-- of a string its place and length
+abbrev pub stringAt : LuaString → StringAt
+stringAt t = record { place = t .place; len = length (t .bytes) }
+
+-- an integer's 64 bits are shown as a signed number, a float's as they are
+abbrev pub constantValue : reading.ConstantValue → ConstantValue
+constantValue reading.nil = constant.Nil
+constantValue (reading.boolean b) = constant.Boolean b
+constantValue (reading.integer n) = constant.Integer (toZ w64 n)
+constantValue (reading.float n) = constant.Float n
+constantValue (reading.short-string t) = constant.ShortString (stringAt t)
+constantValue (reading.long-string t) = constant.LongString (stringAt t)
+
+abbrev pub shownConstant : Read reading.ConstantValue → ConstantResult
+shownConstant (ok k to rest) = answer.Ok (constantValue k) (cursorAt to)
+shownConstant (refused q) = answer.Err q
+
+-- ## Debug information
+abbrev pub shownAnchor : Read AbsLineInfo → AnchorResult
+shownAnchor (ok a to rest) = anchor.Ok a (cursorAt to)
+shownAnchor (refused q) = anchor.Err q
+
+abbrev pub shownLocal : Read RawLocal → LocalResult
+shownLocal (ok l to rest) = local.Ok (optionString (l .name)) (l .startpc) (l .endpc) (cursorAt to)
+shownLocal (refused q) = local.Err q
+
+-- ## Lists
+-- of what passing over its items showed
+abbrev pub listedOf : CursorResult → ℕ → ℕ → ListResult
+listedOf (cursor.Ok c) count place = list.Ok count place c
+listedOf (cursor.Err q) count place = list.Err q
+
+abbrev pub shownList : {A : Type 0} → Read (Listed A) → ListResult
+shownList (ok l to rest) = list.Ok (length (l .items)) (l .place) (cursorAt to)
+shownList (refused q) = list.Err q
+
+abbrev pub shownCount : Read Count → ListResult
+shownCount (ok c to rest) = list.Ok (c .count) (c .place) (cursorAt to)
+shownCount (refused q) = list.Err q
