@@ -1,0 +1,47 @@
+-- `chunk::parts::read_head_lists` meets its contract: at each return the calls say which case of the reader holds (`HeadAnswers.antt`). Assumes nothing.
+use mathlib.Core.Path.{sym, _∙_}
+use borrow.Author.Needs.{needs}
+use Rattle.chunk.proofs.HeadAnswers.{code-refused, constants-refused, upvalues-refused, all-lists}
+use Rattle.chunk.proofs.parts.read_head_lists.Statement.{statement}
+use Rattle.chunk.proofs.parts.read_head_lists.Tie as tie
+
+returns : tie.Need-returns
+returns c =
+    let a = c .before .before .before .before .before .args in
+    code-refused (a .s .now) (a .limits) (a .before) (a .cursor .at)
+    _ (sym (c .before .code .given .1) ∙ c .before .before .before .instructions-list .ensures)
+
+returns-2 : tie.Need-returns-2
+returns-2 c =
+    let a = c .before .before .before .before .before .before .before .before .before .args in
+    constants-refused (a .s .now) (a .limits) (a .before) (a .cursor .at)
+    (c .before .before .before .before .before .code2 .given .0 .0) (c .before .before .before .before .before .code2 .given .0 .1 .0) (c .before .before .before .before .before .code2 .given .0 .1 .1 .0) (sym (c .before .before .before .before .before .code2 .given .1) ∙ c .before .before .before .before .before .before .before .instructions-list .ensures)
+    _ (sym (c .before .k .given .1) ∙ c .before .before .before .constants-list .ensures)
+
+returns-3 : tie.Need-returns-3
+returns-3 c =
+    let a = c .before .before .before .before .before .before .before .before .before .before .before .before .before .args in
+    upvalues-refused (a .s .now) (a .limits) (a .before) (a .cursor .at)
+    (c .before .before .before .before .before .before .before .before .before .code2 .given .0 .0) (c .before .before .before .before .before .before .before .before .before .code2 .given .0 .1 .0) (c .before .before .before .before .before .before .before .before .before .code2 .given .0 .1 .1 .0) (sym (c .before .before .before .before .before .before .before .before .before .code2 .given .1) ∙ c .before .before .before .before .before .before .before .before .before .before .before .instructions-list .ensures)
+    (c .before .before .before .before .before .k2 .given .0 .0) (c .before .before .before .before .before .k2 .given .0 .1 .0) (c .before .before .before .before .before .k2 .given .0 .1 .1 .0) (sym (c .before .before .before .before .before .k2 .given .1) ∙ c .before .before .before .before .before .before .before .constants-list .ensures)
+    _ (sym (c .before .u .given .1) ∙ c .before .before .before .upvalues-list .ensures)
+
+returns-4 : tie.Need-returns-4
+returns-4 c =
+    let a = c .before .before .before .before .before .before .before .before .before .before .before .before .before .args in
+    all-lists (a .s .now) (a .limits) (a .before) (a .cursor .at)
+    (c .before .before .before .before .before .before .before .before .before .code2 .given .0 .0) (c .before .before .before .before .before .before .before .before .before .code2 .given .0 .1 .0) (c .before .before .before .before .before .before .before .before .before .code2 .given .0 .1 .1 .0) (sym (c .before .before .before .before .before .before .before .before .before .code2 .given .1) ∙ c .before .before .before .before .before .before .before .before .before .before .before .instructions-list .ensures)
+    (c .before .before .before .before .before .k2 .given .0 .0) (c .before .before .before .before .before .k2 .given .0 .1 .0) (c .before .before .before .before .before .k2 .given .0 .1 .1 .0) (sym (c .before .before .before .before .before .k2 .given .1) ∙ c .before .before .before .before .before .before .before .constants-list .ensures)
+    (c .before .u2 .given .0 .0) (c .before .u2 .given .0 .1 .0) (c .before .u2 .given .0 .1 .1 .0) (sym (c .before .u2 .given .1) ∙ c .before .before .before .upvalues-list .ensures)
+
+pub read-head-lists-spec : {M : Type 1} → statement M
+read-head-lists-spec =
+    tie.close
+    (tie.spec
+    (λ c κs. search needs) (λ c. search needs) (λ c. search needs)
+    (λ c κs. search needs) (λ c. search needs) (λ c. search needs)
+    (λ c κs. search needs) (λ c. search needs) (λ c. search needs)
+    returns
+    returns-2
+    returns-3
+    returns-4)

@@ -1,0 +1,103 @@
+-- A function in two parts, before and behind the functions that nest in it, as readers. (`proofs/Flat.antt`: the reader of a function is made of these.)
+use mathlib.Core.List.{List, _∷_}
+use mathlib.Core.Option.{Option}
+use Prim.Native.Nat.{ℕ}
+use lib.ListN.{length}
+use Rattle.format.specs.declared.limits.ResourceLimits.{ResourceLimits}
+use Rattle.format.specs.declared.refusal.Refusal.the-variants.{Constants, Upvalues}
+use Rattle.format.specs.declared.entry.UpvalueDesc.{UpvalueDesc}
+use Rattle.format.specs.declared.entry.AbsLineInfo.{AbsLineInfo}
+use Rattle.format.specs.GrammarFields.{LuaString}
+use Rattle.format.specs.Reading.{ConstantValue, LocalVar, Prototype}
+use Rattle.format.specs.GrammarChunk.{Listed, inherit, Where, within}
+use Rattle.format.specs.Read.{Read, Reader, next, _>>=_, _>>_, give, here}
+use Rattle.format.specs.ReadFields.{string}
+use Rattle.format.specs.ReadChunk.{counted, countedUpTo, constant, upvalue, anchor, local, forest}
+use Rattle.lists.specs.Readers.{Count, protosCount, code, lineInfo}
+use Rattle.chunk.specs.Front.{Front, front}
+
+-- the lists before the nested functions
+pub record HeadLists : Type 0 where
+  pub instructions : Listed ℕ
+  pub constants : Listed ConstantValue
+  pub upvalues : Listed UpvalueDesc
+
+-- behind so many instructions of the functions before
+abbrev pub headLists : ResourceLimits → ℕ → Reader HeadLists
+headLists L before = do
+  instructions ← code (L .«max_instructions_per_proto») before (L .«max_total_instructions»)
+  constants ← countedUpTo (L .«max_constants_per_proto») Constants (constant (L .«max_string_bytes»))
+  upvalues ← countedUpTo (L .«max_upvalues_per_proto») Upvalues upvalue
+  give (record { instructions = instructions; constants = constants; upvalues = upvalues })
+
+pub record Head : Type 0 where
+  pub front : Front
+  pub lists : HeadLists
+  pub protos : Count
+
+abbrev pub head : ResourceLimits → ℕ → Reader Head
+head L before = do
+  front ← front (L .«max_string_bytes»)
+  lists ← headLists L before
+  protos ← protosCount (L .«max_total_prototypes»)
+  give (record { front = front; lists = lists; protos = protos })
+
+pub record Tail : Type 0 where
+  pub line-info : Listed ℕ
+  pub abs-line-info : Listed AbsLineInfo
+  pub loc-vars : Listed LocalVar
+  pub upvalue-names : Listed (Option LuaString)
+
+abbrev pub tail : ℕ → Reader Tail
+tail limit = do
+  line-info ← lineInfo
+  abs-line-info ← counted anchor
+  loc-vars ← counted (local limit)
+  upvalue-names ← counted (string limit)
+  give (record { line-info = line-info; abs-line-info = abs-line-info; loc-vars = loc-vars; upvalue-names = upvalue-names })
+
+-- the function of its parts
+abbrev pub prototypeOf : Where → ℕ → Head → Tail → ℕ → Prototype
+prototypeOf w start h t end = record {
+  depth = w .depth;
+  parent = w .parent;
+  start = start;
+  end = end;
+  source-name = inherit (h .front .source) (w .source);
+  line-defined = h .front .lines .«line_defined»;
+  last-line-defined = h .front .lines .«last_line_defined»;
+  numparams = h .front .sizes .numparams;
+  is-vararg = h .front .sizes .«is_vararg»;
+  maxstacksize = h .front .sizes .maxstacksize;
+  instructions = h .lists .instructions .items;
+  constants = h .lists .constants .items;
+  upvalues = h .lists .upvalues .items;
+  protos = h .protos .count;
+  line-info = t .line-info .items;
+  abs-line-info = t .abs-line-info .items;
+  loc-vars = t .loc-vars .items;
+  upvalue-names = t .upvalue-names .items;
+  places = record {
+    instructions = h .lists .instructions .place;
+    constants = h .lists .constants .place;
+    upvalues = h .lists .upvalues .place;
+    protos = h .protos .place;
+    line-info = t .line-info .place;
+    abs-line-info = t .abs-line-info .place;
+    loc-vars = t .loc-vars .place;
+    upvalue-names = t .upvalue-names .place;
+  };
+}
+
+-- where the first function stands that nests in w's
+abbrev pub inside : Where → Head → Where
+inside w h = within w (inherit (h .front .source) (w .source)) (length (h .lists .instructions .items))
+
+abbrev pub parts : ResourceLimits → (Where → Reader (List Prototype)) → Where → Reader (List Prototype)
+parts L r w = do
+  start ← here
+  h ← head L (w .instructions)
+  nested ← forest (h .protos .count) r (inside w h)
+  t ← tail (L .«max_string_bytes»)
+  end ← here
+  give (prototypeOf w start h t end ∷ nested)

@@ -1,0 +1,218 @@
+// A function before and behind the functions that nest in it.
+ghost use mathlib.Core.Path.{_≡_};
+ghost use lib.ListN.{drop};
+ghost use Rattle.chunk.specs.Parts as parts;
+ghost use Rattle.chunk.specs.PartsShown.{shownHeadLists, shownHead, shownTail};
+use crate::front::Front;
+use crate::front::FrontResult;
+use crate::front::read_front;
+use crate::row::ListAt;
+use format::limits::ResourceLimits;
+use format::refusal::Refusal;
+use lists::counted::ListResult;
+use lists::counted::anchors_list;
+use lists::counted::constants_list;
+use lists::counted::instructions_list;
+use lists::counted::line_info_list;
+use lists::counted::locals_list;
+use lists::counted::names_list;
+use lists::counted::protos_count;
+use lists::counted::upvalues_list;
+use reader::cursor::Cursor;
+
+pub struct HeadLists {
+    pub instructions: ListAt,
+    pub constants: ListAt,
+    pub upvalues: ListAt,
+}
+
+pub enum HeadListsResult {
+    Ok { lists: HeadLists, next: Cursor },
+    Err(Refusal),
+}
+
+// The lists before the nested functions, behind so many instructions of the functions before.
+fn read_head_lists(
+    s: &[u8],
+    limits: ResourceLimits,
+    before: usize,
+    cursor: Cursor,
+) -> HeadListsResult
+    ensures { λ r. ⌜ r ≡ shownHeadLists (parts.headLists limits before (cursor .at) (drop (cursor .at) (now (s .entry)))) ⌝ }
+{
+    let code = instructions_list(
+        s,
+        cursor,
+        limits.max_instructions_per_proto,
+        before,
+        limits.max_total_instructions,
+    );
+    match code {
+        ListResult::Err(refusal) => HeadListsResult::Err(refusal),
+        ListResult::Ok {
+            count: count1,
+            place: place1,
+            next: next1,
+        } => {
+            let k = constants_list(
+                s,
+                next1,
+                limits.max_constants_per_proto,
+                limits.max_string_bytes,
+            );
+            match k {
+                ListResult::Err(refusal) => HeadListsResult::Err(refusal),
+                ListResult::Ok {
+                    count: count2,
+                    place: place2,
+                    next: next2,
+                } => {
+                    let u = upvalues_list(s, next2, limits.max_upvalues_per_proto);
+                    match u {
+                        ListResult::Err(refusal) => HeadListsResult::Err(refusal),
+                        ListResult::Ok { count, place, next } => HeadListsResult::Ok {
+                            lists: HeadLists {
+                                instructions: ListAt {
+                                    count: count1,
+                                    place: place1,
+                                },
+                                constants: ListAt {
+                                    count: count2,
+                                    place: place2,
+                                },
+                                upvalues: ListAt {
+                                    count: count,
+                                    place: place,
+                                },
+                            },
+                            next: next,
+                        },
+                    }
+                }
+            }
+        }
+    }
+}
+
+pub struct Head {
+    pub front: Front,
+    pub lists: HeadLists,
+    pub protos: ListAt,
+}
+
+pub enum HeadResult {
+    Ok { head: Head, next: Cursor },
+    Err(Refusal),
+}
+
+// A function up to the functions that nest in it. Ruled out: a limit of another list, nested functions counted from the wrong place.
+pub fn read_head(s: &[u8], limits: ResourceLimits, before: usize, cursor: Cursor) -> HeadResult
+    ensures { λ r. ⌜ r ≡ shownHead (parts.head limits before (cursor .at) (drop (cursor .at) (now (s .entry)))) ⌝ }
+{
+    let begins = read_front(s, cursor, limits.max_string_bytes);
+    match begins {
+        FrontResult::Err(refusal) => HeadResult::Err(refusal),
+        FrontResult::Ok {
+            front: front,
+            next: behind,
+        } => {
+            let middle = read_head_lists(s, limits, before, behind);
+            match middle {
+                HeadListsResult::Err(refusal) => HeadResult::Err(refusal),
+                HeadListsResult::Ok {
+                    lists: lists,
+                    next: further,
+                } => {
+                    let nested = protos_count(s, further, limits.max_total_prototypes);
+                    match nested {
+                        ListResult::Err(refusal) => HeadResult::Err(refusal),
+                        ListResult::Ok { count, place, next } => HeadResult::Ok {
+                            head: Head {
+                                front: front,
+                                lists: lists,
+                                protos: ListAt {
+                                    count: count,
+                                    place: place,
+                                },
+                            },
+                            next: next,
+                        },
+                    }
+                }
+            }
+        }
+    }
+}
+
+pub struct Tail {
+    pub line_info: ListAt,
+    pub abs_line_info: ListAt,
+    pub loc_vars: ListAt,
+    pub upvalue_names: ListAt,
+}
+
+pub enum TailResult {
+    Ok { tail: Tail, next: Cursor },
+    Err(Refusal),
+}
+
+// A function behind the functions that nest in it. Ruled out: anchors taken for locals, the cursor before the names.
+pub fn read_tail(s: &[u8], max_string_bytes: usize, cursor: Cursor) -> TailResult
+    ensures { λ r. ⌜ r ≡ shownTail (parts.tail «max_string_bytes» (cursor .at) (drop (cursor .at) (now (s .entry)))) ⌝ }
+{
+    let deltas = line_info_list(s, cursor);
+    match deltas {
+        ListResult::Err(refusal) => TailResult::Err(refusal),
+        ListResult::Ok {
+            count: count1,
+            place: place1,
+            next: next1,
+        } => {
+            let anchors = anchors_list(s, next1);
+            match anchors {
+                ListResult::Err(refusal) => TailResult::Err(refusal),
+                ListResult::Ok {
+                    count: count2,
+                    place: place2,
+                    next: next2,
+                } => {
+                    let locals = locals_list(s, next2, max_string_bytes);
+                    match locals {
+                        ListResult::Err(refusal) => TailResult::Err(refusal),
+                        ListResult::Ok {
+                            count: count3,
+                            place: place3,
+                            next: next3,
+                        } => {
+                            let names = names_list(s, next3, max_string_bytes);
+                            match names {
+                                ListResult::Err(refusal) => TailResult::Err(refusal),
+                                ListResult::Ok { count, place, next } => TailResult::Ok {
+                                    tail: Tail {
+                                        line_info: ListAt {
+                                            count: count1,
+                                            place: place1,
+                                        },
+                                        abs_line_info: ListAt {
+                                            count: count2,
+                                            place: place2,
+                                        },
+                                        loc_vars: ListAt {
+                                            count: count3,
+                                            place: place3,
+                                        },
+                                        upvalue_names: ListAt {
+                                            count: count,
+                                            place: place,
+                                        },
+                                    },
+                                    next: next,
+                                },
+                            }
+                        }
+                    }
+                }
+            }
+        }
+    }
+}
