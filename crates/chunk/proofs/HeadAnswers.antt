@@ -121,14 +121,14 @@ lists-ok (ok x to rest) l c e =
 lists-ok (refused p) l c e = absurd (let z : _≡_ {A = ℕ} 0 1 = cc in omega arith)
 
 -- the lists read exactly a form
-abbrev ListsForm : ResourceLimits → ℕ → Form HeadLists
+abbrev pub ListsForm : ResourceLimits → ℕ → Form HeadLists
 ListsForm L before =
     Then (Code (L .«max_instructions_per_proto») before (L .«max_total_instructions»)) λ instructions.
     Then (CountedUpTo (L .«max_constants_per_proto») (Constant (L .«max_string_bytes»))) λ constants.
     Then (CountedUpTo (L .«max_upvalues_per_proto») Upvalue) λ upvalues.
     Is (record { instructions = instructions; constants = constants; upvalues = upvalues })
 
-exact-lists : (L : ResourceLimits) (before : ℕ) → Exact (headLists L before) (ListsForm L before)
+pub exact-lists : (L : ResourceLimits) (before : ℕ) → Exact (headLists L before) (ListsForm L before)
 exact-lists L before =
     exact-then (exact-code (L .«max_instructions_per_proto») before (L .«max_total_instructions»)) λ _.
     exact-then (exact-countedUpTo (L .«max_constants_per_proto») Constants (exact-constant (L .«max_string_bytes»))) λ _.

@@ -1,4 +1,5 @@
-// chunk.rs, decoding: a function before and behind the functions that nest in it, and the row that shows it.
+// chunk.rs, decoding: the functions of a chunk, one walk over the file.
 pub mod front;
 pub mod parts;
 pub mod row;
+pub mod walk;
