@@ -113,20 +113,20 @@ tail-ok (ok x to rest) t c e =
     record { value = x; was = record { rest = rest; is = rw next }; shows = cc }
 tail-ok (refused p) t c e = absurd (let z : _≡_ {A = ℕ} 0 1 = cc in omega arith)
 
-walk-err : (wanted : ℕ) (w : grammar.Where) (o : Read (List Prototype)) (q : Refusal) → answer.Err q ≡ shownWalk wanted w o → o ≡ refused q
+pub walk-err : (wanted : ℕ) (w : grammar.Where) (o : Read (List Prototype)) (q : Refusal) → answer.Err q ≡ shownWalk wanted w o → o ≡ refused q
 walk-err wanted w (ok x to rest) q e = absurd (let z : _≡_ {A = ℕ} 0 1 = cc in omega arith)
 walk-err wanted w (refused p) q e = cc
 
 -- a walk that was read: the functions, and all that is shown of them
-abbrev walkedOf : ℕ → grammar.Where → List Prototype → ℕ → Walked
+abbrev pub walkedOf : ℕ → grammar.Where → List Prototype → ℕ → Walked
 walkedOf wanted w ps to = record { next = cursorAt to; number = w .number + length ps; instructions = w .instructions + instructionsOf ps; row = shownRow (lookup wanted (w .number) ps) }
 
-record WasWalk (wanted : ℕ) (w : grammar.Where) (o : Read (List Prototype)) (walked : Walked) : Type 0 where
+pub record WasWalk (wanted : ℕ) (w : grammar.Where) (o : Read (List Prototype)) (walked : Walked) : Type 0 where
   pub value : List Prototype
   pub was : Was o value (walked .next .at)
   pub shows : walked ≡ walkedOf wanted w value (walked .next .at)
 
-walk-ok : (wanted : ℕ) (w : grammar.Where) (o : Read (List Prototype)) (walked : Walked) → answer.Ok walked ≡ shownWalk wanted w o → WasWalk wanted w o walked
+pub walk-ok : (wanted : ℕ) (w : grammar.Where) (o : Read (List Prototype)) (walked : Walked) → answer.Ok walked ≡ shownWalk wanted w o → WasWalk wanted w o walked
 walk-ok wanted w (ok x to rest) walked e =
     let all : walked ≡ walkedOf wanted w x to = cc in
     let behind : walked .next .at ≡ to = ap (λ k. k .next .at) all in
