@@ -5,8 +5,8 @@ ghost use Rattle.format.specs.ReadChunk.{main};
 ghost use Rattle.reader.specs.declared.string.OptionString.the-variants as string;
 ghost use Rattle.decode.specs.Loaded.{shownMain};
 use chunk::row::OptionRow;
-use chunk::walk::Walked;
 use chunk::walk::WalkResult;
+use chunk::walk::Walked;
 use chunk::walk::Where;
 use chunk::walk::read_function;
 use format::header::Header;
@@ -78,7 +78,11 @@ pub fn read_main(s: &[u8], limits: ResourceLimits, wanted: usize) -> LoadedResul
                     );
                     match functions {
                         WalkResult::Err(refusal) => LoadedResult::Err(refusal),
-                        WalkResult::Ok(walked) => LoadedResult::Ok(put_together(header, warning, walked)),
+                        WalkResult::Ok(walked) => LoadedResult::Ok(put_together(
+                            header,
+                            warning,
+                            walked,
+                        )),
                     }
                 }
             }
