@@ -1,4 +1,6 @@
 // chunk.rs, `decode_chunk_lua54`: a whole chunk, judged in one pass, and the row of one function.
+pub mod summary;
+
 ghost use mathlib.Core.Path.{_≡_};
 ghost use Prim.Native.Nat.{_≤_};
 ghost use Rattle.format.specs.ReadChunk.{main};

@@ -1,0 +1,17 @@
+-- `decode::summary::summarised` meets its contract. Assumes nothing.
+use mathlib.Core.Path.{_≡_, _∙_, ap}
+use lib.ListN.{drop}
+use borrow.Author.Needs.{needs}
+use Rattle.decode.proofs.Summaries.{trailing-list}
+use Rattle.decode.proofs.summary.summarised.Statement.{statement}
+use Rattle.decode.proofs.summary.summarised.Tie as tie
+
+returns : tie.Need-returns
+returns c =
+    let t = c .before .before in
+    let r = t .before in
+    let a = r .before .before .before .args in
+    rw (c .before .in-order .ensures, t .trailing-warning .ensures, r .remaining .ensures) (rw (trailing-list (a .loaded .next .at) (drop (a .loaded .next .at) (a .s .now))))
+
+pub summarised-spec : {M : Type 1} → statement M
+summarised-spec = tie.close (tie.spec (λ c κs. search needs) (λ c κs. search needs) (λ c κs. search needs) returns)
