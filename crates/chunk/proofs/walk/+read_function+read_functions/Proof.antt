@@ -4,13 +4,22 @@
 use Prim.Native.Nat.{ℕ, _<_, _≤_, _*_, _+_, _-_}
 use lib.ListN.{drop}
 use Rattle.format.specs.GrammarChunk as grammar
-use Rattle.format.specs.ReadChunk.{function}
-use Rattle.chunk.specs.Walk.{shownWhere, shownWalk, againShown}
+use Rattle.format.specs.ReadChunk.{forest, function}
+use Rattle.format.specs.declared.refusal.Refusal.{Refusal}
+use Rattle.reader.specs.declared.cursor.Cursor.{Cursor}
+use Rattle.chunk.specs.declared.parts.Head as declared-head
+use Rattle.chunk.specs.declared.parts.HeadResult.the-variants as head-answer
+use Rattle.chunk.specs.declared.parts.Tail as declared-tail
+use Rattle.chunk.specs.declared.parts.TailResult.the-variants as tail-answer
+use Rattle.chunk.specs.declared.walk.Walked.{Walked}
+use Rattle.chunk.specs.Parts as parts
+use Rattle.chunk.specs.PartsShown.{shownHead, shownTail}
+use Rattle.chunk.specs.Walk.{shownWhere, entered, shownWalk, finishedShown, againShown, joinedShown}
 use borrow.Author.Needs.{needs}
 use native.Mathlib.Omega.{arith}
 use mathlib.Core.Path.{_≡_, sym, _∙_, ap}
 use Rattle.chunk.specs.declared.walk.WalkResult.the-variants as answer
-use Rattle.chunk.proofs.Turns.{Rest, starts, ends, deep, many, stops, goes-on}
+use Rattle.chunk.proofs.Turns.{all, Rest, starts, ends, deep, many, stops, goes-on}
 use Rattle.chunk.proofs.Functions.{in-total, first, first-shown, head-refused, nested-refused, tail-refused, function-read}
 use borrow.Fn.Kinds.{In}
 use borrow.Fn.PlainCycle.{Measures, is, falls, and}
@@ -96,41 +105,55 @@ read-function-returns t c w p =
     let a = c .before .before .before .before .before .args in
     head-refused (a .s .now) (a .limits) (a .left) (a .wanted) (a .place) w p (a .cursor .at) _ (sym (c .before .begins .given .1) ∙ c .before .before .before .read-head .ensures)
 
+-- behind the nested functions: what the head gave, and what they show
+module _ (t : ℕ) (f : read-function-lts.After-read-functions (function-calls t) (read-function-at t) read-function.Post) where
+  abbrev h : read-function-lts.After-begins2 (function-calls t) (read-function-at t) read-function.Post
+  h = f .before .before .before
+
+  abbrev a : read-function-lts.Args (function-calls t) (read-function-at t) read-function.Post (h .before .before .before .before .κs)
+  a = h .before .before .before .before .args
+
+  abbrev head : declared-head.Head
+  head = h .begins2 .given .0 .0
+
+  abbrev behind : Cursor
+  behind = h .begins2 .given .0 .1 .0
+
+  begun : head-answer.Ok head behind ≡ shownHead (parts.head (a .limits) (a .place .instructions) (a .cursor .at) (drop (a .cursor .at) (a .s .now)))
+  begun = sym (h .begins2 .given .1) ∙ h .before .before .read-head .ensures
+
+  module _ (w : grammar.Where) (p : a .place ≡ shownWhere w) where
+    abbrev inner-place : grammar.Where
+    inner-place = first (a .s .now) (a .limits) (a .left) (a .wanted) (a .place) w p (a .cursor .at) head behind begun
+
+    inner : f .read-functions .result ≡ shownWalk (a .wanted) inner-place (forest (head .protos .count) (entered (a .limits) (a .left)) inner-place (behind .at) (drop (behind .at) (a .s .now)))
+    inner = f .read-functions .ensures inner-place (f .before .inside .ensures ∙ first-shown (a .s .now) (a .limits) (a .left) (a .wanted) (a .place) w p (a .cursor .at) head behind begun)
+
+    refused-inside : (q : Refusal) → f .read-functions .result ≡ answer.Err q → answer.Err q ≡ shownWalk (a .wanted) w (function (a .limits) (a .left) w (a .cursor .at) (drop (a .cursor .at) (a .s .now)))
+    refused-inside q e = nested-refused (a .s .now) (a .limits) (a .left) (a .wanted) (a .place) w p (a .cursor .at) head behind begun q (sym e ∙ inner)
+
+    module _ (nested : Walked) (e : f .read-functions .result ≡ answer.Ok nested) where
+      refused-behind : (q : Refusal) → tail-answer.Err q ≡ shownTail (parts.tail (a .limits .«max_string_bytes») (nested .next .at) (drop (nested .next .at) (a .s .now))) → answer.Err q ≡ shownWalk (a .wanted) w (function (a .limits) (a .left) w (a .cursor .at) (drop (a .cursor .at) (a .s .now)))
+      refused-behind q = tail-refused (a .s .now) (a .limits) (a .left) (a .wanted) (a .place) w p (a .cursor .at) head behind begun nested (sym e ∙ inner) q
+
+      all-read : (t : declared-tail.Tail) (end : Cursor) → tail-answer.Ok t end ≡ shownTail (parts.tail (a .limits .«max_string_bytes») (nested .next .at) (drop (nested .next .at) (a .s .now)))
+          → answer.Ok (finishedShown (a .place) (a .cursor .at) head t end nested (a .wanted)) ≡ shownWalk (a .wanted) w (function (a .limits) (a .left) w (a .cursor .at) (drop (a .cursor .at) (a .s .now)))
+      all-read = function-read (a .s .now) (a .limits) (a .left) (a .wanted) (a .place) w p (a .cursor .at) head behind begun nested (sym e ∙ inner)
+
 read-function-returns-2 : (t : ℕ) → read-function-lts.Need-returns-2 (function-calls t) (read-function-at t) read-function.Post
-read-function-returns-2 t c w p =
-    let h = c .before .before .before .before .before .before in
-    let b = h .before .before in
-    let a = b .before .before .args in
-    let e₁ = sym (h .begins2 .given .1) ∙ b .read-head .ensures in
-    let given = h .begins2 .given .0 in
-    let at-first = c .before .before .before .before .inside .ensures ∙ first-shown (a .s .now) (a .limits) (a .left) (a .wanted) (a .place) w p (a .cursor .at) (given .0) (given .1 .0) e₁ in
-    let inner = c .before .before .before .read-functions .ensures (first (a .s .now) (a .limits) (a .left) (a .wanted) (a .place) w p (a .cursor .at) (given .0) (given .1 .0) e₁) at-first in
-    nested-refused (a .s .now) (a .limits) (a .left) (a .wanted) (a .place) w p (a .cursor .at) (given .0) (given .1 .0) e₁ _ (sym (c .before .inner .given .1) ∙ inner)
+read-function-returns-2 t c w p = refused-inside t (c .before .before .before) w p _ (c .before .inner .given .1)
 
 read-function-returns-3 : (t : ℕ) → read-function-lts.Need-returns-3 (function-calls t) (read-function-at t) read-function.Post
 read-function-returns-3 t c w p =
     let n = c .before .before .before .before .before in
-    let h = n .before .before .before .before .before in
-    let b = h .before .before in
-    let a = b .before .before .args in
-    let e₁ = sym (h .begins2 .given .1) ∙ b .read-head .ensures in
-    let given = h .begins2 .given .0 in
-    let at-first = n .before .before .before .inside .ensures ∙ first-shown (a .s .now) (a .limits) (a .left) (a .wanted) (a .place) w p (a .cursor .at) (given .0) (given .1 .0) e₁ in
-    let inner = n .before .before .read-functions .ensures (first (a .s .now) (a .limits) (a .left) (a .wanted) (a .place) w p (a .cursor .at) (given .0) (given .1 .0) e₁) at-first in
-    tail-refused (a .s .now) (a .limits) (a .left) (a .wanted) (a .place) w p (a .cursor .at) (given .0) (given .1 .0) e₁ (n .inner2 .given .0 .0) (sym (n .inner2 .given .1) ∙ inner) _ (sym (c .before .ends .given .1) ∙ c .before .before .before .read-tail .ensures)
+    refused-behind t (n .before .before) w p (n .inner2 .given .0 .0) (n .inner2 .given .1) _ (sym (c .before .ends .given .1) ∙ c .before .before .before .read-tail .ensures)
 
 read-function-returns-4 : (t : ℕ) → read-function-lts.Need-returns-4 (function-calls t) (read-function-at t) read-function.Post
 read-function-returns-4 t c w p =
     let e = c .before .before in
     let n = e .before .before .before .before in
-    let h = n .before .before .before .before .before in
-    let b = h .before .before in
-    let a = b .before .before .args in
-    let e₁ = sym (h .begins2 .given .1) ∙ b .read-head .ensures in
-    let given = h .begins2 .given .0 in
-    let at-first = n .before .before .before .inside .ensures ∙ first-shown (a .s .now) (a .limits) (a .left) (a .wanted) (a .place) w p (a .cursor .at) (given .0) (given .1 .0) e₁ in
-    let inner = n .before .before .read-functions .ensures (first (a .s .now) (a .limits) (a .left) (a .wanted) (a .place) w p (a .cursor .at) (given .0) (given .1 .0) e₁) at-first in
-    ap answer.Ok (c .finished .ensures) ∙ function-read (a .s .now) (a .limits) (a .left) (a .wanted) (a .place) w p (a .cursor .at) (given .0) (given .1 .0) e₁ (n .inner2 .given .0 .0) (sym (n .inner2 .given .1) ∙ inner) (e .ends2 .given .0 .0) (e .ends2 .given .0 .1 .0) (sym (e .ends2 .given .1) ∙ e .before .before .read-tail .ensures)
+    ap answer.Ok (c .finished .ensures)
+    ∙ all-read t (n .before .before) w p (n .inner2 .given .0 .0) (n .inner2 .given .1) (e .ends2 .given .0 .0) (e .ends2 .given .0 .1 .0) (sym (e .ends2 .given .1) ∙ e .before .before .read-tail .ensures)
 
 abbrev read-functions-Inv-loop : read-functions-lts.InvT-loop
 read-functions-Inv-loop s limits first n left wanted walked₀ more₀ walked more = Rest s limits first n left wanted (walked₀ .next .at) walked more
@@ -170,28 +193,34 @@ read-functions-read-function-requires t c κs =
     let depth : g .again .result .depth + (b .args .left - 1) ≤ 200 = rw (g .again .ensures) (omega arith) in
     search needs
 
+-- behind one function more: what it shows
+module _ (t : ℕ) (f : read-functions-lts.After-read-function (functions-calls t) (read-functions-at t) read-functions.Post read-functions-Inv-loop read-functions-μ-loop) where
+  abbrev g : read-functions-lts.After-again (functions-calls t) (read-functions-at t) read-functions.Post read-functions-Inv-loop read-functions-μ-loop
+  g = f .before .before
+
+  abbrev i : read-functions-lts.Else1 (functions-calls t) (read-functions-at t) read-functions.Post read-functions-Inv-loop read-functions-μ-loop
+  i = g .before .before .before .before
+
+  abbrev l : read-functions-lts.At-loop (functions-calls t) (read-functions-at t) read-functions.Post read-functions-Inv-loop read-functions-μ-loop
+  l = i .before .before
+
+  abbrev b : read-functions-lts.Args (functions-calls t) (read-functions-at t) read-functions.Post read-functions-Inv-loop read-functions-μ-loop (l .before .before .κs)
+  b = l .before .before .args
+
+  one : (w : grammar.Where) → againShown (b .first) (l .loop .walked) ≡ shownWhere w → f .read-function .result ≡ shownWalk (b .wanted) w (function (b .limits) (b .left - 1) w (l .loop .walked .next .at) (drop (l .loop .walked .next .at) (b .s .now)))
+  one w p = f .read-function .ensures w (g .again .ensures ∙ p)
+
+  refused-next : (q : Refusal) → f .read-function .result ≡ answer.Err q → (w : grammar.Where) → b .first ≡ shownWhere w → answer.Err q ≡ all (b .s .now) (b .limits) (b .n) (b .left) (b .wanted) (b .cursor .at) w
+  refused-next = stops (b .s .now) (b .limits) (b .first) (b .n) (b .left) (b .wanted) (b .cursor .at) (l .loop .walked) (l .loop .more) (l .loop .inv) (i .before .loop-test .taken) (level (b .left) (i .if1 .left)) (g .before .if2 .left) (f .read-function .result) one
+
+  read-next : (later : Walked) → f .read-function .result ≡ answer.Ok later → Rest (b .s .now) (b .limits) (b .first) (b .n) (b .left) (b .wanted) (b .cursor .at) (joinedShown (l .loop .walked) later) (l .loop .more - 1)
+  read-next = goes-on (b .s .now) (b .limits) (b .first) (b .n) (b .left) (b .wanted) (b .cursor .at) (l .loop .walked) (l .loop .more) (l .loop .inv) (i .before .loop-test .taken) (level (b .left) (i .if1 .left)) (g .before .if2 .left) (f .read-function .result) one
+
 read-functions-returns-3 : (t : ℕ) → read-functions-lts.Need-returns-3 (functions-calls t) (read-functions-at t) read-functions.Post read-functions-Inv-loop read-functions-μ-loop
-read-functions-returns-3 t c =
-    let f = c .before .before .before in
-    let g = f .before .before in
-    let i = g .before .before .before .before in
-    let l = i .before .before in
-    let a = l .before .before .args in
-    let one : (w : grammar.Where) → againShown (a .first) (l .loop .walked) ≡ shownWhere w → f .read-function .result ≡ shownWalk (a .wanted) w (function (a .limits) (a .left - 1) w (l .loop .walked .next .at) (drop (l .loop .walked .next .at) (a .s .now)))
-    = λ w p. f .read-function .ensures w (g .again .ensures ∙ p) in
-    stops (a .s .now) (a .limits) (a .first) (a .n) (a .left) (a .wanted) (a .cursor .at) (l .loop .walked) (l .loop .more) (l .loop .inv) (i .before .loop-test .taken) (level (a .left) (i .if1 .left)) (g .before .if2 .left) (f .read-function .result) one _ (c .before .one .given .1)
+read-functions-returns-3 t c = refused-next t (c .before .before .before) _ (c .before .one .given .1)
 
 read-functions-loop-again : (t : ℕ) → read-functions-lts.Need-loop-again (functions-calls t) (read-functions-at t) read-functions.Post read-functions-Inv-loop read-functions-μ-loop
-read-functions-loop-again t c =
-    let f = c .before .before .before .before in
-    let g = f .before .before in
-    let i = g .before .before .before .before in
-    let l = i .before .before in
-    let a = l .before .before .args in
-    let one : (w : grammar.Where) → againShown (a .first) (l .loop .walked) ≡ shownWhere w → f .read-function .result ≡ shownWalk (a .wanted) w (function (a .limits) (a .left - 1) w (l .loop .walked .next .at) (drop (l .loop .walked .next .at) (a .s .now)))
-    = λ w p. f .read-function .ensures w (g .again .ensures ∙ p) in
-    let kept = goes-on (a .s .now) (a .limits) (a .first) (a .n) (a .left) (a .wanted) (a .cursor .at) (l .loop .walked) (l .loop .more) (l .loop .inv) (i .before .loop-test .taken) (level (a .left) (i .if1 .left)) (g .before .if2 .left) (f .read-function .result) one (c .before .before .one2 .given .0 .0) (c .before .before .one2 .given .1) in
-    rw (c .joined .ensures) kept
+read-functions-loop-again t c = let kept = read-next t (c .before .before .before .before) (c .before .before .one2 .given .0 .0) (c .before .before .one2 .given .1) in rw (c .joined .ensures) kept
 
 read-functions-returns-4 : (t : ℕ) → read-functions-lts.Need-returns-4 (functions-calls t) (read-functions-at t) read-functions.Post read-functions-Inv-loop read-functions-μ-loop
 read-functions-returns-4 t c =
