@@ -1,0 +1,101 @@
+// Instruction words, constants and upvalues.
+ghost use mathlib.Core.Path.{_≡_};
+ghost use lib.ListN.{drop};
+ghost use Rattle.format.specs.ReadFields.{field};
+ghost use Rattle.format.specs.ReadChunk as spec;
+ghost use Rattle.reader.specs.Shown.{shownU32};
+ghost use Rattle.lists.specs.Shown.{shownConstant};
+ghost use Rattle.entries.specs.Nth.{nth};
+ghost use Rattle.entries.specs.Shown.{shownUpvalue};
+use format::entry::UpvalueDesc;
+use format::refusal::Refusal;
+use lists::constant::ConstantResult;
+use lists::constant::read_constant;
+use lists::constant::skip_constants;
+use lists::runs::skip_upvalues;
+use lists::runs::skip_words;
+use reader::cursor::Cursor;
+use reader::cursor::CursorResult;
+use reader::field::U8Result;
+use reader::field::U32Result;
+use reader::field::read_u8;
+use reader::field::read_u32_le;
+
+pub enum UpvalueResult {
+    Ok { value: UpvalueDesc, next: Cursor },
+    Err(Refusal),
+}
+
+// Ruled out: the word before, the bytes of a word taken as entries.
+pub fn word_at(s: &[u8], cursor: Cursor, entry: usize) -> U32Result
+    ensures { λ r. ⌜ r ≡ shownU32 (nth entry (field 4) (cursor .at) (drop (cursor .at) (now (s .entry)))) ⌝ }
+{
+    let passed = skip_words(s, cursor, entry);
+    match passed {
+        CursorResult::Err(refusal) => U32Result::Err(refusal),
+        CursorResult::Ok(next) => read_u32_le(s, next),
+    }
+}
+
+// Ruled out: the first constant whatever the number, one constant too far.
+pub fn constant_at(
+    s: &[u8],
+    cursor: Cursor,
+    entry: usize,
+    max_string_bytes: usize,
+) -> ConstantResult
+    ensures { λ r. ⌜ r ≡ shownConstant (nth entry (spec.constant «max_string_bytes») (cursor .at) (drop (cursor .at) (now (s .entry)))) ⌝ }
+{
+    let passed = skip_constants(s, cursor, entry, max_string_bytes);
+    match passed {
+        CursorResult::Err(refusal) => ConstantResult::Err(refusal),
+        CursorResult::Ok(next) => read_constant(s, next, max_string_bytes),
+    }
+}
+
+// One upvalue: three bytes. Ruled out: instack and idx exchanged, the same byte three times.
+pub fn read_upvalue(s: &[u8], cursor: Cursor) -> UpvalueResult
+    ensures { λ r. ⌜ r ≡ shownUpvalue (spec.upvalue (cursor .at) (drop (cursor .at) (now (s .entry)))) ⌝ }
+{
+    let first = read_u8(s, cursor);
+    match first {
+        U8Result::Err(refusal) => UpvalueResult::Err(refusal),
+        U8Result::Ok {
+            value: instack,
+            next: behind,
+        } => {
+            let second = read_u8(s, behind);
+            match second {
+                U8Result::Err(refusal) => UpvalueResult::Err(refusal),
+                U8Result::Ok {
+                    value: idx,
+                    next: further,
+                } => {
+                    let third = read_u8(s, further);
+                    match third {
+                        U8Result::Err(refusal) => UpvalueResult::Err(refusal),
+                        U8Result::Ok { value, next } => UpvalueResult::Ok {
+                            value: UpvalueDesc {
+                                instack: instack,
+                                idx: idx,
+                                kind: value,
+                            },
+                            next: next,
+                        },
+                    }
+                }
+            }
+        }
+    }
+}
+
+// Ruled out: two bytes an upvalue, the upvalue behind it.
+pub fn upvalue_at(s: &[u8], cursor: Cursor, entry: usize) -> UpvalueResult
+    ensures { λ r. ⌜ r ≡ shownUpvalue (nth entry spec.upvalue (cursor .at) (drop (cursor .at) (now (s .entry)))) ⌝ }
+{
+    let passed = skip_upvalues(s, cursor, entry);
+    match passed {
+        CursorResult::Err(refusal) => UpvalueResult::Err(refusal),
+        CursorResult::Ok(next) => read_upvalue(s, next),
+    }
+}

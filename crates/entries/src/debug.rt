@@ -1,0 +1,66 @@
+// Deltas, anchors, local variables and upvalue names.
+ghost use mathlib.Core.Path.{_≡_};
+ghost use lib.ListN.{drop};
+ghost use Rattle.format.specs.ReadFields.{string};
+ghost use Rattle.format.specs.ReadChunk as spec;
+ghost use Rattle.reader.specs.Shown.{shownU8, shownString};
+ghost use Rattle.lists.specs.Shown.{shownAnchor, shownLocal};
+ghost use Rattle.entries.specs.Nth.{nth, nthByte, nthLocal};
+use lists::debug::AnchorResult;
+use lists::debug::LocalResult;
+use lists::debug::read_anchor;
+use lists::debug::read_local;
+use lists::debug::skip_anchors;
+use lists::debug::skip_locals;
+use lists::strings::skip_strings;
+use reader::cursor::Cursor;
+use reader::cursor::CursorResult;
+use reader::cursor::read_exact;
+use reader::field::U8Result;
+use reader::field::read_u8;
+use reader::string::StringResult;
+use reader::string::read_string_lua54;
+
+// The byte of a delta. Ruled out: the first delta whatever the number, one delta too far.
+pub fn delta_at(s: &[u8], cursor: Cursor, entry: usize) -> U8Result
+    ensures { λ r. ⌜ r ≡ shownU8 (nthByte entry (cursor .at) (drop (cursor .at) (now (s .entry)))) ⌝ }
+{
+    let passed = read_exact(s, cursor, entry);
+    match passed {
+        CursorResult::Err(refusal) => U8Result::Err(refusal),
+        CursorResult::Ok(next) => read_u8(s, next),
+    }
+}
+
+// Ruled out: the first anchor whatever the number, a number taken for an anchor.
+pub fn anchor_at(s: &[u8], cursor: Cursor, entry: usize) -> AnchorResult
+    ensures { λ r. ⌜ r ≡ shownAnchor (nth entry spec.anchor (cursor .at) (drop (cursor .at) (now (s .entry)))) ⌝ }
+{
+    let passed = skip_anchors(s, cursor, entry);
+    match passed {
+        CursorResult::Err(refusal) => AnchorResult::Err(refusal),
+        CursorResult::Ok(next) => read_anchor(s, next),
+    }
+}
+
+// With its name as it is spelt. Ruled out: the name of the local before, an absent name given as `?`.
+pub fn local_at(s: &[u8], cursor: Cursor, entry: usize, max_string_bytes: usize) -> LocalResult
+    ensures { λ r. ⌜ r ≡ shownLocal (nthLocal entry «max_string_bytes» (cursor .at) (drop (cursor .at) (now (s .entry)))) ⌝ }
+{
+    let passed = skip_locals(s, cursor, entry, max_string_bytes);
+    match passed {
+        CursorResult::Err(refusal) => LocalResult::Err(refusal),
+        CursorResult::Ok(next) => read_local(s, next, max_string_bytes),
+    }
+}
+
+// An upvalue's name. Ruled out: absent names not counted, an absent name given as an empty one.
+pub fn name_at(s: &[u8], cursor: Cursor, entry: usize, max_string_bytes: usize) -> StringResult
+    ensures { λ r. ⌜ r ≡ shownString (nth entry (string «max_string_bytes») (cursor .at) (drop (cursor .at) (now (s .entry)))) ⌝ }
+{
+    let passed = skip_strings(s, cursor, entry, max_string_bytes);
+    match passed {
+        CursorResult::Err(refusal) => StringResult::Err(refusal),
+        CursorResult::Ok(next) => read_string_lua54(s, next, max_string_bytes),
+    }
+}

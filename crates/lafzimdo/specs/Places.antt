@@ -1,0 +1,32 @@
+-- Where a list with an entry of a number stands.
+use Prim.Native.Nat.{ℕ}
+use lib.Dec.{ltb}
+use Rattle.format.specs.Pick.{pick}
+use Rattle.format.specs.declared.refusal.Refusal.the-variants.{NoEntry}
+use Rattle.format.specs.Reading.{Prototype}
+use Rattle.reader.specs.Shown.{cursorAt}
+use Rattle.chunk.specs.declared.row.FunctionRow.{FunctionRow}
+use Rattle.chunk.specs.declared.row.ListAt.{ListAt}
+use Rattle.chunk.specs.Row.{rowOf}
+use Rattle.lafzimdo.specs.declared.place.EntryKind.{EntryKind}
+use Rattle.lafzimdo.specs.declared.place.EntryKind.the-variants as kind
+use Rattle.lafzimdo.specs.declared.place.PlaceAnswer.{PlaceAnswer}
+use Rattle.lafzimdo.specs.declared.place.PlaceAnswer.the-variants as answer
+use Rattle.lafzimdo.specs.Asked.{Asked, found, refused}
+
+abbrev pub listOf : EntryKind → FunctionRow → ListAt
+listOf kind.Instruction r = r .lists .instructions
+listOf kind.Constant r = r .lists .constants
+listOf kind.Upvalue r = r .lists .upvalues
+listOf kind.Delta r = r .lists .«line_info»
+listOf kind.Anchor r = r .lists .«abs_line_info»
+listOf kind.Local r = r .lists .«loc_vars»
+listOf kind.UpvalueName r = r .lists .«upvalue_names»
+
+-- of a list: its first entry, if it has one of that number
+abbrev pub placeIn : ListAt → ℕ → PlaceAnswer
+placeIn l n = pick (ltb n (l .count)) (answer.Ok (cursorAt (l .place))) (answer.Err NoEntry)
+
+abbrev pub shownPlace : EntryKind → ℕ → Asked Prototype → PlaceAnswer
+shownPlace k n (found p) = placeIn (listOf k (rowOf p)) n
+shownPlace k n (refused q) = answer.Err q
