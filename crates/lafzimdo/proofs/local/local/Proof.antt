@@ -1,11 +1,6 @@
 -- `lafzimdo::local::local` meets its contract: the variable is read where its list stands, and its name is written (`Names.antt`). Assumes nothing.
-use mathlib.Core.Path.{_≡_, sym, _∙_, ap}
-use Prim.Native.Nat.{_≤_, _<_}
-use native.Mathlib.Omega.{arith}
+use mathlib.Core.Path.{sym, _∙_}
 use borrow.Author.Needs.{needs}
-use lib.ListN.{length}
-use Rattle.lafzimdo.specs.declared.local.LocalAnswer.the-variants as answer
-use Rattle.lafzimdo.specs.Locals.{nameLength}
 use Rattle.lafzimdo.proofs.Names.{local-refused, local-read, name-stands, local-short, local-shown}
 use Rattle.lafzimdo.proofs.local.local.Statement.{statement}
 use Rattle.lafzimdo.proofs.local.local.Tie as tie
@@ -19,7 +14,7 @@ local-spec =
     (λ c κs. search needs)
     (λ c.
     let a = c .before .before .before .before .before .before .before .before .before .before .before .before .args in
-    let short : length (a .name .now) < nameLength _ = rw (c .before .name-len .ensures) at (c .if1 .taken) in
+    let short = rw (c .before .name-len .ensures) at (c .if1 .taken) in
     local-short (a .limits) (a .s .now) (a .function) (a .entry) _ (sym (c .before .before .before .before .before .before .before .found2 .given .1) ∙ c .before .before .before .before .before .before .before .before .before .entry-list .ensures) _ _ _ _ (sym (c .before .before .before .read2 .given .1) ∙ c .before .before .before .before .before .local-at .ensures) (a .name .now) short)
     (λ c κs.
     let a = c .before .before .before .before .before .before .before .before .before .before .before .before .before .args in
