@@ -2,7 +2,7 @@
 use crate::token;
 use crate::token::IntegerAt;
 use crate::token::NumberAt;
-use opcodes::instruction::RawInstruction54;
+use instructions::instruction::RawInstruction54;
 use opcodes::opcode::Opcode54;
 
 pub enum Fields {

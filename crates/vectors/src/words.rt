@@ -6,8 +6,8 @@ use crate::fields::Fields;
 use crate::number;
 use crate::number::Number;
 use crate::print;
-use opcodes::instruction::Encoded;
-use opcodes::instruction::RawInstruction54;
+use instructions::instruction::Encoded;
+use instructions::instruction::RawInstruction54;
 use opcodes::opcode::OpMode54;
 use opcodes::opcode::OptionOpcode54;
 
