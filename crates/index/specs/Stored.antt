@@ -16,7 +16,7 @@ use Rattle.chunk.specs.declared.row.FunctionRow.{FunctionRow}
 use Rattle.chunk.specs.Row.{rowOf}
 
 unfoldable pub splice : ℕ → List ℕ → List ℕ → List ℕ
-splice at xs l = take at l ++ xs ++ drop (at + length xs) l
+splice at xs l = take at l ++ (xs ++ drop (at + length xs) l)
 
 abbrev pub low : ℕ → ℕ
 low n = n % 4294967296
