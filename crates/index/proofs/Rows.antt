@@ -1,5 +1,5 @@
 -- What the walk has written: at each return of `write_function`, and at each turn of the loop of `write_functions`.
---     none-wrote       a walk that refuses has written what it likes
+--     refuses          a walk that refuses may have written anything
 --     function-wrote   a function's row, behind the rows of those that nest in it
 --     Behind           in the loop: the rows of the functions passed stand there, and those left are read from here on
 -- Assumes nothing.
@@ -46,8 +46,13 @@ stored-append : (ps qs : List Prototype) → stored (ps ++ qs) ≡ stored ps ++ 
 stored-append [] qs = refl
 stored-append (p ∷ ps) qs = ap (λ more. storedRow (rowOf p) ++ more) (stored-append ps qs)
 
-pub none-wrote : (w : grammar.Where) (o : Read (List Prototype)) (l l′ : List ℕ) (q : Refusal) → answer.Err q ≡ shownWalk 0 w o → Wrote w o l l′
+none-wrote : (w : grammar.Where) (o : Read (List Prototype)) (l l′ : List ℕ) (q : Refusal) → answer.Err q ≡ shownWalk 0 w o → Wrote w o l l′
 none-wrote w o l l′ q e = record { wrote = λ ps to rest f _. absurd (never (sym (walk-err 0 w o q e) ∙ f)) }
+
+-- what a return with a refusal shows, and what is then asked of the rows
+pub refuses : (place : Where) (o : grammar.Where → Read (List Prototype)) (l l′ : List ℕ) (q : Refusal) → ((w : grammar.Where) → place ≡ shownWhere w → answer.Err q ≡ shownWalk 0 w (o w))
+    → ((w : grammar.Where) → place ≡ shownWhere w → answer.Err q ≡ shownWalk 0 w (o w)) × ((w : grammar.Where) → place ≡ shownWhere w → Wrote w (o w) l l′)
+refuses place o l l′ q shows = (shows, λ w p. none-wrote w (o w) l l′ q (shows w p))
 
 -- ## A function
 module _ (s : Bytes) (L : ResourceLimits) (left : ℕ) (place : Where) (w : grammar.Where) (stands : place ≡ shownWhere w) (at : ℕ)
