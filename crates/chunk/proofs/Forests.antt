@@ -46,7 +46,7 @@ shown-append n k (p ∷ ps) qs =
     let e : k + 1 + length ps ≡ k + length (p ∷ ps) = omega arith in
     shown-pick (eqb n k) p (lookup n (k + 1) (ps ++ qs)) (lookup n (k + 1) ps) (shownRow (lookup n (k + length (p ∷ ps)) qs)) (shown-append n (k + 1) ps qs ∙ ap (λ j. orRow (shownRow (lookup n (k + 1) ps)) (shownRow (lookup n j qs))) e)
 
-pub instructions-append : (ps qs : List Prototype) → instructionsOf (ps ++ qs) ≡ instructionsOf ps + instructionsOf qs
+instructions-append : (ps qs : List Prototype) → instructionsOf (ps ++ qs) ≡ instructionsOf ps + instructionsOf qs
 instructions-append [] qs = omega arith
 instructions-append (p ∷ ps) qs = rw (instructions-append ps qs) (omega arith)
 

@@ -70,10 +70,10 @@ module _ (L : ResourceLimits) (left : ℕ) (w : grammar.Where) (at : ℕ) (s : B
   enters more h = let e : left ≡ suc (left - 1) = omega arith in ap (λ n. entered L n w at s) e ∙ rw (le-leb _ _ h)
 
 -- ## The parts of a function
-abbrev pub HeadForm : ResourceLimits → ℕ → Form Head
+abbrev HeadForm : ResourceLimits → ℕ → Form Head
 HeadForm L before = Then (FrontForm (L .«max_string_bytes»)) λ front. Then (ListsForm L before) λ lists. Then (ProtosCount (L .«max_total_prototypes»)) λ protos. Is (record { front = front; lists = lists; protos = protos })
 
-pub exact-head : (L : ResourceLimits) (before : ℕ) → Exact (head L before) (HeadForm L before)
+exact-head : (L : ResourceLimits) (before : ℕ) → Exact (head L before) (HeadForm L before)
 exact-head L before = exact-then (exact-front (L .«max_string_bytes»)) λ _. exact-then (exact-lists L before) λ _. exact-then (exact-protosCount (L .«max_total_prototypes»)) λ _. exact-give _
 
 -- the instructions of all functions so far stay within the limit
@@ -91,7 +91,7 @@ head-err : (o : Read Head) (q : Refusal) → head-answer.Err q ≡ shownHead o �
 head-err (ok x to rest) q e = absurd (let z : _≡_ {A = ℕ} 0 1 = cc in omega arith)
 head-err (refused p) q e = cc
 
-pub head-ok : (o : Read Head) (h : declared-head.Head) (c : Cursor) → head-answer.Ok h c ≡ shownHead o → Showed headOf o h (c .at)
+head-ok : (o : Read Head) (h : declared-head.Head) (c : Cursor) → head-answer.Ok h c ≡ shownHead o → Showed headOf o h (c .at)
 head-ok (ok x to rest) h c e =
     let next : c ≡ cursorAt to = cc in
     record { value = x; was = record { rest = rest; is = rw next }; shows = cc }
@@ -138,7 +138,7 @@ inherited : (spelt parent : Option LuaString) → inheritShown (optionString spe
 inherited (some t) parent = refl
 inherited none parent = refl
 
-pub inside-shown : (w : grammar.Where) (v : Head) → insideShown (shownWhere w) (headOf v) ≡ shownWhere (inside w v)
+inside-shown : (w : grammar.Where) (v : Head) → insideShown (shownWhere w) (headOf v) ≡ shownWhere (inside w v)
 inside-shown w v = λ i. record { number = w .number + 1; instructions = w .instructions + length (v .lists .instructions .items); depth = w .depth + 1; parent = w .number; source = inherited (v .front .source) (w .source) i }
 
 pub row-shown : (w : grammar.Where) (at : ℕ) (v : Head) (t : Tail) (end : ℕ) → rowShown (shownWhere w) at (headOf v) (tailOf t) end ≡ rowOf (prototypeOf w at v t end)
@@ -177,7 +177,7 @@ module _ (s : Bytes) (L : ResourceLimits) (left wanted : ℕ) (place : Where) (w
   abbrev pub begins : Read Head
   begins = head L (place .instructions) at (drop at s)
 
-  pub as-begins : head L (w .instructions) at (drop at s) ≡ begins
+  as-begins : head L (w .instructions) at (drop at s) ≡ begins
   as-begins = ap (λ k. head L (k .instructions) at (drop at s)) (sym stands)
 
   pub head-refused : (q : Refusal) → head-answer.Err q ≡ shownHead begins → answer.Err q ≡ shownWalk wanted w whole
@@ -199,7 +199,7 @@ module _ (s : Bytes) (L : ResourceLimits) (left wanted : ℕ) (place : Where) (w
     abbrev pub inner : Read (List Prototype)
     inner = forest (h .protos .count) (entered L left) first (c₁ .at) (drop (c₁ .at) s)
 
-    pub as-many : inner ≡ forest (headed .value .protos .count) (entered L left) first (c₁ .at) (drop (c₁ .at) s)
+    as-many : inner ≡ forest (headed .value .protos .count) (entered L left) first (c₁ .at) (drop (c₁ .at) s)
     as-many = ap (λ h. forest (h .protos .count) (entered L left) first (c₁ .at) (drop (c₁ .at) s)) (headed .shows)
 
     pub nested-refused : (q : Refusal) → answer.Err q ≡ shownWalk wanted first inner → answer.Err q ≡ shownWalk wanted w whole

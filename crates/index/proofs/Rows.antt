@@ -5,7 +5,7 @@
 -- Assumes nothing.
 use mathlib.Core.Path.{_≡_, refl, sym, _∙_, ap}
 use mathlib.Core.List.{List, [], _∷_, _++_, append-assoc, append-nil}
-use Prim.Native.Nat.{ℕ, zero, suc, _+_, _*_, _-_, _<_, _≤_}
+use Prim.Native.Nat.{ℕ, suc, _+_, _*_, _-_, _<_, _≤_}
 use native.Mathlib.Omega.{arith}
 use lib.ListN.{length, length-append, drop}
 use Rattle.format.specs.declared.limits.ResourceLimits.{ResourceLimits}
@@ -33,9 +33,9 @@ use Rattle.chunk.specs.Parts.{prototypeOf}
 use Rattle.chunk.specs.PartsShown.{shownHead, shownTail}
 use Rattle.chunk.specs.Walk.{shownWhere, entered, shownWalk, rowShown, further, againShown, joinedShown}
 use Rattle.chunk.proofs.On.{taken}
-use Rattle.chunk.proofs.Functions.{exact-entered, enters, walk-err, walkedOf, tail-ok, row-shown, whole, by-parts, begins, headed, head-on, first, inner, walked, nested-on, ends}
+use Rattle.chunk.proofs.Functions.{exact-entered, enters, walk-err, walkedOf, tail-ok, row-shown, by-parts, begins, headed, head-on, first, inner, walked, nested-on, ends}
 use Rattle.index.specs.Stored.{splice, storedRow, stored, Wrote}
-use Rattle.index.proofs.Splices.{splice-length, splice-none, splice-then, splice-before}
+use Rattle.index.proofs.Splices.{splice-none, splice-then, splice-before}
 
 -- ## Rows
 pub stored-length : (ps : List Prototype) → length (stored ps) ≡ 12 * length ps

@@ -5,20 +5,19 @@
 --     small-main       the numbers of every function of a chunk are at most 16777216
 --     stored-index     then what is stored is the index
 -- Assumes nothing.
-use mathlib.Core.Path.{_≡_, refl, sym, _∙_, ap}
+use mathlib.Core.Path.{_≡_, refl, _∙_, ap}
 use mathlib.Core.List.{List, [], _∷_, _++_, map}
-use Prim.Native.Nat.{ℕ, zero, suc, _+_, _*_, _%_, _≤_, _<_}
+use Prim.Native.Nat.{ℕ, zero, suc, _+_, _≤_}
 use native.Mathlib.Omega.{arith}
 use lib.ListN.{length, length-append}
 use Rattle.format.specs.declared.limits.ResourceLimits.{ResourceLimits}
 use Rattle.format.specs.Form.{Bytes, Form, Then, Is, Here, Given, Nothing, Run, Many}
-use Rattle.format.specs.GrammarFields.{Field, Number, String}
+use Rattle.format.specs.GrammarFields.{Field, Number}
 use Rattle.format.specs.Reading.{Prototype}
-use Rattle.format.specs.GrammarChunk.{Listed, Counted, CountedUpTo, Constant, Upvalue, Anchor, Local, inherit, Where, after, within, Forest, Body, Function, Main, Loaded}
+use Rattle.format.specs.GrammarChunk.{Listed, Counted, CountedUpTo, inherit, Where, after, within, Forest, Body, Function, Main, Loaded}
 use Rattle.format.proofs.Every.{All, all-append}
-use Rattle.chunk.specs.Row.{rowOf}
 use Rattle.index.specs.Index.{indexRow, index}
-use Rattle.index.specs.Stored.{low, storedRow, stored}
+use Rattle.index.specs.Stored.{low, stored}
 
 -- ## Bytes that an item takes
 record Takes {A : Type 0} (F : Form A) : Type 0 where

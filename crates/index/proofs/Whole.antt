@@ -7,7 +7,7 @@
 use mathlib.Core.Path.{_≡_, refl, sym, _∙_, ap}
 use mathlib.Core.Bool.{Bool, true, false, _&&_}
 use mathlib.Core.List.{List, [], _∷_, _++_}
-use Prim.Native.Nat.{ℕ, zero, suc, _+_, _*_, _/_, _≤_, _<_}
+use Prim.Native.Nat.{ℕ, _+_, _*_, _/_, _≤_, _<_}
 use native.Mathlib.Nat.{zero-add}
 use native.Mathlib.Omega.{arith}
 use borrow.Author.Tests.{leb-true, le-leb, lt-leb}
@@ -20,7 +20,7 @@ use Rattle.format.specs.declared.refusal.Refusal.the-variants.{LentSpace}
 use Rattle.format.specs.Limits.{withinCeilings}
 use Rattle.format.specs.Form.{Bytes}
 use Rattle.format.specs.Reading.{Prototype, Reading}
-use Rattle.format.specs.GrammarChunk.{outermost, Loaded, Main, Chunk, reading}
+use Rattle.format.specs.GrammarChunk.{outermost, Loaded, Chunk}
 use Rattle.format.specs.Read.{Read, ok, refused, Reader, next, give}
 use Rattle.format.specs.ReadFields.{byte}
 use Rattle.format.specs.GrammarHeader.{Headed}

@@ -9,7 +9,7 @@ use lib.Dec.{leb}
 use lib.ListN.{length, drop}
 use Rattle.format.specs.declared.refusal.Refusal.the-variants.{LentSpace}
 use Rattle.format.specs.Pick.{pick}
-use Rattle.format.specs.Reading.{Prototype, Reading}
+use Rattle.format.specs.Reading.{Prototype}
 use Rattle.format.specs.ReadChunk.{Outcome, shown, refusal}
 use Rattle.index.specs.declared.IndexAnswer.{IndexAnswer}
 use Rattle.index.specs.declared.IndexAnswer.the-variants as answer

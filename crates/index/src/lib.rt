@@ -8,7 +8,6 @@ ghost use Rattle.format.specs.ReadChunk as format;
 ghost use Rattle.index.specs.Index.{shownIndex, indexWritten};
 use crate::walk::write_function;
 use chunk::row::OptionRow;
-use chunk::walk::Where;
 use decode::outermost;
 use decode::summary::DecodedResult;
 use decode::summary::decode_chunk_lua54;

@@ -1,5 +1,5 @@
 -- `index::function_index` meets its contract: the first pass says which case of the reading holds, the second writes the index (`Whole.antt`). Assumes nothing.
-use mathlib.Core.Path.{_≡_, sym, _∙_, ap}
+use mathlib.Core.Path.{sym, _∙_}
 use Prim.Native.Nat.{_+_, _≤_}
 use native.Mathlib.Omega.{arith}
 use borrow.Author.Needs.{needs}

@@ -186,9 +186,11 @@ write-function-returns-4 t c =
     let e = r .before .before .before .before in
     let n = e .before .before .before .before in
     let f = n .before .before .before .before in
-    let ended = sym (e .ends2 .given .1) ∙ e .before .before .read-tail .ensures in
-    (λ w p. ap answer.Ok (c .finished .ensures)
-    ∙ all-read t f w p (n .inner2 .given .0 .0) (n .inner2 .given .1) (e .ends2 .given .0 .0) (e .ends2 .given .0 .1 .0) ended, λ w p. all-written t f w p (n .inner2 .given .0 .0) (n .inner2 .given .1) (e .ends2 .given .0 .0) (e .ends2 .given .0 .1 .0) ended _ (rw (r .before .before .row-of .ensures) at (r .put-row .ensures)))
+    let ended = sym (e .ends2 .given .1) ∙ e .before .before .read-tail .ensures in (
+      λ w p. ap answer.Ok (c .finished .ensures)
+          ∙ all-read t f w p (n .inner2 .given .0 .0) (n .inner2 .given .1) (e .ends2 .given .0 .0) (e .ends2 .given .0 .1 .0) ended,
+      λ w p. all-written t f w p (n .inner2 .given .0 .0) (n .inner2 .given .1) (e .ends2 .given .0 .0) (e .ends2 .given .0 .1 .0) ended _ (rw (r .before .before .row-of .ensures) at (r .put-row .ensures)),
+    )
 
 abbrev write-functions-Inv-loop : write-functions-lts.InvT-loop
 write-functions-Inv-loop s limits first n left rows₀ walked₀ more₀ rows walked more =
@@ -279,9 +281,10 @@ write-functions-loop-again t c =
 write-functions-returns-4 : (t : ℕ) → write-functions-lts.Need-returns-4 (functions-calls t) (write-functions-at t) write-functions.Post write-functions-Inv-loop write-functions-μ-loop
 write-functions-returns-4 t c =
     let l = c .before in
-    let a = l .before .before .before .args in
-    (ends (a .s .now) (a .limits) (a .first) (a .n) (a .left) 0 (a .cursor .at) (l .loop .walked) (l .loop .more) (l .loop .inv .1) (c .loop-test .left),
-    ends-behind (a .s .now) (a .limits) (a .first) (a .n) (a .left) (a .cursor .at) (a .rows .now) (l .loop .walked) (l .loop .more) (l .loop .rows) (l .loop .inv .0) (l .loop .inv .2) (c .loop-test .left))
+    let a = l .before .before .before .args in (
+      ends (a .s .now) (a .limits) (a .first) (a .n) (a .left) 0 (a .cursor .at) (l .loop .walked) (l .loop .more) (l .loop .inv .1) (c .loop-test .left),
+      ends-behind (a .s .now) (a .limits) (a .first) (a .n) (a .left) (a .cursor .at) (a .rows .now) (l .loop .walked) (l .loop .more) (l .loop .rows) (l .loop .inv .0) (l .loop .inv .2) (c .loop-test .left),
+    )
 
 pub +write-function+write-functions-spec : {M : Type 1} → statement M
 +write-function+write-functions-spec =
