@@ -37,6 +37,7 @@ pub fn function_index(s: &[u8], limits: ResourceLimits, rows: &mut [u32]) -> Ind
             }
             let main = decoded.row;
             match main {
+                // Never: a chunk that is read has main.
                 OptionRow::None => IndexAnswer::Ok(functions),
                 OptionRow::Some(row) => {
                     let place = outermost();
