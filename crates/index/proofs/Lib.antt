@@ -1,4 +1,3 @@
-pub mod Splices
 pub mod Rows
 pub mod Small
 pub mod Whole

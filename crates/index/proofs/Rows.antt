@@ -34,8 +34,9 @@ use Rattle.chunk.specs.PartsShown.{shownHead, shownTail}
 use Rattle.chunk.specs.Walk.{shownWhere, entered, shownWalk, rowShown, further, againShown, joinedShown}
 use Rattle.chunk.proofs.On.{taken}
 use Rattle.chunk.proofs.Functions.{exact-entered, enters, walk-err, walkedOf, tail-ok, row-shown, by-parts, begins, headed, head-on, first, inner, walked, nested-on, ends}
-use Rattle.index.specs.Stored.{splice, storedRow, stored, Wrote}
-use Rattle.index.proofs.Splices.{splice-none, splice-then, splice-before}
+use Rattle.lent.specs.Splice.{splice}
+use Rattle.index.specs.Stored.{storedRow, stored, Wrote}
+use Rattle.lent.proofs.Splices.{splice-none, splice-then, splice-before}
 
 -- ## Rows
 pub stored-length : (ps : List Prototype) → length (stored ps) ≡ 12 * length ps

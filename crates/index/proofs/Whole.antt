@@ -44,7 +44,8 @@ use Rattle.decode.specs.Decoded.{shownOutcome, shownReading}
 use Rattle.decode.proofs.Summaries.{in-ceilings}
 use Rattle.index.specs.declared.IndexAnswer.the-variants as answer
 use Rattle.index.specs.Index.{index, shownIndex, indexWritten}
-use Rattle.index.specs.Stored.{splice, stored, Wrote}
+use Rattle.lent.specs.Splice.{splice}
+use Rattle.index.specs.Stored.{stored, Wrote}
 use Rattle.index.proofs.Small.{small-main, stored-index}
 
 index-length : (ps : List Prototype) → length (index ps) ≡ 12 * length ps

@@ -1,5 +1,4 @@
 -- What the code writes of the functions that a walk reads.
---     splice at xs l       l with xs written over it from place `at` on
 --     low n                the low 32 bits of n
 --     storedRow row        the twelve numbers of a row, as they are stored
 --     stored ps            those of functions, one after the other. (They are `index ps`, in a chunk within the ceilings: `proofs/Small.antt`.)
@@ -7,16 +6,14 @@
 use mathlib.Core.Path.{_≡_}
 use mathlib.Core.List.{List, [], _∷_, _++_}
 use Prim.Native.Nat.{ℕ, _+_, _*_, _%_, _≤_}
-use lib.ListN.{length, take, drop}
+use lib.ListN.{length}
 use Rattle.format.specs.Form.{Bytes}
 use Rattle.format.specs.Reading.{Prototype}
 use Rattle.format.specs.GrammarChunk as grammar
 use Rattle.format.specs.Read.{Read, ok}
 use Rattle.chunk.specs.declared.row.FunctionRow.{FunctionRow}
 use Rattle.chunk.specs.Row.{rowOf}
-
-unfoldable pub splice : ℕ → List ℕ → List ℕ → List ℕ
-splice at xs l = take at l ++ (xs ++ drop (at + length xs) l)
+use Rattle.lent.specs.Splice.{splice}
 
 abbrev pub low : ℕ → ℕ
 low n = n % 4294967296

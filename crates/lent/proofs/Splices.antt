@@ -5,15 +5,18 @@
 --     splice-set       one number is stored
 --     splice-then      two pieces, the second right behind the first, are one
 --     copied-next      of a piece that is copied, one number more
+--     splice-four      four numbers are stored
+--     splice-before    two pieces, where the first is written last
+--     splice-three     three pieces, each right behind the one before
 -- Assumes nothing.
 use mathlib.Core.Path.{_≡_, refl, sym, _∙_, ap}
 use mathlib.Core.List.{List, [], _∷_, _++_, append-assoc}
-use Prim.Native.Nat.{ℕ, _+_, _-_, _≤_, _<_}
+use Prim.Native.Nat.{ℕ, suc, _+_, _-_, _≤_, _<_}
 use native.Mathlib.Nat.{add-assoc, add-zero, zero-add}
 use native.Mathlib.Numerals.{add-one}
 use native.Mathlib.Omega.{arith}
 use lib.ListN.{length, take, drop, set, getD, length-append, length-drop, take-append-drop}
-use lib.Seq.{length-take-le, take-append-seam, drop-append-add, drop-drop, set-split, take-suc, getD-drop}
+use lib.Seq.{length-take-le, take-append-seam, drop-append-add, drop-drop, set-split, take-suc, getD-drop, take-append-le, take-take, drop-at, sets-eq}
 use Rattle.lent.specs.Splice.{splice}
 
 pub splice-length : (at : ℕ) (s l : List ℕ) → at + length s ≤ length l → length (splice at s l) ≡ length l
@@ -55,3 +58,30 @@ copied-next s start w i len l out a b h e =
     ∙ ap (λ k. splice (w + k) (getD s (start + i) 0 ∷ []) (splice w (take i (drop start s)) l)) (sym size)
     ∙ splice-then w (take i (drop start s)) (getD s (start + i) 0 ∷ []) l (omega arith)
     ∙ ap (λ t. splice w t l) (sym more)
+
+pub splice-four : (at a b c d : ℕ) (l : List ℕ) → at + 4 ≤ length l → set (set (set (set l at a) (at + 1) b) (at + 2) c) (at + 3) d ≡ splice at (a ∷ b ∷ c ∷ d ∷ []) l
+unfolding splice
+splice-four at a b c d l fits =
+    let one : at + 1 ≡ suc at = omega arith in
+    let two : at + 2 ≡ suc (suc at) = omega arith in
+    let three : at + 3 ≡ suc (suc (suc at)) = omega arith in
+    (λ i. set (set (set (set l at a) (one i) b) (two i) c) (three i) d) ∙ sets-eq (a ∷ b ∷ c ∷ d ∷ []) l at fits ∙ append-assoc (take at l) _ _
+
+pub splice-before : (at : ℕ) (s t l : List ℕ) → at + length s ≤ length l → splice at s (splice (at + length s) t l) ≡ splice at (s ++ t) l
+unfolding splice
+splice-before at s t l fits =
+    let size : length (take (at + length s) l) ≡ at + length s = length-take-le (at + length s) l (omega arith) in
+    let front : take at (take (at + length s) l ++ (t ++ drop (at + length s + length t) l)) ≡ take at l = take-append-le at (take (at + length s) l) _ (omega arith) ∙ take-take at (at + length s) l (omega arith) in
+    let back : drop (at + length s) (take (at + length s) l ++ (t ++ drop (at + length s + length t) l)) ≡ t ++ drop (at + length s + length t) l = drop-at (take (at + length s) l) _ (at + length s) size in
+    (λ i. front i ++ (s ++ back i)) ∙ simp (append-assoc, length-append, add-assoc)
+
+-- three pieces, each right behind the one before
+pub splice-three : (at b c : ℕ) (x y z l₀ l₁ l₂ l₃ : List ℕ) → l₁ ≡ splice at x l₀ → l₂ ≡ splice b y l₁ → l₃ ≡ splice c z l₂ → b ≡ at + length x → c ≡ at + length x + length y → c ≤ length l₀ → l₃ ≡ splice at (x ++ (y ++ z)) l₀
+splice-three at b c x y z l₀ l₁ l₂ l₃ one two three p q fits =
+    let long : length l₁ ≡ length l₀ = ap length one ∙ splice-length at x l₀ (omega arith) in
+    three
+    ∙ (λ i. splice (q i) z (two i))
+    ∙ ap (λ k. splice (at + length x + length y) z (splice k y l₁)) p
+    ∙ splice-then (at + length x) y z l₁ (omega arith)
+    ∙ ap (splice (at + length x) (y ++ z)) one
+    ∙ splice-then at x (y ++ z) l₀ (omega arith)

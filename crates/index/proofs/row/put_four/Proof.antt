@@ -2,7 +2,7 @@
 use native.Mathlib.Omega.{arith}
 use lib.ListN.{length-set}
 use borrow.Author.Needs.{needs}
-use Rattle.index.proofs.Splices.{splice-four}
+use Rattle.lent.proofs.Splices.{splice-four}
 use Rattle.index.proofs.row.put_four.Statement.{statement}
 use Rattle.index.proofs.row.put_four.Tie as tie
 

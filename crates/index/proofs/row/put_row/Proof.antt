@@ -2,7 +2,7 @@
 use Prim.Native.Nat.{_*_}
 use native.Mathlib.Omega.{arith}
 use borrow.Author.Needs.{needs}
-use Rattle.index.proofs.Splices.{splice-three}
+use Rattle.lent.proofs.Splices.{splice-three}
 use Rattle.index.proofs.row.put_row.Statement.{statement}
 use Rattle.index.proofs.row.put_row.Tie as tie
 

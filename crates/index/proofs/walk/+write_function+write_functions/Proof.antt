@@ -20,7 +20,8 @@ use Rattle.chunk.specs.PartsShown.{shownHead, shownTail}
 use Rattle.chunk.specs.Walk.{shownWhere, entered, shownWalk, rowShown, finishedShown, againShown, joinedShown}
 use Rattle.chunk.proofs.Turns.{all, Rest, starts, ends, deep, many, stops, goes-on}
 use Rattle.chunk.proofs.Functions.{in-total, first, first-shown, head-refused, nested-refused, tail-refused, function-read}
-use Rattle.index.specs.Stored.{splice, storedRow, Wrote}
+use Rattle.lent.specs.Splice.{splice}
+use Rattle.index.specs.Stored.{storedRow, Wrote}
 use Rattle.index.proofs.Rows.{refuses, function-wrote, Behind, starts-behind, ends-behind, on-behind}
 use borrow.Author.Needs.{needs}
 use native.Mathlib.Omega.{arith}
