@@ -1,4 +1,4 @@
 pub mod Whole
-pub mod Rows
+pub mod RowLaws
 pub mod Found
 pub mod Names

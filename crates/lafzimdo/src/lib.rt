@@ -3,7 +3,7 @@
 pub mod bytes;
 pub mod entry;
 pub mod fields;
-pub mod index;
 pub mod local;
 pub mod place;
+pub mod rows;
 pub mod summary;

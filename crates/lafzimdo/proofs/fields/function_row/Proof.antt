@@ -1,8 +1,8 @@
--- `lafzimdo::fields::function_row` meets its contract: by the row that the walk brought back (`Rows.antt`). Assumes nothing.
+-- `lafzimdo::fields::function_row` meets its contract: by the row that the walk brought back (`RowLaws.antt`). Assumes nothing.
 use mathlib.Core.Path.{sym, _∙_}
 use borrow.Author.Needs.{needs}
 use Rattle.format.specs.ReadChunk.{read}
-use Rattle.lafzimdo.proofs.Rows.{row-refused, row-none, row-some}
+use Rattle.lafzimdo.proofs.RowLaws.{row-refused, row-none, row-some}
 use Rattle.lafzimdo.proofs.fields.function_row.Statement.{statement}
 use Rattle.lafzimdo.proofs.fields.function_row.Tie as tie
 
