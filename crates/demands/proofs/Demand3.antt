@@ -3,7 +3,7 @@
 -- and two scripts have equal copies exactly when their readings are equal so.
 --
 -- The grammar is `Chunk` (crates/format/specs/GrammarChunk.antt, which names no reader), the reader `read` (specs/ReadChunk.antt), the copy `copy` and what it keeps
--- `kept` (specs/Copy.antt). Bytes are numbers below 256 (`Below 256`), as those of every slice are.
+-- `kept` (specs/Copy.antt). What the calls show is said in `Calls.antt`. Bytes are numbers below 256 (`Below 256`), as those of every slice are.
 -- Assumes nothing.
 use mathlib.Core.Path.{_≡_}
 use mathlib.Core.Logic.{_↔_}
@@ -11,15 +11,17 @@ use mathlib.Core.Bool.{true}
 use Prim.Native.Nat.{_≤_}
 use lib.ListN.{length}
 use Rattle.format.specs.declared.limits.ResourceLimits.{ResourceLimits}
+use Rattle.format.specs.declared.refusal.Refusal.{Refusal}
 use Rattle.format.specs.Form.{Bytes, Below}
 use Rattle.format.specs.Limits.{withinCeilings}
 use Rattle.format.specs.Reading.{Reading}
 use Rattle.format.specs.GrammarChunk.{Chunk}
-use Rattle.format.specs.ReadChunk.{shown, read}
+use Rattle.format.specs.ReadChunk.{shown, refusal, read}
 use Rattle.format.specs.Copy.{copy, kept}
 use Rattle.format.proofs.CopyChunk.{copy-belongs, copy-same}
 use Rattle.format.proofs.CopyChunk as copies
 use Rattle.format.proofs.ReadChunkLaws.{read-sound, read-within, read-complete, chunk-unique}
+use Rattle.demands.proofs.Calls.{Shows, shows, Refuses, refuses}
 
 -- the reader gives a reading of the chunk
 pub record IsRead (L : ResourceLimits) (chunk : Bytes) : Type 0 where
@@ -40,9 +42,14 @@ read-exactly L chunk = (
   λ b. record { reading = b .reading; is = read-complete L chunk (b .reading) (b .ceilings) (b .input) (b .is) },
 )
 
--- 2. What the reader gives is a reading of the chunk by the grammar.
-pub shown-is-the-reading : (L : ResourceLimits) (chunk : Bytes) (r : Reading) → read L chunk ≡ shown r → Chunk L chunk r
-shown-is-the-reading = read-sound
+-- 2. What the reader gives is a reading of the chunk by the grammar, and what each exported call shows is its part of that reading (`Calls.antt`: the summary, the trailing bytes, the fields and every entry
+-- of every function, strings' bytes, the index).
+pub shown-is-the-reading : (L : ResourceLimits) (chunk : Bytes) (r : Reading) → read L chunk ≡ shown r → Chunk L chunk r × Shows L chunk r
+shown-is-the-reading L chunk r e = (read-sound L chunk r e, shows L chunk r e)
+
+-- and where the reader refuses, every call does, with the same refusal
+pub refused-by-all : (L : ResourceLimits) (chunk : Bytes) (q : Refusal) → read L chunk ≡ refusal q → Refuses L chunk q
+refused-by-all = refuses
 
 -- 3. Any two readings that the grammar allows the bytes are equal.
 pub reading-unique : (L : ResourceLimits) (chunk : Bytes) (r q : Reading) → Chunk L chunk r → Chunk L chunk q → r ≡ q
