@@ -1,6 +1,4 @@
 // What a chunk's header shows, and the warnings of a reading.
-ghost use mathlib.Core.Path.{_≡_};
-ghost use Rattle.format.specs.Warnings.{warned};
 
 // The Rust's `Header`, without its texts: `signature` and `luac_data` are the same in every file that is read.
 pub struct Header {
@@ -34,22 +32,4 @@ pub enum WarningCode {
 pub struct WarningReport {
     pub code: WarningCode,
     pub place: usize,
-}
-
-impl Warning {
-    // Ruled out: the two codes exchanged, a place of 0.
-    pub fn report(self) -> WarningReport
-        ensures { λ r. ⌜ r ≡ warned self ⌝ }
-    {
-        match self {
-            Warning::NonStandardFormat(place) => WarningReport {
-                code: WarningCode::L54Header003,
-                place: place,
-            },
-            Warning::TrailingBytes(place) => WarningReport {
-                code: WarningCode::L54Chunk001,
-                place: place,
-            },
-        }
-    }
 }
