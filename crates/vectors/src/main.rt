@@ -1,23 +1,21 @@
 // Answers the requests on standard input, a line each, on standard output.
 ghost use Prim.Native.Nat.{_<_};
 ghost use lib.ListN.{length};
-ghost use Rattle.vectors.specs.Lines.{Within};
-use crate::line::Found;
-use crate::line::LONGEST;
-use crate::line::Lines;
-use crate::line::Step;
-
-mod fields;
-mod line;
-mod number;
-mod print;
-mod token;
-mod words;
+ghost use Rattle.text.specs.Lines.{Within};
+use text::line;
+use text::line::Found;
+use text::line::LONGEST;
+use text::line::Lines;
+use text::line::Step;
+use text::print;
+use text::print::Out;
+use text::token;
+use words::answer;
 
 // The answer to one line. An empty line and a comment have none.
-fn answer(line: &[u8], out: &mut [u8], used: usize) -> usize
-    requires { ⌜ used < length (now out) ⌝ }
-    ensures { λ r. ⌜ r < length (now (out .exit)) ⌝ }
+fn answer_line(line: &[u8], out: &mut Out, used: usize) -> usize
+    requires { ⌜ used < 65536 ⌝ }
+    ensures { λ r. ⌜ r < 65536 ⌝ }
 {
     if line.len() == 0 {
         return used;
@@ -29,25 +27,25 @@ fn answer(line: &[u8], out: &mut [u8], used: usize) -> usize
         return print::bad_request(out, used);
     }
     if token::begins(line, b"word ") {
-        return words::word(line, 5, out, used);
+        return answer::word(line, 5, out, used);
     }
     if token::begins(line, b"enc ") {
-        return words::enc(line, 4, out, used);
+        return answer::enc(line, 4, out, used);
     }
     print::bad_request(out, used)
 }
 
 // The answer to what a step along the input found.
-fn respond(buf: &[u8], step: Step, out: &mut [u8], used: usize) -> usize
+fn respond(buf: &[u8], step: Step, out: &mut Out, used: usize) -> usize
     requires { ⌜ Within step (length (now buf)) ⌝ }
-    requires { ⌜ used < length (now out) ⌝ }
-    ensures { λ r. ⌜ r < length (now (out .exit)) ⌝ }
+    requires { ⌜ used < 65536 ⌝ }
+    ensures { λ r. ⌜ r < 65536 ⌝ }
 {
     let found = step.found;
     let from = step.from;
     let to = step.to;
     match found {
-        Found::Line => answer(&buf[from..to], out, used),
+        Found::Line => answer_line(&buf[from..to], out, used),
         Found::Nothing => used,
         Found::End => used,
     }
@@ -55,9 +53,8 @@ fn respond(buf: &[u8], step: Step, out: &mut [u8], used: usize) -> usize
 
 // Answers every line, and says how much of the last answers still waits in the buffer. Nothing
 // says that the input ends, so the loop counts its turns down from a number that no run uses up.
-fn answer_all(buf: &mut [u8], out: &mut [u8]) -> usize
-    requires { ⌜ 0 < length (now out) ⌝ }
-    ensures { λ r. ⌜ r < length (now (out .exit)) ⌝ }
+fn answer_all(buf: &mut [u8], out: &mut Out) -> usize
+    ensures { λ r. ⌜ r < 65536 ⌝ }
 {
     let mut lines = Lines::new();
     let mut used = 0;
@@ -75,9 +72,7 @@ fn answer_all(buf: &mut [u8], out: &mut [u8]) -> usize
     used
 }
 
-fn run(buf: &mut [u8], out: &mut [u8])
-    requires { ⌜ 0 < length (now out) ⌝ }
-{
+fn run(buf: &mut [u8], out: &mut Out) {
     let used = answer_all(buf, out);
     print::flush(out, used);
 }
