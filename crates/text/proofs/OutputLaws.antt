@@ -52,6 +52,12 @@ module _ (x z : ℤ) (is : x ≡ z) (w : Waiting) where
       go (pos n) l k = k
       go (negsuc n) l k = absurd (true≢false l)
 
--- a word has eight digits
+-- a word has eight digits, and a number of 64 bits at most sixteen
+as-many : (n m k : ℕ) → n < 16 ^ m → 0 < m → Fewest 16 m n k → k ≡ m
+as-many n m k h z f = ⊎-elim sym (λ l. absurd (omega (arith, h, f .2 l, pow-le-pow-right {n = 16} (omega arith) {i = m} {j = k - 1} (omega arith)))) (eq-or-lt-of-le (f .0))
+
 pub eight : (n k : ℕ) → n < 2 ^ 32 → Fewest 16 8 n k → k ≡ 8
-eight n k h f = ⊎-elim sym (λ l. absurd (omega (arith, f .2 l, pow-le-pow-right {n = 16} (omega arith) {i = 8} {j = k - 1} (omega arith)))) (eq-or-lt-of-le (f .0))
+eight n k h f = as-many n 8 k (omega arith) (omega arith) f
+
+pub sixteen : (n k : ℕ) → n < 2 ^ 64 → Fewest 16 16 n k → k ≡ 16
+sixteen n k h f = as-many n 16 k (omega arith) (omega arith) f

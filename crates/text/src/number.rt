@@ -15,7 +15,7 @@ pub enum Integer {
 }
 
 // What a byte is worth as a digit, `0` (48) to `9` or `a` (97) to `f`, and 255 where it is none.
-fn digit(b: u8) -> u8
+pub fn digit(b: u8) -> u8
     ensures { λ r. ⌜ r ≡ digitOf b ⌝ }
 {
     if b < 48 {

@@ -93,6 +93,17 @@ pub fn word(out: &mut Out, used: usize, w: u32) -> usize
     text(out, used, &digits[..k])
 }
 
+// Sixteen hexadecimal digits.
+pub fn long(out: &mut Out, used: usize, n: u64) -> usize
+    requires { ⌜ used < 65536 ⌝ }
+    ensures { λ r. ⌜ r < 65536 ⌝ }
+    ensures { λ r. ⌜ waiting (now (out .exit)) r ≡ puts (digits 16 16 n) (waiting (now (out .entry)) used) ⌝ }
+{
+    let mut digits = [0u8; 16];
+    let k = io::hex(n, 16, &mut digits);
+    text(out, used, &digits[..k])
+}
+
 // A byte, as two hexadecimal digits.
 pub fn byte(out: &mut Out, used: usize, b: u8) -> usize
     requires { ⌜ used < 65536 ⌝ }
@@ -145,6 +156,15 @@ pub fn refused(out: &mut Out, used: usize, why: Refusal) -> usize
         Place::At(at) => field(out, used, b" ", at as u64),
         Place::None => text(out, used, b" -"),
     }
+}
+
+// A refusal as a line.
+pub fn refusal(out: &mut Out, used: usize, why: Refusal) -> usize
+    requires { ⌜ used < 65536 ⌝ }
+    ensures { λ r. ⌜ r < 65536 ⌝ }
+{
+    let used = refused(out, used, why);
+    text(out, used, b"\n")
 }
 
 // The answer to a line that is no request.

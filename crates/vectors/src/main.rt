@@ -2,6 +2,9 @@
 ghost use Prim.Native.Nat.{_<_};
 ghost use lib.ListN.{length};
 ghost use Rattle.text.specs.Lines.{Within};
+use answers::Name;
+use answers::Rows;
+use answers::reply;
 use text::line;
 use text::line::Found;
 use text::line::LONGEST;
@@ -12,8 +15,18 @@ use text::print::Out;
 use text::token;
 use words::answer;
 
+// Room for the bytes of a chunk: a request has two digits for each.
+type Space = [u8; 524288];
+
 // The answer to one line. An empty line and a comment have none.
-fn answer_line(line: &[u8], out: &mut Out, used: usize) -> usize
+fn answer_line(
+    line: &[u8],
+    out: &mut Out,
+    used: usize,
+    space: &mut Space,
+    rows: &mut Rows,
+    name: &mut Name,
+) -> usize
     requires { ⌜ used < 65536 ⌝ }
     ensures { λ r. ⌜ r < 65536 ⌝ }
 {
@@ -32,11 +45,19 @@ fn answer_line(line: &[u8], out: &mut Out, used: usize) -> usize
     if token::begins(line, b"enc ") {
         return answer::enc(line, 4, out, used);
     }
-    print::bad_request(out, used)
+    reply::chunk(line, out, used, space, rows, name)
 }
 
 // The answer to what a step along the input found.
-fn respond(buf: &[u8], step: Step, out: &mut Out, used: usize) -> usize
+fn respond(
+    buf: &[u8],
+    step: Step,
+    out: &mut Out,
+    used: usize,
+    space: &mut Space,
+    rows: &mut Rows,
+    name: &mut Name,
+) -> usize
     requires { ⌜ Within step (length (now buf)) ⌝ }
     requires { ⌜ used < 65536 ⌝ }
     ensures { λ r. ⌜ r < 65536 ⌝ }
@@ -45,7 +66,7 @@ fn respond(buf: &[u8], step: Step, out: &mut Out, used: usize) -> usize
     let from = step.from;
     let to = step.to;
     match found {
-        Found::Line => answer_line(&buf[from..to], out, used),
+        Found::Line => answer_line(&buf[from..to], out, used, space, rows, name),
         Found::Nothing => used,
         Found::End => used,
     }
@@ -53,7 +74,13 @@ fn respond(buf: &[u8], step: Step, out: &mut Out, used: usize) -> usize
 
 // Answers every line, and says how much of the last answers still waits in the buffer. Nothing
 // says that the input ends, so the loop counts its turns down from a number that no run uses up.
-fn answer_all(buf: &mut [u8], out: &mut Out) -> usize
+fn answer_all(
+    buf: &mut [u8],
+    out: &mut Out,
+    space: &mut Space,
+    rows: &mut Rows,
+    name: &mut Name,
+) -> usize
     ensures { λ r. ⌜ r < 65536 ⌝ }
 {
     let mut lines = Lines::new();
@@ -65,15 +92,15 @@ fn answer_all(buf: &mut [u8], out: &mut Out) -> usize
         if let Found::End = found {
             return used;
         }
-        used = respond(buf, step, out, used);
+        used = respond(buf, step, out, used, space, rows, name);
         lines = step.rest;
         turns -= 1;
     }
     used
 }
 
-fn run(buf: &mut [u8], out: &mut Out) {
-    let used = answer_all(buf, out);
+fn run(buf: &mut [u8], out: &mut Out, space: &mut Space, rows: &mut Rows, name: &mut Name) {
+    let used = answer_all(buf, out, space, rows, name);
     print::flush(out, used);
 }
 
@@ -81,5 +108,8 @@ fn run(buf: &mut [u8], out: &mut Out) {
 fn main() {
     let mut buf = [0u8; 2097152];
     let mut out = [0u8; 65536];
-    run(&mut buf, &mut out);
+    let mut space = [0u8; 524288];
+    let mut rows = [0u32; 449400];
+    let mut name = [0u8; 524288];
+    run(&mut buf, &mut out, &mut space, &mut rows, &mut name);
 }
