@@ -39,23 +39,6 @@ module _ (s : Bytes) (at : ℕ) where
         → lines-answer.Ok (record { «line_defined» = v; «last_line_defined» = u }) d ≡ shownLines (lines at (drop at s))
     two-lines u d f = rw (u64-on s at exact-number v c e, u64-on s (c .at) exact-number u d f)
 
--- ## Three bytes
-module _ (s : Bytes) (at : ℕ) where
-  pub byte-refused : (q : Refusal) → u8.Err q ≡ shownU8 (field 1 at (drop at s)) → sizes-answer.Err q ≡ shownSizes (sizes at (drop at s))
-  byte-refused q e = rw (u8-err (field 1 at (drop at s)) q e)
-
-  module _ (v : ℕ) (c : Cursor) (e : u8.Ok v c ≡ shownU8 (field 1 at (drop at s))) where
-    pub second-refused : (q : Refusal) → u8.Err q ≡ shownU8 (field 1 (c .at) (drop (c .at) s)) → sizes-answer.Err q ≡ shownSizes (sizes at (drop at s))
-    second-refused q f = rw (u8-on s at (exact-field 1) v c e, u8-err (field 1 (c .at) (drop (c .at) s)) q f)
-
-    module _ (u : ℕ) (d : Cursor) (f : u8.Ok u d ≡ shownU8 (field 1 (c .at) (drop (c .at) s))) where
-      pub third-refused : (q : Refusal) → u8.Err q ≡ shownU8 (field 1 (d .at) (drop (d .at) s)) → sizes-answer.Err q ≡ shownSizes (sizes at (drop at s))
-      third-refused q g = rw (u8-on s at (exact-field 1) v c e, u8-on s (c .at) (exact-field 1) u d f, u8-err (field 1 (d .at) (drop (d .at) s)) q g)
-
-      pub three-bytes : (w : ℕ) (n : Cursor) → u8.Ok w n ≡ shownU8 (field 1 (d .at) (drop (d .at) s))
-          → sizes-answer.Ok (record { numparams = v; «is_vararg» = u; maxstacksize = w }) n ≡ shownSizes (sizes at (drop at s))
-      three-bytes w n g = rw (u8-on s at (exact-field 1) v c e, u8-on s (c .at) (exact-field 1) u d f, u8-on s (d .at) (exact-field 1) w n g)
-
 -- ## The front
 lines-err : (o : Read Lines) (q : Refusal) → lines-answer.Err q ≡ shownLines o → o ≡ refused q
 lines-err (ok x to rest) q e = absurd (let z : _≡_ {A = ℕ} 0 1 = cc in omega arith)

@@ -1,1 +1,3 @@
-
+pub mod Passing
+pub mod Items
+pub mod Strings

@@ -1,20 +1,25 @@
 -- Random access: each list of a function that was read is read again by itself, at its place.
 --     Found s r at x       at this place of the slice the reader r gives x
---     Located L s p        each list of the function p is found at its place
+--     Stands s t           the bytes of the string t stand in the slice at its place
+--     Located L s p        each list of the function p is found at its place, and its source stands at its own
 --     all-located          so it is with every function of a chunk that is read
 -- Assumes nothing.
 use mathlib.Core.Path.{_≡_, refl, sym, _∙_, ap}
 use mathlib.Core.List.{List, [], _∷_, _++_}
-use Prim.Native.Nat.{ℕ, zero, suc, _+_}
-use lib.ListN.{length, drop}
+use mathlib.Core.Option.{Option, none, some}
+use Prim.Native.Nat.{ℕ, zero, suc, _+_, _-_, _≤_}
+use native.Mathlib.Omega.{arith}
+use lib.ListN.{length, take, drop, length-drop}
+use lib.Seq.{length-take-le}
 use Rattle.format.specs.declared.limits.ResourceLimits.{ResourceLimits}
 use Rattle.format.specs.declared.refusal.Refusal.{Refusal}
-use Rattle.format.specs.declared.refusal.Refusal.the-variants.{Instructions, TotalInstructions, Constants, Upvalues, Prototypes, TotalPrototypes}
+use Rattle.format.specs.declared.refusal.Refusal.the-variants.{StringBytes, Instructions, TotalInstructions, Constants, Upvalues, Prototypes, TotalPrototypes}
 use Rattle.format.specs.Form.{Bytes, Form}
+use Rattle.format.specs.GrammarFields.{LuaString}
 use Rattle.format.specs.Reading.{Prototype}
 use Rattle.format.specs.GrammarChunk.{Listed, inherit, Where, after, within, Loaded}
 use Rattle.format.specs.Read.{Read, ok, refused, Reader, next, _>>=_, _>>_, give, here, refuse, atMost, run, many}
-use Rattle.format.specs.ReadFields.{field, string}
+use Rattle.format.specs.ReadFields.{field, content, string}
 use Rattle.format.specs.ReadChunk.{counted, countedUpTo, constant, upvalue, anchor, local, forest, body, function, main}
 use Rattle.format.proofs.Exact.{Exact, never, exact-then, exact-place, exact-here, exact-atMost, exact-run, exact-many}
 use Rattle.format.proofs.ExactFields.{exact-field, exact-number, exact-string}
@@ -23,6 +28,7 @@ use Rattle.format.proofs.ExactChunk.{exact-countedUpTo, exact-counted, 
 use Rattle.format.proofs.Every.{every-many, every-run, All, all-append}
 use Rattle.format.proofs.Every as every
 use Rattle.format.proofs.Left.{left}
+use Rattle.format.proofs.Steps.{run-was}
 
 pub record Found {A : Type 0} (s : Bytes) (r : Reader A) (at : ℕ) (x : A) : Type 0 where
   pub to : ℕ
@@ -30,26 +36,26 @@ pub record Found {A : Type 0} (s : Bytes) (r : Reader A) (at : ℕ) (x : A) : Ty
   pub is : r at (drop at s) ≡ ok x to rest
 
 -- whatever r reads at this place of the slice, P holds of it and of the place behind it
-record AtPlace {A : Type 0} (s : Bytes) (at : ℕ) (r : Reader A) (P : ℕ → A → Type 0) : Type 0 where
-  holds : {x : A} {to : ℕ} {rest : Bytes} → r at (drop at s) ≡ ok x to rest → P to x
+pub record AtPlace {A : Type 0} (s : Bytes) (at : ℕ) (r : Reader A) (P : ℕ → A → Type 0) : Type 0 where
+  pub holds : {x : A} {to : ℕ} {rest : Bytes} → r at (drop at s) ≡ ok x to rest → P to x
 
-abbrev Any : {A : Type 0} → ℕ → A → Type 0
+abbrev pub Any : {A : Type 0} → ℕ → A → Type 0
 Any to x = Unit {0}
 
-any : {A : Type 0} {s : Bytes} {at : ℕ} {r : Reader A} → AtPlace s at r Any
+pub any : {A : Type 0} {s : Bytes} {at : ℕ} {r : Reader A} → AtPlace s at r Any
 any = record { holds = λ e. tt }
 
-at-give : {A : Type 0} {s : Bytes} {at : ℕ} {x : A} {P : ℕ → A → Type 0} → P at x → AtPlace s at (give x) P
+pub at-give : {A : Type 0} {s : Bytes} {at : ℕ} {x : A} {P : ℕ → A → Type 0} → P at x → AtPlace s at (give x) P
 at-give {at} {x} {P} p = record { holds = λ {x = y} {to} e. let same : x ≡ y = cc in let place : at ≡ to = cc in rw (← same, ← place) p }
 
-at-refuse : {A : Type 0} {s : Bytes} {at : ℕ} {q : Refusal} {P : ℕ → A → Type 0} → AtPlace s at (refuse {A = A} q) P
+pub at-refuse : {A : Type 0} {s : Bytes} {at : ℕ} {q : Refusal} {P : ℕ → A → Type 0} → AtPlace s at (refuse {A = A} q) P
 at-refuse = record { holds = λ e. absurd (never e) }
 
 -- a place that is looked up is the place where the reader stands: what follows may use that
-at-here : {B : Type 0} {s : Bytes} {at : ℕ} {f : ℕ → Reader B} {P : ℕ → B → Type 0} → ((x : ℕ) → AtPlace s at (f x) (λ to y. x ≡ at → P to y)) → AtPlace s at (here >>= f) P
+pub at-here : {B : Type 0} {s : Bytes} {at : ℕ} {f : ℕ → Reader B} {P : ℕ → B → Type 0} → ((x : ℕ) → AtPlace s at (f x) (λ to y. x ≡ at → P to y)) → AtPlace s at (here >>= f) P
 at-here {at} two = record { holds = λ e. two at .holds e refl }
 
-at-then : {A B : Type 0} {s : Bytes} {at : ℕ} {r : Reader A} {F : Form A} {Q : ℕ → A → Type 0} {f : A → Reader B} {P : ℕ → B → Type 0}
+pub at-then : {A B : Type 0} {s : Bytes} {at : ℕ} {r : Reader A} {F : Form A} {Q : ℕ → A → Type 0} {f : A → Reader B} {P : ℕ → B → Type 0}
     → Exact r F → AtPlace s at r Q → ((x : A) (to : ℕ) → Q to x → AtPlace s to (f x) P) → AtPlace s at (r >>= f) P
 at-then {A} {s} {at} {r} {Q} {f} {P} exact one two = record { holds = λ e. go (r at (drop at s)) refl e }
   where
@@ -59,6 +65,38 @@ at-then {A} {s} {at} {r} {Q} {f} {P} exact one two = record { holds = λ e. go (
 
 moved : {A : Type 0} {s : Bytes} {r : Reader A} {at place : ℕ} {x : A} → place ≡ at → Found s r at x → Found s r place x
 moved p found = rw p found
+
+-- ## Strings
+pub record Stands (s : Bytes) (t : LuaString) : Type 0 where
+  pub inside : length (t .bytes) ≤ length s - t .place
+  pub there : take (length (t .bytes)) (drop (t .place) s) ≡ t .bytes
+
+abbrev pub StandsIf : Bytes → Option LuaString → Type 0
+StandsIf s none = Unit {0}
+StandsIf s (some t) = Stands s t
+
+at-bytes : {s : Bytes} {at : ℕ} (n : ℕ) → AtPlace s at (run n) (λ to b. (place : ℕ) → place ≡ at → Stands s (record { place = place; bytes = b }))
+at-bytes {s} {at} n = record {
+  holds = λ {x} e place p.
+      let was = run-was n at (drop at s) e in
+      let size : length x ≡ n = ap length (sym (was .1)) ∙ length-take-le n (drop at s) (was .0) in
+      record { inside = rw (size, p) (omega (arith, was .0, length-drop at s)); there = rw (size, p) (was .1) };
+}
+
+at-content : {s : Bytes} {at : ℕ} (limit first size : ℕ) → AtPlace s at (content limit first size) (λ to t. StandsIf s t)
+at-content limit first zero = at-give tt
+at-content limit first (suc n) =
+    at-then (exact-atMost n limit (StringBytes first)) any λ _ _ _.
+    at-here λ place.
+    at-then (exact-run n) (at-bytes n) λ bytes _ stands.
+    at-give λ p. stands place p
+
+pub at-string : {s : Bytes} {at : ℕ} (limit : ℕ) → AtPlace s at (string limit) (λ to t. StandsIf s t)
+at-string {s} {at} limit = record { holds = λ e. (at-then {s = s} {at = at} exact-number any λ size _ _. at-content limit at size) .holds e }
+
+inherited : (s : Bytes) (spelt parent : Option LuaString) → StandsIf s spelt → StandsIf s parent → StandsIf s (inherit spelt parent)
+inherited s none parent h k = k
+inherited s (some t) parent h k = h
 
 -- ## Lists behind their counts
 -- the items, found at the place that is shown
@@ -97,6 +135,7 @@ at-countedUpTo limit refusal one =
 
 -- ## Functions
 pub record Located (L : ResourceLimits) (s : Bytes) (p : Prototype) : Type 0 where
+  pub source-name : StandsIf s (p .source-name)
   pub instructions : Found s (many (length (p .instructions)) (field 4)) (p .places .instructions) (p .instructions)
   pub constants : Found s (many (length (p .constants)) (constant (L .«max_string_bytes»))) (p .places .constants) (p .constants)
   pub upvalues : Found s (many (length (p .upvalues)) upvalue) (p .places .upvalues) (p .upvalues)
@@ -110,19 +149,19 @@ module _ (L : ResourceLimits) (s : Bytes) where
   There to ps = All (Located L s) ps
 
   at-forest : (n : ℕ) {at : ℕ} {r : Where → Reader (List Prototype)} {F : Where → Form (List Prototype)} (w : Where) → ((w : Where) → Exact (r w) (F w))
-      → ((w : Where) (at : ℕ) → AtPlace s at (r w) There) → AtPlace s at (forest n r w) There
-  at-forest zero w exact one = at-give tt
-  at-forest (suc n) w exact one =
-      at-then (exact w) (one w _) λ ps _ h.
-      at-then (exact-forest n (after ps w) exact) (at-forest n (after ps w) exact one) λ more _ k.
+      → ((w : Where) (at : ℕ) → StandsIf s (w .source) → AtPlace s at (r w) There) → StandsIf s (w .source) → AtPlace s at (forest n r w) There
+  at-forest zero w exact one source = at-give tt
+  at-forest (suc n) w exact one source =
+      at-then (exact w) (one w _ source) λ ps _ h.
+      at-then (exact-forest n (after ps w) exact) (at-forest n (after ps w) exact one source) λ more _ k.
       at-give (all-append (Located L s) ps more h k)
 
   at-body : {r : Where → Reader (List Prototype)} {F : Where → Form (List Prototype)} → ((w : Where) → Exact (r w) (F w))
-      → ((w : Where) (at : ℕ) → AtPlace s at (r w) There) → (w : Where) (at : ℕ) → AtPlace s at (body L r w) There
+      → ((w : Where) (at : ℕ) → StandsIf s (w .source) → AtPlace s at (r w) There) → (w : Where) (at : ℕ) → StandsIf s (w .source) → AtPlace s at (body L r w) There
   unfolding body
-  at-body exact one w at =
+  at-body exact one w at source =
       at-here λ start.
-      at-then (exact-string (L .«max_string_bytes»)) any λ spelt _ _.
+      at-then (exact-string (L .«max_string_bytes»)) (at-string (L .«max_string_bytes»)) λ spelt _ stands.
       at-then exact-number any λ line-defined _ _.
       at-then exact-number any λ last-line-defined _ _.
       at-then (exact-field 1) any λ numparams _ _.
@@ -140,7 +179,7 @@ module _ (L : ResourceLimits) (s : Bytes) where
       at-then exact-number any λ protos _ _.
       at-then (exact-atMost protos (L .«max_total_prototypes») (Prototypes first)) any λ _ _ _.
       at-here λ protos-at.
-      at-then (exact-forest protos (within w (inherit spelt (w .source)) (length instructions)) exact) (at-forest protos (within w (inherit spelt (w .source)) (length instructions)) exact one) λ nested _ rest.
+      at-then (exact-forest protos (within w (inherit spelt (w .source)) (length instructions)) exact) (at-forest protos (within w (inherit spelt (w .source)) (length instructions)) exact one (inherited s spelt (w .source) stands source)) λ nested _ rest.
       at-then exact-number any λ line-info-size _ _.
       at-here λ line-info-at.
       at-then (exact-run line-info-size) (at-run line-info-size) λ line-info _ h4.
@@ -149,14 +188,14 @@ module _ (L : ResourceLimits) (s : Bytes) where
       at-then (exact-counted (exact-string (L .«max_string_bytes»))) (at-counted (exact-string _)) λ upvalue-names _ h7.
       at-here λ end.
       at-give λ _ p4 _ _ p1 _ _.
-      (record { instructions = moved p1 h1; constants = h2; upvalues = h3; line-info = moved p4 h4; abs-line-info = h5; loc-vars = h6; upvalue-names = h7 }, rest)
+      (record { source-name = inherited s spelt (w .source) stands source; instructions = moved p1 h1; constants = h2; upvalues = h3; line-info = moved p4 h4; abs-line-info = h5; loc-vars = h6; upvalue-names = h7 }, rest)
 
-  at-function : (left : ℕ) (w : Where) (at : ℕ) → AtPlace s at (function L left w) There
+  at-function : (left : ℕ) (w : Where) (at : ℕ) → StandsIf s (w .source) → AtPlace s at (function L left w) There
   unfolding function
-  at-function zero w at = at-body (λ w. exact-place λ place. exact-refuse _) (λ w at. at-here λ place. at-refuse) w at
-  at-function (suc left) w at =
+  at-function zero w at source = at-body (λ w. exact-place λ place. exact-refuse _) (λ w at _. at-here λ place. at-refuse) w at source
+  at-function (suc left) w at source =
       at-body (λ w. exact-place λ place. exact-then (exact-atMost (w .number) (L .«max_total_prototypes») (TotalPrototypes place)) λ _. exact-function L left w)
-      (λ w at. at-entering left w at (λ to. at-function left w to)) w at
+      (λ w at source. at-entering left w at (λ to. at-function left w to source)) w at source
     where
       at-entering : (left : ℕ) (w : Where) (at : ℕ) → ((to : ℕ) → AtPlace s to (function L left w) There) → AtPlace s at (here >>= λ place. atMost (w .number) (L .«max_total_prototypes») (TotalPrototypes place) >> function L left w) There
       at-entering left w at inner = record { holds = λ e. (at-then (exact-atMost (w .number) (L .«max_total_prototypes») (TotalPrototypes at)) any λ _ to _. inner to) .holds e }
@@ -165,7 +204,7 @@ module _ (L : ResourceLimits) (s : Bytes) where
   at-main =
       at-then exact-header any λ headed _ _.
       at-then (exact-field 1) any λ forgotten _ _.
-      at-then (exact-function L (L .«max_nesting_depth») _) (at-function (L .«max_nesting_depth») _ _) λ functions _ h.
+      at-then (exact-function L (L .«max_nesting_depth») _) (at-function (L .«max_nesting_depth») _ _ tt) λ functions _ h.
       at-give h
 
   pub all-located : {m : Loaded} {to : ℕ} {rest : Bytes} → main L 0 s ≡ ok m to rest → All (Located L s) (m .functions)

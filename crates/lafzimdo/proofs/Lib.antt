@@ -1,1 +1,4 @@
-
+pub mod Whole
+pub mod Rows
+pub mod Found
+pub mod Names

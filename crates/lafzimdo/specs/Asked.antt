@@ -1,22 +1,17 @@
 -- What a call asks of a chunk, and what it finds: a part of the reading, or the refusal.
 -- The order is 01's: 21, 22 and 1 to 20 (`read`), then 23, then 24.
-use mathlib.Core.List.{List, [], _∷_}
+use mathlib.Core.List.{List}
 use mathlib.Core.Option.{Option, none, some}
-use Prim.Native.Nat.{ℕ, zero, suc}
+use Prim.Native.Nat.{ℕ}
 use Rattle.format.specs.declared.refusal.Refusal.{Refusal}
 use Rattle.format.specs.declared.refusal.Refusal.the-variants.{NoFunction, NoEntry}
 use Rattle.format.specs.Reading.{Prototype}
 use Rattle.format.specs.ReadChunk.{Outcome, shown, refusal}
+use Rattle.entries.specs.Nth.{nth}
 
 pub data Asked (A : Type 0) : Type 0 where
   found : A → Asked A
   refused : Refusal → Asked A
-
--- the item of that number, from 0
-abbrev pub nth : {A : Type 0} → ℕ → List A → Option A
-nth n [] = none
-nth zero (x ∷ xs) = some x
-nth (suc n) (x ∷ xs) = nth n xs
 
 abbrev pub orRefuse : {A : Type 0} → Refusal → Option A → Asked A
 orRefuse q none = refused q

@@ -1,6 +1,6 @@
 -- What is shown of a local variable, and what is written into the lent space.
 use mathlib.Core.List.{[], _∷_, _++_}
-use Prim.Native.Nat.{ℕ, _+_, _≤_}
+use Prim.Native.Nat.{ℕ, _-_, _≤_}
 use lib.Dec.{leb}
 use lib.ListN.{length, take, drop}
 use Rattle.format.specs.Pick.{pick}
@@ -34,5 +34,5 @@ nameBytes string.None s = 63 ∷ []
 
 -- a name lies within a slice of this length
 abbrev pub Stands : OptionString → ℕ → Type 0
-Stands (string.Some t) size = t .place + t .len ≤ size
+Stands (string.Some t) size = t .len ≤ size - t .place
 Stands string.None size = Unit {0}

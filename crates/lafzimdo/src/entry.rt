@@ -73,7 +73,12 @@ pub fn constant(s: &[u8], limits: ResourceLimits, function: usize, entry: usize)
     let found = entry_list(s, limits, function, EntryKind::Constant, entry);
     match found {
         PlaceAnswer::Err(refusal) => ConstantAnswer::Err(refusal),
-        PlaceAnswer::Ok(list) => constant_answer(constant_at(s, list, entry, limits.max_string_bytes)),
+        PlaceAnswer::Ok(list) => constant_answer(constant_at(
+            s,
+            list,
+            entry,
+            limits.max_string_bytes,
+        )),
     }
 }
 

@@ -3,6 +3,6 @@
 pub mod bytes;
 pub mod entry;
 pub mod fields;
-pub mod place;
 pub mod local;
+pub mod place;
 pub mod summary;

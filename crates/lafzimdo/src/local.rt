@@ -1,8 +1,8 @@
 // A local variable of a function: its name is copied into space that the caller lends.
 ghost use mathlib.Core.Path.{_≡_};
 ghost use mathlib.Core.List.{_++_};
-ghost use Prim.Native.Nat.{_+_, _≤_};
-ghost use lib.ListN.{length, take, drop};
+ghost use Prim.Native.Nat.{_≤_};
+ghost use lib.ListN.{length, drop};
 ghost use Rattle.format.specs.ReadChunk.{read};
 ghost use Rattle.lafzimdo.specs.Asked.{entryOf};
 ghost use Rattle.lafzimdo.specs.Locals.{Stands, nameLength, nameBytes, shownLocal, nameWritten};
@@ -12,6 +12,7 @@ use crate::place::entry_list;
 use entries::debug::local_at;
 use format::limits::ResourceLimits;
 use format::refusal::Refusal;
+use lent::copy_bytes;
 use lists::debug::LocalResult;
 use reader::string::OptionString;
 
@@ -23,20 +24,6 @@ pub enum LocalAnswer {
         endpc: usize,
     },
     Err(Refusal),
-}
-
-// Copies bytes of the slice to the front of the lent space.
-fn copy_name(s: &[u8], place: usize, len: usize, out: &mut [u8])
-    requires { ⌜ place + len ≤ length (now s) ⌝ }
-    requires { ⌜ len ≤ length (now out) ⌝ }
-    ensures { λ _. ⌜ now (out .exit) ≡ take len (drop place (now (s .entry))) ++ drop len (now (out .entry)) ⌝ }
-{
-    let mut i = 0;
-    while i < len {
-        let at = place + i;
-        out[i] = s[at];
-        i += 1;
-    }
 }
 
 // How long a name is; an absent one is `?`.
@@ -57,7 +44,7 @@ fn put_name(s: &[u8], name: OptionString, out: &mut [u8])
 {
     match name {
         OptionString::Some(present) => {
-            copy_name(s, present.place, present.len, out);
+            copy_bytes(s, present.place, present.len, out, 0);
         }
         OptionString::None => {
             out[0] = b'?';

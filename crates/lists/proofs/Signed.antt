@@ -1,29 +1,25 @@
--- 64 bits as a signed number: from 2^63 up they are -1 less what is missing to all ones.
+-- Bits as a signed number, for any width: from one half up they are -1 less what is missing to all ones.
 -- Assumes nothing.
 use mathlib.Core.Path.{_≡_, refl, _∙_, ap}
 use Prim.Native.Nat.{ℕ, zero, suc, _+_, _-_, _^_, _≤_, _<_}
 use native.Mathlib.Omega.{arith}
 use lib.IntN.{pos, negsuc, _-ℤ_}
 use borrow.Author.Tests.{le-ltb}
-use mir.Syntax.{w64}
-use mir.Val.{Fits, SFits, toZ, ofZ}
+use mir.Syntax.{Width}
+use mir.Val.{bits, hbits, SFits, toZ, ofZ}
 use mir.Facts.{toZ-pos, toZ-ofZ}
 
 below : (m : ℕ) → negsuc 0 -ℤ pos m ≡ negsuc m
 below zero = refl
 below (suc k) = let e : 0 + k ≡ k = omega arith in ap (λ j. negsuc (suc j)) e
 
-module _ (bits : ℕ) (fits : Fits w64 bits) (high : 2 ^ 63 ≤ bits) where
-  missing : 18446744073709551615 - bits < 2 ^ 63
-  missing = omega arith
+-- `ones` is the number of all ones
+module _ (w : Width) (ones n : ℕ) (high : 2 ^ hbits w ≤ n) (missing : ones - n < 2 ^ hbits w) (e : ones - n ≡ 2 ^ bits w - suc n) where
+  is : negsuc 0 -ℤ toZ w (ones - n) ≡ negsuc (ones - n)
+  is = rw (toZ-pos w missing) (below (ones - n))
 
-  is : negsuc 0 -ℤ toZ w64 (18446744073709551615 - bits) ≡ negsuc (18446744073709551615 - bits)
-  is = rw (toZ-pos w64 missing) (below (18446744073709551615 - bits))
-
-  pub negative-fits : SFits w64 (negsuc 0 -ℤ toZ w64 (18446744073709551615 - bits))
+  pub negative-fits : SFits w (negsuc 0 -ℤ toZ w (ones - n))
   negative-fits = rw is (record { sfits = missing })
 
-  pub negative-is : toZ w64 (ofZ w64 (negsuc 0 -ℤ toZ w64 (18446744073709551615 - bits))) ≡ toZ w64 bits
-  negative-is =
-      let e : 18446744073709551615 - bits ≡ 2 ^ 64 - suc bits = omega arith in
-      toZ-ofZ {w = w64} negative-fits ∙ is ∙ rw (le-ltb bits (2 ^ 63) high) (ap negsuc e)
+  pub negative-is : toZ w (ofZ w (negsuc 0 -ℤ toZ w (ones - n))) ≡ toZ w n
+  negative-is = toZ-ofZ {w = w} negative-fits ∙ is ∙ rw (le-ltb n (2 ^ hbits w) high) (ap negsuc e)

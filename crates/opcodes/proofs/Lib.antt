@@ -1,10 +1,3 @@
 pub mod Tests
 pub mod Variants
 pub mod Opcodes
-pub mod Signs
-pub mod Words
-pub mod Macros
-pub mod Created
-pub mod RoundTrip
-pub mod Ranges
-pub mod Cases

@@ -1,3 +1,2 @@
 pub mod Lopcodes
 pub mod Table
-pub mod Word

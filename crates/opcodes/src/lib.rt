@@ -1,3 +1,2 @@
-// Lua 5.4's instruction words: the opcodes, and a word's fields.
-pub mod instruction;
+// Lua 5.4's opcodes, their numbers and their modes.
 pub mod opcode;

@@ -1,3 +1,4 @@
 pub mod Fields
 pub mod Shows
+pub mod ThreeBytes
 pub mod Strings

@@ -2,8 +2,8 @@
 ghost use Prim.Native.Nat.{_<_};
 use crate::fields;
 use crate::fields::Fields;
-use opcodes::instruction::Encoded;
-use opcodes::instruction::RawInstruction54;
+use instructions::instruction::Encoded;
+use instructions::instruction::RawInstruction54;
 use opcodes::opcode::OpMode54;
 use opcodes::opcode::OptionOpcode54;
 use text::number;

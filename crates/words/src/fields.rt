@@ -1,5 +1,5 @@
 // The fields of a word, as the request `enc` lists them.
-use opcodes::instruction::RawInstruction54;
+use instructions::instruction::RawInstruction54;
 use opcodes::opcode::Opcode54;
 use text::token;
 use text::token::IntegerAt;

@@ -10,7 +10,7 @@ expect-spec =
     tie.close
     (tie.spec
     (λ c κs. search needs) (λ c. search needs) (λ c. search needs)
-    (λ c κs. let a = c .before .before .before .before .before .before .args in there (a .s .now) (a .cursor .at) (a .bytes .now) (a .refusal) (c .before .read2 .given .0 .0) (cc))
-    (λ c. let a = c .before .before .before .before .before .before .args in too-short (a .s .now) (a .cursor .at) (a .bytes .now) (a .refusal) _ (cc))
-    (λ c. let a = c .before .before .before .before .before .before .before .before .args in these (a .s .now) (a .cursor .at) (a .bytes .now) (a .refusal) (c .before .before .before .read2 .given .0 .0) (cc) (sym (c .before .same-bytes .ensures) ∙ c .if1 .taken))
-    (λ c. let a = c .before .before .before .before .before .before .before .before .args in others (a .s .now) (a .cursor .at) (a .bytes .now) (a .refusal) (c .before .before .before .read2 .given .0 .0) (cc) (sym (c .before .same-bytes .ensures) ∙ c .if1 .left)))
+    (λ c κs. let a = c .before .before .before .before .before .before .args in there (a .s .now) (a .cursor .at) (a .bytes .now) (a .refusal) (c .before .read2 .given .0 .0) (sym (c .before .read2 .given .1) ∙ c .before .before .before .read-exact .ensures))
+    (λ c. let a = c .before .before .before .before .before .before .args in too-short (a .s .now) (a .cursor .at) (a .bytes .now) (a .refusal) _ (sym (c .before .read .given .1) ∙ c .before .before .before .read-exact .ensures))
+    (λ c. let a = c .before .before .before .before .before .before .before .before .args in these (a .s .now) (a .cursor .at) (a .bytes .now) (a .refusal) (c .before .before .before .read2 .given .0 .0) (sym (c .before .before .before .read2 .given .1) ∙ c .before .before .before .before .before .read-exact .ensures) (sym (c .before .same-bytes .ensures) ∙ c .if1 .taken))
+    (λ c. let a = c .before .before .before .before .before .before .before .before .args in others (a .s .now) (a .cursor .at) (a .bytes .now) (a .refusal) (c .before .before .before .read2 .given .0 .0) (sym (c .before .before .before .read2 .given .1) ∙ c .before .before .before .before .before .read-exact .ensures) (sym (c .before .same-bytes .ensures) ∙ c .if1 .left)))

@@ -1,5 +1,7 @@
 -- `lists::constant::signed` meets its contract (`Signed.antt`). Assumes nothing.
+use native.Mathlib.Omega.{arith}
 use borrow.Author.Needs.{needs}
+use mir.Syntax.{w64}
 use Rattle.lists.proofs.Signed.{negative-fits, negative-is}
 use Rattle.lists.proofs.constant.signed.Statement.{statement}
 use Rattle.lists.proofs.constant.signed.Tie as tie
@@ -12,5 +14,5 @@ signed-spec =
     (λ c. search needs)
     (λ c. search needs)
     (λ c. search needs)
-    (λ c. negative-fits (c .before .args .bits) (c .before .fits .bits) (c .if1 .left))
-    (λ c. negative-is (c .before .args .bits) (c .before .fits .bits) (c .if1 .left)))
+    (λ c. let f = c .before .fits .bits .fits in let h = c .if1 .left in negative-fits w64 18446744073709551615 (c .before .args .bits) (omega arith) (omega arith) (omega arith))
+    (λ c. let f = c .before .fits .bits .fits in let h = c .if1 .left in negative-is w64 18446744073709551615 (c .before .args .bits) (omega arith) (omega arith) (omega arith)))

@@ -1,0 +1,22 @@
+-- `entries::code::upvalue_at` meets its contract: those before the entry are passed over, then it is read (`Passing.antt`). Assumes nothing.
+use mathlib.Core.Path.{sym, _∙_}
+use borrow.Author.Needs.{needs}
+use Rattle.format.specs.ReadChunk.{upvalue}
+use Rattle.format.proofs.Exact.{exact-many}
+use Rattle.format.proofs.ExactChunk.{exact-upvalue}
+use Rattle.entries.specs.Shown.{shownUpvalue}
+use Rattle.entries.proofs.Passing.{first-refused, second-read}
+use Rattle.entries.proofs.code.upvalue_at.Statement.{statement}
+use Rattle.entries.proofs.code.upvalue_at.Tie as tie
+
+pub upvalue-at-spec : {M : Type 1} → statement M
+upvalue-at-spec =
+    tie.close
+    (tie.spec
+    (λ c κs. search needs) (λ c. search needs) (λ c. search needs) (λ c κs. search needs)
+    (λ c.
+    let a = c .before .before .before .before .before .args in
+    first-refused (exact-many (a .entry) exact-upvalue) upvalue shownUpvalue (a .s .now) (a .cursor .at) _ (sym (c .before .passed .given .1) ∙ c .before .before .before .skip-upvalues .ensures))
+    (λ c.
+    let a = c .before .before .before .before .before .before .args in
+    second-read (exact-many (a .entry) exact-upvalue) upvalue shownUpvalue (a .s .now) (a .cursor .at) _ (sym (c .before .before .passed2 .given .1) ∙ c .before .before .before .before .skip-upvalues .ensures) (c .read-upvalue .ensures)))

@@ -1,0 +1,21 @@
+-- `entries::debug::delta_at` meets its contract: those before the entry are passed over, then it is read (`Passing.antt`). Assumes nothing.
+use mathlib.Core.Path.{sym, _∙_}
+use borrow.Author.Needs.{needs}
+use Rattle.format.specs.ReadFields.{byte}
+use Rattle.format.proofs.Exact.{exact-run}
+use Rattle.reader.specs.Shown.{shownU8}
+use Rattle.entries.proofs.Passing.{first-refused, second-read}
+use Rattle.entries.proofs.debug.delta_at.Statement.{statement}
+use Rattle.entries.proofs.debug.delta_at.Tie as tie
+
+pub delta-at-spec : {M : Type 1} → statement M
+delta-at-spec =
+    tie.close
+    (tie.spec
+    (λ c κs. search needs) (λ c. search needs) (λ c. search needs) (λ c κs. search needs)
+    (λ c.
+    let a = c .before .before .before .before .before .args in
+    first-refused (exact-run (a .entry)) byte shownU8 (a .s .now) (a .cursor .at) _ (sym (c .before .passed .given .1) ∙ c .before .before .before .read-exact .ensures))
+    (λ c.
+    let a = c .before .before .before .before .before .before .args in
+    second-read (exact-run (a .entry)) byte shownU8 (a .s .now) (a .cursor .at) _ (sym (c .before .before .passed2 .given .1) ∙ c .before .before .before .before .read-exact .ensures) (c .read-u8 .ensures)))
