@@ -107,7 +107,7 @@ tail-err : (o : Read Tail) (q : Refusal) → tail-answer.Err q ≡ shownTail o �
 tail-err (ok x to rest) q e = absurd (let z : _≡_ {A = ℕ} 0 1 = cc in omega arith)
 tail-err (refused p) q e = cc
 
-tail-ok : (o : Read Tail) (t : declared-tail.Tail) (c : Cursor) → tail-answer.Ok t c ≡ shownTail o → Showed tailOf o t (c .at)
+pub tail-ok : (o : Read Tail) (t : declared-tail.Tail) (c : Cursor) → tail-answer.Ok t c ≡ shownTail o → Showed tailOf o t (c .at)
 tail-ok (ok x to rest) t c e =
     let next : c ≡ cursorAt to = cc in
     record { value = x; was = record { rest = rest; is = rw next }; shows = cc }
@@ -141,7 +141,7 @@ inherited none parent = refl
 inside-shown : (w : grammar.Where) (v : Head) → insideShown (shownWhere w) (headOf v) ≡ shownWhere (inside w v)
 inside-shown w v = λ i. record { number = w .number + 1; instructions = w .instructions + length (v .lists .instructions .items); depth = w .depth + 1; parent = w .number; source = inherited (v .front .source) (w .source) i }
 
-row-shown : (w : grammar.Where) (at : ℕ) (v : Head) (t : Tail) (end : ℕ) → rowShown (shownWhere w) at (headOf v) (tailOf t) end ≡ rowOf (prototypeOf w at v t end)
+pub row-shown : (w : grammar.Where) (at : ℕ) (v : Head) (t : Tail) (end : ℕ) → rowShown (shownWhere w) at (headOf v) (tailOf t) end ≡ rowOf (prototypeOf w at v t end)
 row-shown w at v t end = λ i. record {
   start = at;
   end = end;
@@ -168,13 +168,13 @@ finish wanted w at v t end ps to =
 
 -- ## The answers of `read_function`
 module _ (s : Bytes) (L : ResourceLimits) (left wanted : ℕ) (place : Where) (w : grammar.Where) (stands : place ≡ shownWhere w) (at : ℕ) where
-  abbrev whole : Read (List Prototype)
+  abbrev pub whole : Read (List Prototype)
   whole = function L left w at (drop at s)
 
-  by-parts : whole ≡ parts L (entered L left) w at (drop at s)
+  pub by-parts : whole ≡ parts L (entered L left) w at (drop at s)
   by-parts = function-body L left w at (drop at s) ∙ in-parts L (entered L left) w at (drop at s)
 
-  abbrev begins : Read Head
+  abbrev pub begins : Read Head
   begins = head L (place .instructions) at (drop at s)
 
   as-begins : head L (w .instructions) at (drop at s) ≡ begins
@@ -187,7 +187,7 @@ module _ (s : Bytes) (L : ResourceLimits) (left wanted : ℕ) (place : Where) (w
     pub headed : Showed headOf begins h (c₁ .at)
     headed = head-ok begins h c₁ e₁
 
-    head-on : head L (w .instructions) at (drop at s) ≡ ok (headed .value) (c₁ .at) (drop (c₁ .at) s)
+    pub head-on : head L (w .instructions) at (drop at s) ≡ ok (headed .value) (c₁ .at) (drop (c₁ .at) s)
     head-on = as-begins ∙ onward (exact-head L (place .instructions)) s at (headed .was)
 
     abbrev pub first : grammar.Where
@@ -196,7 +196,7 @@ module _ (s : Bytes) (L : ResourceLimits) (left wanted : ℕ) (place : Where) (w
     pub first-shown : insideShown place h ≡ shownWhere first
     first-shown = (λ i. insideShown (stands i) (headed .shows i)) ∙ inside-shown w (headed .value)
 
-    abbrev inner : Read (List Prototype)
+    abbrev pub inner : Read (List Prototype)
     inner = forest (h .protos .count) (entered L left) first (c₁ .at) (drop (c₁ .at) s)
 
     as-many : inner ≡ forest (headed .value .protos .count) (entered L left) first (c₁ .at) (drop (c₁ .at) s)
@@ -206,13 +206,13 @@ module _ (s : Bytes) (L : ResourceLimits) (left wanted : ℕ) (place : Where) (w
     nested-refused q e = sym (ap (shownWalk wanted w) (by-parts ∙ taken _ head-on ∙ stopped _ (sym as-many ∙ walk-err wanted first inner q e)))
 
     module _ (nested : Walked) (e₂ : answer.Ok nested ≡ shownWalk wanted first inner) where
-      walked : WasWalk wanted first inner nested
+      pub walked : WasWalk wanted first inner nested
       walked = walk-ok wanted first inner nested e₂
 
-      nested-on : forest (headed .value .protos .count) (entered L left) first (c₁ .at) (drop (c₁ .at) s) ≡ ok (walked .value) (nested .next .at) (drop (nested .next .at) s)
+      pub nested-on : forest (headed .value .protos .count) (entered L left) first (c₁ .at) (drop (c₁ .at) s) ≡ ok (walked .value) (nested .next .at) (drop (nested .next .at) s)
       nested-on = sym as-many ∙ onward (exact-forest (h .protos .count) first (exact-entered L left)) s (c₁ .at) (walked .was)
 
-      abbrev ends : Read Tail
+      abbrev pub ends : Read Tail
       ends = tail (L .«max_string_bytes») (nested .next .at) (drop (nested .next .at) s)
 
       pub tail-refused : (q : Refusal) → tail-answer.Err q ≡ shownTail ends → answer.Err q ≡ shownWalk wanted w whole

@@ -55,7 +55,7 @@ fn inherited(spelt: OptionString, parent: OptionString) -> OptionString
 }
 
 // Where the first function stands that nests in this one.
-fn inside(place: Where, head: Head) -> Where
+pub fn inside(place: Where, head: Head) -> Where
     requires { ⌜ (place .number ≤ 16777216) × (place .instructions + head .lists .instructions .count ≤ 16777216) × (place .depth ≤ 200) ⌝ }
     ensures { λ r. ⌜ r ≡ insideShown place head ⌝ }
 {
@@ -73,7 +73,7 @@ fn inside(place: Where, head: Head) -> Where
 }
 
 // The row of a function, of its parts.
-fn row_of(place: Where, start: usize, head: Head, tail: Tail, end: usize) -> FunctionRow
+pub fn row_of(place: Where, start: usize, head: Head, tail: Tail, end: usize) -> FunctionRow
     ensures { λ r. ⌜ r ≡ rowShown place start head tail end ⌝ }
 {
     let front = head.front;
@@ -133,7 +133,7 @@ fn or_row(before: OptionRow, later: OptionRow) -> OptionRow
 }
 
 // The walk behind a function that was read: its row may be the one wanted.
-fn finished(
+pub fn finished(
     place: Where,
     start: usize,
     head: Head,
@@ -199,7 +199,7 @@ pub fn read_function(
 }
 
 // Where the next function stands, behind those that were read.
-fn again(first: Where, walked: Walked) -> Where
+pub fn again(first: Where, walked: Walked) -> Where
     ensures { λ r. ⌜ r ≡ againShown first walked ⌝ }
 {
     let source = first.source;
@@ -213,7 +213,7 @@ fn again(first: Where, walked: Walked) -> Where
 }
 
 // Two walks, the second right behind the first.
-fn joined(before: Walked, later: Walked) -> Walked
+pub fn joined(before: Walked, later: Walked) -> Walked
     ensures { λ r. ⌜ r ≡ joinedShown before later ⌝ }
 {
     let found = before.row;

@@ -37,7 +37,7 @@ pub enum LoadedResult {
 }
 
 // Where main stands.
-fn outermost() -> Where
+pub fn outermost() -> Where
     ensures { λ r. ⌜ r ≡ record { number = 0; instructions = 0; depth = 0; parent = 0; source = string.None } ⌝ }
 {
     Where {

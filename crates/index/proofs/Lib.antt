@@ -1,0 +1,4 @@
+pub mod Splices
+pub mod Rows
+pub mod Small
+pub mod Whole

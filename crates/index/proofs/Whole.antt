@@ -1,0 +1,229 @@
+-- The index of a whole chunk, in the code's terms: by what the first pass showed.
+--     refused-index        a refusal of the first pass
+--     no-room              the space is too short
+--     main-there           there is a function: main
+--     index-written        the second pass has written the index
+-- Assumes nothing.
+use mathlib.Core.Path.{_≡_, refl, sym, _∙_, ap}
+use mathlib.Core.Bool.{Bool, true, false, _&&_}
+use mathlib.Core.List.{List, [], _∷_, _++_}
+use Prim.Native.Nat.{ℕ, _+_, _*_, _/_, _≤_, _<_}
+use native.Mathlib.Nat.{zero-add}
+use native.Mathlib.Omega.{arith}
+use borrow.Author.Tests.{leb-true, le-leb, lt-leb}
+use lib.Dec.{leb}
+use lib.ListN.{length, drop, length-append}
+use Rattle.format.specs.Pick.{pick}
+use Rattle.format.specs.declared.limits.ResourceLimits.{ResourceLimits}
+use Rattle.format.specs.declared.refusal.Refusal.{Refusal}
+use Rattle.format.specs.declared.refusal.Refusal.the-variants.{LentSpace}
+use Rattle.format.specs.Limits.{withinCeilings}
+use Rattle.format.specs.Form.{Bytes}
+use Rattle.format.specs.Reading.{Prototype, Reading}
+use Rattle.format.specs.GrammarChunk.{outermost, Loaded, Chunk}
+use Rattle.format.specs.Read.{Read, ok, refused, Reader, next, give}
+use Rattle.format.specs.ReadFields.{byte}
+use Rattle.format.specs.GrammarHeader.{Headed}
+use Rattle.format.specs.ReadHeader.{header}
+use Rattle.format.specs.ReadChunk.{forest, function, main, Outcome, shown, refusal, read}
+use Rattle.format.proofs.Exact.{never}
+use Rattle.format.proofs.ExactFields.{exact-field}
+use Rattle.format.proofs.ExactHeader.{exact-header}
+use Rattle.format.proofs.ExactChunk.{exact-main}
+use Rattle.format.proofs.Left.{left}
+use Rattle.format.proofs.ReadChunkLaws.{read-sound, read-within}
+use Rattle.chunk.specs.declared.row.OptionRow.the-variants as option
+use Rattle.chunk.specs.declared.row.FunctionRow.{FunctionRow}
+use Rattle.chunk.specs.Row.{rowOf, shownRow, lookup}
+use Rattle.chunk.specs.Parts.{Head, head, Tail, tail, inside, prototypeOf}
+use Rattle.chunk.specs.Walk.{shownWhere, entered}
+use Rattle.chunk.proofs.Functions.{by-parts}
+use Rattle.decode.specs.declared.summary.Decoded.{Decoded}
+use Rattle.decode.specs.declared.summary.DecodedResult.the-variants as decoded
+use Rattle.decode.specs.Decoded.{shownOutcome, shownReading}
+use Rattle.decode.proofs.Summaries.{in-ceilings}
+use Rattle.index.specs.declared.IndexAnswer.the-variants as answer
+use Rattle.index.specs.Index.{index, shownIndex, indexWritten}
+use Rattle.index.specs.Stored.{splice, stored, Wrote}
+use Rattle.index.proofs.Small.{small-main, stored-index}
+
+index-length : (ps : List Prototype) → length (index ps) ≡ 12 * length ps
+index-length [] = refl
+index-length (p ∷ ps) = let more = index-length ps in omega arith
+
+-- ## By the first pass
+pub refused-index : (old : List ℕ) (o : Outcome) (q : Refusal) → decoded.Err q ≡ shownOutcome 0 o → (answer.Err q ≡ shownIndex (length old) o) × (old ≡ indexWritten old o)
+refused-index old (shown r) q e = absurd (let z : _≡_ {A = ℕ} 0 1 = cc in omega arith)
+refused-index old (refusal p) q e = (let same : q ≡ p = cc in ap answer.Err same, refl)
+
+-- what the first pass showed is of a reading
+record WasShown (o : Outcome) (d : Decoded) : Type 0 where
+  value : Reading
+  is : o ≡ shown value
+  shows : d ≡ shownReading 0 value
+
+was-shown : (o : Outcome) (d : Decoded) → decoded.Ok d ≡ shownOutcome 0 o → WasShown o d
+was-shown (shown r) d e = record { value = r; is = refl; shows = cc }
+was-shown (refusal q) d e = absurd (let z : _≡_ {A = ℕ} 0 1 = cc in omega arith)
+
+-- 12 numbers for each function have room where a twelfth of the space is at least the number of functions
+short-space : (space n : ℕ) → space / 12 < n → space < 12 * n
+short-space space n h = omega arith
+
+long-space : (space n : ℕ) → n ≤ space / 12 → 12 * n ≤ space
+long-space space n h = omega arith
+
+module _ (old : List ℕ) (o : Outcome) (d : Decoded) (e : decoded.Ok d ≡ shownOutcome 0 o) where
+  abbrev functions : List Prototype
+  functions = was-shown o d e .value .functions
+
+  count : d .summary .functions ≡ length functions
+  count = ap (λ k. k .summary .functions) (was-shown o d e .shows)
+
+  by-test : (b : Bool) → leb (length (index functions)) (length old) ≡ b
+      → (shownIndex (length old) o ≡ pick b (answer.Ok (length functions)) (answer.Err LentSpace)) × (indexWritten old o ≡ pick b (index functions ++ drop (length (index functions)) old) old)
+  by-test b t = (
+    ap (shownIndex (length old)) (was-shown o d e .is) ∙ ap (λ b. pick b (answer.Ok (length functions)) (answer.Err LentSpace)) t,
+    ap (indexWritten old) (was-shown o d e .is) ∙ ap (λ b. pick b (index functions ++ drop (length (index functions)) old) old) t,
+  )
+
+  pub no-room : length old / 12 < d .summary .functions → (answer.Err LentSpace ≡ shownIndex (length old) o) × (old ≡ indexWritten old o)
+  no-room h =
+      let size = index-length functions in
+      let number = count in
+      let longer : length old < 12 * length functions = short-space (length old) (length functions) (rw (← number) h) in
+      let both = by-test false (lt-leb (length (index functions)) (length old) (omega arith)) in
+      (sym (both .0), sym (both .1))
+
+  module _ (h : d .summary .functions ≤ length old / 12) where
+    fits : 12 * length functions ≤ length old
+    fits = let number = count in long-space (length old) (length functions) (rw (← number) h)
+
+    room : (new : List ℕ) → new ≡ index functions ++ drop (length (index functions)) old → (answer.Ok (d .summary .functions) ≡ shownIndex (length old) o) × (new ≡ indexWritten old o)
+    room new e =
+        let size = index-length functions in
+        let enough = fits in
+        let both = by-test true (le-leb (length (index functions)) (length old) (omega arith)) in
+        (ap answer.Ok count ∙ sym (both .0), e ∙ sym (both .1))
+
+-- ## Where main stands
+-- a function is the first of those that are read with it, and begins where they do
+record First (at : ℕ) (ps : List Prototype) : Type 0 where
+  this : Prototype
+  those : List Prototype
+  all : ps ≡ this ∷ those
+  begins : this .start ≡ at
+
+first-of : (L : ResourceLimits) (n at : ℕ) (s : Bytes) {ps : List Prototype} {to : ℕ} {rest : Bytes} → function L n outermost at (drop at s) ≡ ok ps to rest → First at ps
+first-of L n at s {ps} {to} {rest} e = one (head L 0 at (drop at s)) (sym (by-parts s L n 0 (shownWhere outermost) outermost refl at) ∙ e)
+  where
+    ended : Head → List Prototype → Tail → Reader (List Prototype)
+    ended h nested t end = give (prototypeOf outermost at h t end ∷ nested) end
+
+    three : (h : Head) (nested : List Prototype) (o : Read Tail) → next o (ended h nested) ≡ ok ps to rest → First at ps
+    three h nested (refused q) e = absurd (never e)
+    three h nested (ok t end behind) e =
+        let same : ps ≡ prototypeOf outermost at h t end ∷ nested = cc in
+        record { this = prototypeOf outermost at h t end; those = nested; all = same; begins = refl }
+
+    two : (h : Head) (o : Read (List Prototype)) → next o (λ nested c d. next (tail (L .«max_string_bytes») c d) (ended h nested)) ≡ ok ps to rest → First at ps
+    two h (refused q) e = absurd (never e)
+    two h (ok nested c d) e = three h nested (tail (L .«max_string_bytes») c d) e
+
+    one : (o : Read Head) → next o (λ h a b. next (forest (h .protos .count) (entered L n) (inside outermost h) a b) (λ nested c d. next (tail (L .«max_string_bytes») c d) (ended h nested))) ≡ ok ps to rest → First at ps
+    one (refused q) e = absurd (never e)
+    one (ok h a b) e = two h (forest (h .protos .count) (entered L n) (inside outermost h) a b) e
+
+record MainAt (L : ResourceLimits) (s : Bytes) (ps : List Prototype) : Type 0 where
+  at : ℕ
+  to : ℕ
+  rest : Bytes
+  reads : function L (L .«max_nesting_depth») outermost at (drop at s) ≡ ok ps to rest
+
+main-at : (L : ResourceLimits) (s : Bytes) {m : Loaded} {to : ℕ} {rest : Bytes} → main L 0 s ≡ ok m to rest → MainAt L s (m .functions)
+main-at L s {m} {to} {rest} e = one (header 0 s) refl e
+  where
+    loaded : Headed → List Prototype → Reader Loaded
+    loaded headed functions = give (record { headed = headed; functions = functions })
+
+    three : (headed : Headed) (at : ℕ) (o : Read (List Prototype)) → function L (L .«max_nesting_depth») outermost at (drop at s) ≡ o → next o (loaded headed) ≡ ok m to rest → MainAt L s (m .functions)
+    three headed at (refused q) is e = absurd (never e)
+    three headed at (ok functions end behind) is e =
+        let whole : record { headed = headed; functions = functions } ≡ m = cc in
+        record { at = at; to = end; rest = behind; reads = is ∙ ap (λ l. ok (l .functions) end behind) whole }
+
+    two : (headed : Headed) (at : ℕ) (o : Read ℕ) → byte at (drop at s) ≡ o → next o (λ forgotten a b. next (function L (L .«max_nesting_depth») outermost a b) (loaded headed)) ≡ ok m to rest → MainAt L s (m .functions)
+    two headed at (refused q) is e = absurd (never e)
+    two headed at (ok forgotten a b) is e =
+        let here : b ≡ drop a s = left (exact-field 1) s at is in
+        three headed a (function L (L .«max_nesting_depth») outermost a (drop a s)) refl (rw here at e)
+
+    one : (o : Read Headed) → header 0 s ≡ o → next o (λ headed a b. next (byte a b) (λ forgotten a b. next (function L (L .«max_nesting_depth») outermost a b) (loaded headed))) ≡ ok m to rest → MainAt L s (m .functions)
+    one (refused q) is e = absurd (never e)
+    one (ok headed a b) is e =
+        let here : b ≡ drop a s = left exact-header s 0 is in
+        two headed a (byte a (drop a s)) refl (rw here at e)
+
+-- ## The second pass
+both : (b c : Bool) → b && c ≡ true → (b ≡ true) × (c ≡ true)
+both true true e = (refl, refl)
+both true false e = absurd (let z : _≡_ {A = ℕ} 0 1 = cc in omega arith)
+both false c e = absurd (let z : _≡_ {A = ℕ} 0 1 = cc in omega arith)
+
+first-limit : (a b c d e f g h i : Bool) → a && b && c && d && e && f && g && h && i ≡ true → a ≡ true
+first-limit a b c d e f g h i t = both a b (both _ c (both _ d (both _ e (both _ f (both _ g (both _ h (both _ i t .0) .0) .0) .0) .0) .0) .0) .0
+
+input-ceiling : (L : ResourceLimits) → withinCeilings L ≡ true → L .«max_input_bytes» ≤ 16777216
+input-ceiling L e = leb-true (L .«max_input_bytes») 16777216 (first-limit _ _ _ _ _ _ _ _ _ e)
+
+module _ (old : List ℕ) (L : ResourceLimits) (s : Bytes) (d : Decoded) (e : decoded.Ok d ≡ shownOutcome 0 (read L s)) where
+  abbrev all-functions : List Prototype
+  all-functions = functions old (read L s) d e
+
+  was : read L s ≡ shown (was-shown (read L s) d e .value)
+  was = was-shown (read L s) d e .is
+
+  pub in-limits : (L .«max_nesting_depth» ≤ 200) × (L .«max_total_prototypes» ≤ 16777216) × (L .«max_total_instructions» ≤ 16777216)
+  in-limits = in-ceilings L (read-within L s (was-shown (read L s) d e .value) was .0)
+
+  chunk : Chunk L s (was-shown (read L s) d e .value)
+  chunk = read-sound L s (was-shown (read L s) d e .value) was
+
+  those : chunk .value .functions ≡ all-functions
+  those = ap (λ r. r .functions) (chunk .shows)
+
+  as-index : stored all-functions ≡ index all-functions
+  as-index =
+      let short = read-within L s (was-shown (read L s) d e .value) was in
+      let input = input-ceiling L (short .0) in
+      let size : length s ≡ length (chunk .front) + length (chunk .trailing) = ap length (chunk .whole) ∙ length-append (chunk .front) (chunk .trailing) in
+      let within = short .1 in
+      let small = small-main L (in-limits .1) (in-limits .0) (chunk .front) (chunk .value) (omega arith) (chunk .main) in
+      rw (← those) (stored-index (chunk .value .functions) small)
+
+  main-place : MainAt L s all-functions
+  main-place = rw (← those) (main-at L s (ap (main L 0) (chunk .whole) ∙ exact-main L .complete (chunk .trailing) (chunk .main)))
+
+  main-first : First (main-place .at) all-functions
+  main-first = first-of L (L .«max_nesting_depth») (main-place .at) s (main-place .reads)
+
+  main-row : d .row ≡ option.Some (rowOf (main-first .this))
+  main-row = ap (λ k. k .row) (was-shown (read L s) d e .shows) ∙ ap (λ ps. shownRow (lookup 0 0 ps)) (main-first .all)
+
+  pub main-there : {A : Type 0} → d .row ≡ option.None → A
+  main-there e = absurd (let r = main-row in let z : _≡_ {A = ℕ} 0 1 = cc in omega arith)
+
+  module _ (enough : d .summary .functions ≤ length old / 12) (row : FunctionRow) (found : d .row ≡ option.Some row) (new : List ℕ)
+      (wrote : Wrote outermost (function L (L .«max_nesting_depth») outermost (row .start) (drop (row .start) s)) old new) where
+    begins : main-place .at ≡ row .start
+    begins = let r = main-row in let same : row ≡ rowOf (main-first .this) = cc in sym (ap (λ k. k .start) same ∙ main-first .begins)
+
+    stands-there : new ≡ index all-functions ++ drop (length (index all-functions)) old
+    unfolding splice
+    stands-there =
+        wrote .wrote all-functions (main-place .to) (main-place .rest) (sym (ap (λ at. function L (L .«max_nesting_depth») outermost at (drop at s)) begins) ∙ main-place .reads) (let more = fits old (read L s) d e enough in omega arith)
+        ∙ ap (λ xs. xs ++ drop (0 + length xs) old) as-index
+        ∙ ap (λ n. index all-functions ++ drop n old) (zero-add (length (index all-functions)))
+
+    pub index-written : (answer.Ok (d .summary .functions) ≡ shownIndex (length old) (read L s)) × (new ≡ indexWritten old (read L s))
+    index-written = room old (read L s) d e enough new stands-there

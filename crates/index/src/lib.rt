@@ -1,0 +1,51 @@
+// chunk.rs, the index: a row of twelve numbers for each function of a chunk, written into lent space.
+pub mod row;
+pub mod walk;
+
+ghost use mathlib.Core.Path.{_≡_};
+ghost use lib.ListN.{length};
+ghost use Rattle.format.specs.ReadChunk as format;
+ghost use Rattle.index.specs.Index.{shownIndex, indexWritten};
+use crate::walk::write_function;
+use chunk::row::OptionRow;
+use decode::outermost;
+use decode::summary::DecodedResult;
+use decode::summary::decode_chunk_lua54;
+use format::limits::ResourceLimits;
+use format::refusal::Refusal;
+use reader::cursor::Cursor;
+
+// The number of functions, or why there is no index.
+pub enum IndexAnswer {
+    Ok(usize),
+    Err(Refusal),
+}
+
+// Writes the index of a chunk at the start of `rows`: for each function, in the order their bytes begin, start, end, depth, parent and eight counts.
+// The first pass judges, the second writes. Ruled out: a count that is another list's, rows touched where the answer is a refusal.
+pub fn function_index(s: &[u8], limits: ResourceLimits, rows: &mut [u32]) -> IndexAnswer
+    ensures { λ r. ⌜ r ≡ shownIndex (length (now (rows .entry))) (format.read limits (now (s .entry))) ⌝ }
+    ensures { λ _. ⌜ now (rows .exit) ≡ indexWritten (now (rows .entry)) (format.read limits (now (s .entry))) ⌝ }
+{
+    let judged = decode_chunk_lua54(s, limits, 0);
+    match judged {
+        DecodedResult::Err(refusal) => IndexAnswer::Err(refusal),
+        DecodedResult::Ok(decoded) => {
+            let functions = decoded.summary.functions;
+            if rows.len() / 12 < functions {
+                return IndexAnswer::Err(Refusal::LentSpace);
+            }
+            let main = decoded.row;
+            match main {
+                // Never: a chunk that is read has main.
+                OptionRow::None => IndexAnswer::Ok(functions),
+                OptionRow::Some(row) => {
+                    let place = outermost();
+                    let first = Cursor { at: row.start };
+                    write_function(s, limits, place, limits.max_nesting_depth, first, rows);
+                    IndexAnswer::Ok(functions)
+                }
+            }
+        }
+    }
+}
