@@ -1,8 +1,8 @@
 // The lines of a function: its fields, and its entries behind them.
 ghost use Prim.Native.Nat.{_<_};
-use crate::Name;
-use crate::items;
-use crate::strings;
+use entry_text::Name;
+use entry_text::items;
+use entry_text::strings;
 use format::limits::ResourceLimits;
 use lafzimdo::fields::Counts;
 use lafzimdo::fields::FieldsAnswer;

@@ -1,11 +1,11 @@
 // The answer to a request on a chunk.
 ghost use Prim.Native.Nat.{_<_};
-use crate::Name;
 use crate::Rows;
 use crate::request;
 use crate::request::Limits;
 use crate::rows as row_lines;
 use crate::summary;
+use entry_text::Name;
 use format::limits::ResourceLimits;
 use index::IndexAnswer;
 use index::function_index;

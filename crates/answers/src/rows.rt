@@ -1,9 +1,9 @@
 // The rows of the index: twelve numbers for each function.
 ghost use Prim.Native.Nat.{_+_, _<_, _≤_};
-use crate::Name;
 use crate::Rows;
 use crate::function;
 use crate::function::Extent;
+use entry_text::Name;
 use format::limits::ResourceLimits;
 use text::print;
 use text::print::Out;

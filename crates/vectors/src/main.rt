@@ -2,9 +2,9 @@
 ghost use Prim.Native.Nat.{_<_};
 ghost use lib.ListN.{length};
 ghost use Rattle.text.specs.Lines.{Within};
-use answers::Name;
 use answers::Rows;
 use answers::reply;
+use entry_text::Name;
 use text::line;
 use text::line::Found;
 use text::line::LONGEST;

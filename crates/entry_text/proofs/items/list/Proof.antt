@@ -1,8 +1,8 @@
--- `answers::items::list` is safe and ends. The measure is what is left of the list. Assumes nothing.
+-- `entry_text::items::list` is safe and ends. The measure is what is left of the list. Assumes nothing.
 use Prim.Native.Nat.{_≤_, _<_, _-_}
 use borrow.Author.Needs.{needs}
-use Rattle.answers.proofs.items.list.Statement.{statement}
-use Rattle.answers.proofs.items.list.Tie as tie
+use Rattle.entry_text.proofs.items.list.Statement.{statement}
+use Rattle.entry_text.proofs.items.list.Tie as tie
 
 abbrev Inv-loop : tie.InvT-loop
 Inv-loop out₀ used s limits f kind count name₀ at₀ i₀ out name at i = (i ≤ count) × (at < 65536)
