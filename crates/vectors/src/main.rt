@@ -1,23 +1,34 @@
 // Answers the requests on standard input, a line each, on standard output.
 ghost use Prim.Native.Nat.{_<_};
 ghost use lib.ListN.{length};
-ghost use Rattle.vectors.specs.Lines.{Within};
-use crate::line::Found;
-use crate::line::LONGEST;
-use crate::line::Lines;
-use crate::line::Step;
+ghost use Rattle.text.specs.Lines.{Within};
+use answers::Rows;
+use answers::reply;
+use entry_text::Name;
+use text::line;
+use text::line::Found;
+use text::line::LONGEST;
+use text::line::Lines;
+use text::line::Step;
+use text::print;
+use text::print::Out;
+use text::token;
+use words::answer;
 
-mod fields;
-mod line;
-mod number;
-mod print;
-mod token;
-mod words;
+// Room for the bytes of a chunk: a request has two digits for each.
+type Space = [u8; 524288];
 
 // The answer to one line. An empty line and a comment have none.
-fn answer(line: &[u8], out: &mut [u8], used: usize) -> usize
-    requires { ⌜ used < length (now out) ⌝ }
-    ensures { λ r. ⌜ r < length (now (out .exit)) ⌝ }
+fn answer_line(
+    line: &[u8],
+    out: &mut Out,
+    used: usize,
+    space: &mut Space,
+    rows: &mut Rows,
+    name: &mut Name,
+) -> usize
+    requires { ⌜ used < 65536 ⌝ }
+    ensures { λ r. ⌜ r < 65536 ⌝ }
 {
     if line.len() == 0 {
         return used;
@@ -29,25 +40,33 @@ fn answer(line: &[u8], out: &mut [u8], used: usize) -> usize
         return print::bad_request(out, used);
     }
     if token::begins(line, b"word ") {
-        return words::word(line, 5, out, used);
+        return answer::word(line, 5, out, used);
     }
     if token::begins(line, b"enc ") {
-        return words::enc(line, 4, out, used);
+        return answer::enc(line, 4, out, used);
     }
-    print::bad_request(out, used)
+    reply::chunk(line, out, used, space, rows, name)
 }
 
 // The answer to what a step along the input found.
-fn respond(buf: &[u8], step: Step, out: &mut [u8], used: usize) -> usize
+fn respond(
+    buf: &[u8],
+    step: Step,
+    out: &mut Out,
+    used: usize,
+    space: &mut Space,
+    rows: &mut Rows,
+    name: &mut Name,
+) -> usize
     requires { ⌜ Within step (length (now buf)) ⌝ }
-    requires { ⌜ used < length (now out) ⌝ }
-    ensures { λ r. ⌜ r < length (now (out .exit)) ⌝ }
+    requires { ⌜ used < 65536 ⌝ }
+    ensures { λ r. ⌜ r < 65536 ⌝ }
 {
     let found = step.found;
     let from = step.from;
     let to = step.to;
     match found {
-        Found::Line => answer(&buf[from..to], out, used),
+        Found::Line => answer_line(&buf[from..to], out, used, space, rows, name),
         Found::Nothing => used,
         Found::End => used,
     }
@@ -55,9 +74,14 @@ fn respond(buf: &[u8], step: Step, out: &mut [u8], used: usize) -> usize
 
 // Answers every line, and says how much of the last answers still waits in the buffer. Nothing
 // says that the input ends, so the loop counts its turns down from a number that no run uses up.
-fn answer_all(buf: &mut [u8], out: &mut [u8]) -> usize
-    requires { ⌜ 0 < length (now out) ⌝ }
-    ensures { λ r. ⌜ r < length (now (out .exit)) ⌝ }
+fn answer_all(
+    buf: &mut [u8],
+    out: &mut Out,
+    space: &mut Space,
+    rows: &mut Rows,
+    name: &mut Name,
+) -> usize
+    ensures { λ r. ⌜ r < 65536 ⌝ }
 {
     let mut lines = Lines::new();
     let mut used = 0;
@@ -68,17 +92,15 @@ fn answer_all(buf: &mut [u8], out: &mut [u8]) -> usize
         if let Found::End = found {
             return used;
         }
-        used = respond(buf, step, out, used);
+        used = respond(buf, step, out, used, space, rows, name);
         lines = step.rest;
         turns -= 1;
     }
     used
 }
 
-fn run(buf: &mut [u8], out: &mut [u8])
-    requires { ⌜ 0 < length (now out) ⌝ }
-{
-    let used = answer_all(buf, out);
+fn run(buf: &mut [u8], out: &mut Out, space: &mut Space, rows: &mut Rows, name: &mut Name) {
+    let used = answer_all(buf, out, space, rows, name);
     print::flush(out, used);
 }
 
@@ -86,5 +108,8 @@ fn run(buf: &mut [u8], out: &mut [u8])
 fn main() {
     let mut buf = [0u8; 2097152];
     let mut out = [0u8; 65536];
-    run(&mut buf, &mut out);
+    let mut space = [0u8; 524288];
+    let mut rows = [0u32; 449400];
+    let mut name = [0u8; 524288];
+    run(&mut buf, &mut out, &mut space, &mut rows, &mut name);
 }

@@ -11,6 +11,5 @@ main-spec =
     tie.close
     (tie.spec
     (λ c. sym (length-replicate {0} {A = ℕ} 2097152 0))
-    (λ c. sym (length-replicate {0} {A = ℕ} 65536 0))
     (λ c κs. search needs)
     (λ c. search needs))

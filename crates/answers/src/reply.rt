@@ -1,0 +1,85 @@
+// The answer to a request on a chunk.
+ghost use Prim.Native.Nat.{_<_};
+use crate::Rows;
+use crate::request;
+use crate::request::Limits;
+use crate::rows as row_lines;
+use crate::summary;
+use entry_text::Name;
+use format::limits::ResourceLimits;
+use index::IndexAnswer;
+use lafzimdo::rows::function_index;
+use lafzimdo::summary::SummaryAnswer;
+use lafzimdo::summary::chunk_summary;
+use text::hex::Length;
+use text::print;
+use text::print::Out;
+
+// `L1 .. L9 HEX`. The chunk's bytes go into `space`, the index into `rows`, a local's name into `name`.
+pub fn chunk(
+    line: &[u8],
+    out: &mut Out,
+    used: usize,
+    space: &mut [u8],
+    rows: &mut Rows,
+    name: &mut Name,
+) -> usize
+    requires { ⌜ used < 65536 ⌝ }
+    ensures { λ r. ⌜ r < 65536 ⌝ }
+{
+    let asked = request::nine(line);
+    let Limits::Values(limits, at) = asked else {
+        return print::bad_request(out, used);
+    };
+    let read = request::chunk(line, at, space);
+    let Length::Value(n) = read else {
+        return print::bad_request(out, used);
+    };
+    let used = answered(out, used, &space[..n], limits, rows, name);
+    print::text(out, used, b"end\n")
+}
+
+// The answer up to its `end`.
+fn answered(
+    out: &mut Out,
+    used: usize,
+    s: &[u8],
+    limits: ResourceLimits,
+    rows: &mut Rows,
+    name: &mut Name,
+) -> usize
+    requires { ⌜ used < 65536 ⌝ }
+    ensures { λ r. ⌜ r < 65536 ⌝ }
+{
+    let found = chunk_summary(s, limits);
+    match found {
+        SummaryAnswer::Err(why) => print::refusal(out, used, why),
+        SummaryAnswer::Ok(whole) => {
+            let used = summary::lines(out, used, s, limits, whole);
+            functions(out, used, s, limits, rows, name)
+        }
+    }
+}
+
+// The lines of the functions, and those of the index.
+fn functions(
+    out: &mut Out,
+    used: usize,
+    s: &[u8],
+    limits: ResourceLimits,
+    rows: &mut Rows,
+    name: &mut Name,
+) -> usize
+    requires { ⌜ used < 65536 ⌝ }
+    ensures { λ r. ⌜ r < 65536 ⌝ }
+{
+    let found = function_index(s, limits, rows);
+    match found {
+        IndexAnswer::Err(why) => print::refusal(out, used, why),
+        IndexAnswer::Ok(count) => {
+            let n = row_lines::within(count);
+            let used = row_lines::functions(out, used, s, limits, rows, n, name);
+            row_lines::lines(out, used, rows, n)
+        }
+    }
+}

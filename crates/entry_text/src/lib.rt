@@ -1,0 +1,6 @@
+// The lines of a function's entries, and strings as an answer spells them. Each printer answers how many bytes wait in the buffer then (crate text).
+pub mod items;
+pub mod strings;
+
+// Room for the name of a local variable.
+pub type Name = [u8; 524288];

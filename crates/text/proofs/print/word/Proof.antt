@@ -1,0 +1,16 @@
+-- `text::print::word` meets its contract: what the calls say, put together. Assumes nothing.
+use native.Mathlib.Omega.{arith}
+use borrow.Author.Needs.{needs}
+use Rattle.text.proofs.OutputLaws.{eight}
+use Rattle.text.proofs.print.word.Statement.{statement}
+use Rattle.text.proofs.print.word.Tie as tie
+
+pub word-spec : {M : Type 1} → statement M
+word-spec =
+    tie.close
+    (tie.spec
+    (λ c κs. search needs)
+    (λ c. search needs)
+    (λ c. search needs)
+    (λ c κs. search needs)
+    (λ c. (search needs, rw (c .text .ensures .1, c .before .before .before .hex .ensures .1 .1, eight _ _ (omega arith) (c .before .before .before .hex .ensures .1 .0)))))

@@ -1,0 +1,5 @@
+pub mod Lines
+pub mod Numbers
+pub mod Tokens
+pub mod Output
+pub mod Hex
