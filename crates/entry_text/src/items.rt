@@ -13,7 +13,7 @@ use lafzimdo::entry::WordAnswer;
 use lafzimdo::fields::Counts;
 use lafzimdo::local::LocalAnswer;
 use lafzimdo::local::local;
-use lafzimdo::place::EntryKind;
+use lafzimdo::place::EntryKind as Kind;
 use lists::constant::ConstantValue;
 use text::print;
 use text::print::Out;
@@ -30,76 +30,20 @@ pub fn lines(
     requires { ⌜ used < 65536 ⌝ }
     ensures { λ r. ⌜ r < 65536 ⌝ }
 {
-    let used = list(
-        out,
-        used,
-        s,
-        limits,
-        f,
-        EntryKind::Instruction,
-        counts.instructions,
-        name,
-    );
-    let used = list(
-        out,
-        used,
-        s,
-        limits,
-        f,
-        EntryKind::Constant,
-        counts.constants,
-        name,
-    );
-    let used = list(
-        out,
-        used,
-        s,
-        limits,
-        f,
-        EntryKind::Upvalue,
-        counts.upvalues,
-        name,
-    );
-    let used = list(
-        out,
-        used,
-        s,
-        limits,
-        f,
-        EntryKind::Delta,
-        counts.line_info,
-        name,
-    );
-    let used = list(
-        out,
-        used,
-        s,
-        limits,
-        f,
-        EntryKind::Anchor,
-        counts.abs_line_info,
-        name,
-    );
-    let used = list(
-        out,
-        used,
-        s,
-        limits,
-        f,
-        EntryKind::Local,
-        counts.loc_vars,
-        name,
-    );
-    list(
-        out,
-        used,
-        s,
-        limits,
-        f,
-        EntryKind::UpvalueName,
-        counts.upvalue_names,
-        name,
-    )
+    let n = counts.instructions;
+    let used = list(out, used, s, limits, f, Kind::Instruction, n, name);
+    let n = counts.constants;
+    let used = list(out, used, s, limits, f, Kind::Constant, n, name);
+    let n = counts.upvalues;
+    let used = list(out, used, s, limits, f, Kind::Upvalue, n, name);
+    let n = counts.line_info;
+    let used = list(out, used, s, limits, f, Kind::Delta, n, name);
+    let n = counts.abs_line_info;
+    let used = list(out, used, s, limits, f, Kind::Anchor, n, name);
+    let n = counts.loc_vars;
+    let used = list(out, used, s, limits, f, Kind::Local, n, name);
+    let n = counts.upvalue_names;
+    list(out, used, s, limits, f, Kind::UpvalueName, n, name)
 }
 
 // The entries of one list of function f.
@@ -109,7 +53,7 @@ fn list(
     s: &[u8],
     limits: ResourceLimits,
     f: usize,
-    kind: EntryKind,
+    kind: Kind,
     count: usize,
     name: &mut Name,
 ) -> usize
@@ -131,7 +75,7 @@ fn line(
     s: &[u8],
     limits: ResourceLimits,
     f: usize,
-    kind: EntryKind,
+    kind: Kind,
     i: usize,
     name: &mut Name,
 ) -> usize
@@ -139,16 +83,16 @@ fn line(
     ensures { λ r. ⌜ r < 65536 ⌝ }
 {
     match kind {
-        EntryKind::Instruction => word(out, used, entry::instruction(s, limits, f, i)),
-        EntryKind::Constant => constant(out, used, s, entry::constant(s, limits, f, i)),
-        EntryKind::Upvalue => upvalue(out, used, entry::upvalue(s, limits, f, i)),
-        EntryKind::Delta => delta(out, used, entry::delta(s, limits, f, i)),
-        EntryKind::Anchor => anchor(out, used, entry::anchor(s, limits, f, i)),
-        EntryKind::Local => {
+        Kind::Instruction => word(out, used, entry::instruction(s, limits, f, i)),
+        Kind::Constant => constant(out, used, s, entry::constant(s, limits, f, i)),
+        Kind::Upvalue => upvalue(out, used, entry::upvalue(s, limits, f, i)),
+        Kind::Delta => delta(out, used, entry::delta(s, limits, f, i)),
+        Kind::Anchor => anchor(out, used, entry::anchor(s, limits, f, i)),
+        Kind::Local => {
             let found = local(s, limits, f, i, name);
             variable(out, used, found, name)
         }
-        EntryKind::UpvalueName => upvalue_name(out, used, s, entry::upvalue_name(s, limits, f, i)),
+        Kind::UpvalueName => upvalue_name(out, used, s, entry::upvalue_name(s, limits, f, i)),
     }
 }
 
