@@ -31,11 +31,11 @@ use Rattle.index.specs.declared.IndexAnswer.the-variants as index-answer
 use Rattle.lafzimdo.specs.declared.summary.SummaryAnswer.the-variants as summary-answer
 use Rattle.lafzimdo.specs.declared.fields.FieldsAnswer.the-variants as fields-answer
 use Rattle.lafzimdo.specs.declared.local.LocalAnswer.the-variants as local-answer
-use Rattle.lafzimdo.specs.Asked.{found, refused, orRefuse, functionOf, entryOf, entryIn}
+use Rattle.access.specs.Asked.{found, refused, orRefuse, functionOf, entryOf, entryIn}
 use Rattle.lafzimdo.specs.Summaries.{summaryOf, shownSummary, trailingOf}
 use Rattle.lafzimdo.specs.Fields.{fieldsOf, shownFields}
 use Rattle.lafzimdo.specs.Locals.{shownLocal, nameWritten}
-use Rattle.lafzimdo.proofs.Whole.{all-nth, whole}
+use Rattle.access.proofs.Whole.{all-nth, whole}
 
 -- ## What is shown of a function
 pub record ShowsFunction (L : ResourceLimits) (s : Bytes) (f : ℕ) (p : Prototype) : Type 0 where

@@ -1,4 +1,3 @@
-pub mod Whole
-pub mod RowLaws
-pub mod Found
+pub mod SummaryLaws
+pub mod FieldLaws
 pub mod Names

@@ -35,12 +35,12 @@ use Rattle.entries.proofs.Items.{LocalFound, local-nth}
 use Rattle.entries.proofs.Strings.{local-stands}
 use Rattle.lafzimdo.specs.declared.local.LocalAnswer.{LocalAnswer}
 use Rattle.lafzimdo.specs.declared.local.LocalAnswer.the-variants as answer
-use Rattle.lafzimdo.specs.declared.place.EntryKind.the-variants as kind
-use Rattle.lafzimdo.specs.declared.place.PlaceAnswer.the-variants as place
-use Rattle.lafzimdo.specs.Asked.{Asked, found, refused, functionOf, entryOf}
+use Rattle.access.specs.declared.place.EntryKind.the-variants as kind
+use Rattle.access.specs.declared.place.PlaceAnswer.the-variants as place
+use Rattle.access.specs.Asked.{Asked, found, refused, functionOf, entryOf}
 use Rattle.lafzimdo.specs.Locals.{shownLocal, nameWritten, nameLength, nameBytes, Stands}
-use Rattle.lafzimdo.specs.Places.{shownPlace}
-use Rattle.lafzimdo.proofs.Found.{entry-refused, entry-there}
+use Rattle.access.specs.Places.{shownPlace}
+use Rattle.access.proofs.Found.{entry-refused, entry-there}
 
 -- the name of a variable, as it is spelt and as it is shown
 record SameName (s : Bytes) (name : OptionString) (l : LocalVar) : Type 0 where

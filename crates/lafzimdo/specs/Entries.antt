@@ -33,7 +33,7 @@ use Rattle.lafzimdo.specs.declared.entry.AnchorAnswer.{AnchorAnswer}
 use Rattle.lafzimdo.specs.declared.entry.AnchorAnswer.the-variants as anchor-answer
 use Rattle.lafzimdo.specs.declared.entry.NameAnswer.{NameAnswer}
 use Rattle.lafzimdo.specs.declared.entry.NameAnswer.the-variants as name-answer
-use Rattle.lafzimdo.specs.Asked.{Asked, found, refused}
+use Rattle.access.specs.Asked.{Asked, found, refused}
 
 abbrev pub shownWord : Asked ℕ → WordAnswer
 shownWord (found w) = word-answer.Ok w

@@ -4,13 +4,10 @@ use lib.ListN.{length}
 use Rattle.format.specs.Reading.{Prototype}
 use Rattle.reader.specs.Shown.{optionString}
 use Rattle.chunk.specs.declared.row.FunctionRow.{FunctionRow}
-use Rattle.chunk.specs.Row.{rowOf}
 use Rattle.lafzimdo.specs.declared.fields.FunctionFields.{FunctionFields}
 use Rattle.lafzimdo.specs.declared.fields.FieldsAnswer.{FieldsAnswer}
 use Rattle.lafzimdo.specs.declared.fields.FieldsAnswer.the-variants as fields
-use Rattle.lafzimdo.specs.declared.fields.RowAnswer.{RowAnswer}
-use Rattle.lafzimdo.specs.declared.fields.RowAnswer.the-variants as row
-use Rattle.lafzimdo.specs.Asked.{Asked, found, refused}
+use Rattle.access.specs.Asked.{Asked, found, refused}
 
 abbrev pub fieldsOf : Prototype → FunctionFields
 fieldsOf p = record {
@@ -38,11 +35,7 @@ abbrev pub shownFields : Asked Prototype → FieldsAnswer
 shownFields (found p) = fields.Ok (fieldsOf p)
 shownFields (refused q) = fields.Err q
 
--- ## The row, on which every call goes on
-abbrev pub shownRowAnswer : Asked Prototype → RowAnswer
-shownRowAnswer (found p) = row.Ok (rowOf p)
-shownRowAnswer (refused q) = row.Err q
-
+-- ## The same of a row
 abbrev pub fieldsShown : FunctionRow → FunctionFields
 fieldsShown r = record {
   depth = r .depth;

@@ -11,7 +11,7 @@ use Rattle.reader.specs.declared.string.OptionString.{OptionString}
 use Rattle.reader.specs.declared.string.OptionString.the-variants as string
 use Rattle.lafzimdo.specs.declared.local.LocalAnswer.{LocalAnswer}
 use Rattle.lafzimdo.specs.declared.local.LocalAnswer.the-variants as answer
-use Rattle.lafzimdo.specs.Asked.{Asked, found, refused}
+use Rattle.access.specs.Asked.{Asked, found, refused}
 
 -- `space` is how much is lent
 abbrev pub shownLocal : ℕ → Asked LocalVar → LocalAnswer

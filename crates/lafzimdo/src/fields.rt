@@ -1,12 +1,11 @@
 // A function's fields, by its number.
 ghost use mathlib.Core.Path.{_≡_};
 ghost use Rattle.format.specs.ReadChunk.{read};
-ghost use Rattle.lafzimdo.specs.Asked.{functionOf};
-ghost use Rattle.lafzimdo.specs.Fields.{shownRowAnswer, fieldsShown, shownFields};
+ghost use Rattle.access.specs.Asked.{functionOf};
+ghost use Rattle.lafzimdo.specs.Fields.{fieldsShown, shownFields};
+use access::row::RowAnswer;
+use access::row::function_row;
 use chunk::row::FunctionRow;
-use chunk::row::OptionRow;
-use decode::summary::DecodedResult;
-use decode::summary::decode_chunk_lua54;
 use format::limits::ResourceLimits;
 use format::refusal::Refusal;
 use reader::string::OptionString;
@@ -39,29 +38,6 @@ pub struct FunctionFields {
 pub enum FieldsAnswer {
     Ok(FunctionFields),
     Err(Refusal),
-}
-
-// A function as the walk finds it, or why there is none.
-pub enum RowAnswer {
-    Ok(FunctionRow),
-    Err(Refusal),
-}
-
-// Ruled out: main's row for every number, 23 before a refusal of the chunk.
-pub fn function_row(s: &[u8], limits: ResourceLimits, function: usize) -> RowAnswer
-    ensures { λ r. ⌜ r ≡ shownRowAnswer (functionOf function (read limits (now (s .entry)))) ⌝ }
-{
-    let decoded = decode_chunk_lua54(s, limits, function);
-    match decoded {
-        DecodedResult::Err(refusal) => RowAnswer::Err(refusal),
-        DecodedResult::Ok(chunk) => {
-            let found = chunk.row;
-            match found {
-                OptionRow::None => RowAnswer::Err(Refusal::NoFunction),
-                OptionRow::Some(row) => RowAnswer::Ok(row),
-            }
-        }
-    }
 }
 
 fn counts_of(row: FunctionRow) -> Counts

@@ -4,6 +4,5 @@ pub mod bytes;
 pub mod entry;
 pub mod fields;
 pub mod local;
-pub mod place;
 pub mod rows;
 pub mod summary;

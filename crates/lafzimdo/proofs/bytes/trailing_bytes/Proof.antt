@@ -1,10 +1,10 @@
--- `lafzimdo::bytes::trailing_bytes` meets its contract: the trailing bytes are the rest of the chunk (`Whole.antt`). Assumes nothing.
+-- `lafzimdo::bytes::trailing_bytes` meets its contract: the trailing bytes are the rest of the chunk (`SummaryLaws.antt`). Assumes nothing.
 use mathlib.Core.Path.{refl, sym, _∙_}
 use borrow.Author.Needs.{needs}
 use lib.ListN.{length, drop-of-length-le}
 use native.Mathlib.Omega.{arith}
 use Rattle.format.specs.ReadChunk.{read}
-use Rattle.lafzimdo.proofs.Whole.{trailing-refused, trailing-shown}
+use Rattle.lafzimdo.proofs.SummaryLaws.{trailing-refused, trailing-shown}
 use Rattle.lafzimdo.proofs.bytes.trailing_bytes.Statement.{statement}
 use Rattle.lafzimdo.proofs.bytes.trailing_bytes.Tie as tie
 

@@ -1,4 +1,4 @@
--- `lafzimdo::entry::delta` meets its contract: the entry is read where its list stands (`Found.antt`). Assumes nothing.
+-- `lafzimdo::entry::delta` meets its contract: the entry is read where its list stands (`Found.antt` of access). Assumes nothing.
 use mathlib.Core.Path.{refl, sym, _∙_, ap}
 use borrow.Author.Needs.{needs}
 use lib.ListN.{length}
@@ -6,9 +6,9 @@ use Rattle.format.specs.ReadChunk.{read}
 use Rattle.reader.specs.Shown.{shownU8}
 use Rattle.entries.specs.Nth.{byteAt}
 use Rattle.entries.proofs.Items.{run-nth}
-use Rattle.lafzimdo.specs.declared.place.EntryKind.the-variants as kind
+use Rattle.access.specs.declared.place.EntryKind.the-variants as kind
 use Rattle.lafzimdo.specs.Entries.{deltaOf, shownDelta}
-use Rattle.lafzimdo.proofs.Found.{entry-refused, entry-shown}
+use Rattle.access.proofs.Found.{entry-refused, entry-shown}
 use Rattle.lafzimdo.proofs.entry.delta.Statement.{statement}
 use Rattle.lafzimdo.proofs.entry.delta.Tie as tie
 

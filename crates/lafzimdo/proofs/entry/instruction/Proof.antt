@@ -1,4 +1,4 @@
--- `lafzimdo::entry::instruction` meets its contract: the entry is read where its list stands (`Found.antt`). Assumes nothing.
+-- `lafzimdo::entry::instruction` meets its contract: the entry is read where its list stands (`Found.antt` of access). Assumes nothing.
 use mathlib.Core.Path.{refl, sym, _∙_, ap}
 use borrow.Author.Needs.{needs}
 use lib.ListN.{length}
@@ -7,9 +7,9 @@ use Rattle.format.specs.ReadChunk.{read}
 use Rattle.reader.specs.Shown.{shownU32}
 use Rattle.entries.specs.Nth.{entryAt}
 use Rattle.entries.proofs.Items.{many-nth}
-use Rattle.lafzimdo.specs.declared.place.EntryKind.the-variants as kind
+use Rattle.access.specs.declared.place.EntryKind.the-variants as kind
 use Rattle.lafzimdo.specs.Entries.{wordOf, shownWord}
-use Rattle.lafzimdo.proofs.Found.{entry-refused, entry-shown}
+use Rattle.access.proofs.Found.{entry-refused, entry-shown}
 use Rattle.lafzimdo.proofs.entry.instruction.Statement.{statement}
 use Rattle.lafzimdo.proofs.entry.instruction.Tie as tie
 

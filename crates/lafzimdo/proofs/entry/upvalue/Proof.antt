@@ -1,4 +1,4 @@
--- `lafzimdo::entry::upvalue` meets its contract: the entry is read where its list stands (`Found.antt`). Assumes nothing.
+-- `lafzimdo::entry::upvalue` meets its contract: the entry is read where its list stands (`Found.antt` of access). Assumes nothing.
 use mathlib.Core.Path.{refl, sym, _∙_, ap}
 use borrow.Author.Needs.{needs}
 use lib.ListN.{length}
@@ -6,9 +6,9 @@ use Rattle.format.specs.ReadChunk.{read, upvalue}
 use Rattle.entries.specs.Shown as entries
 use Rattle.entries.specs.Nth.{entryAt}
 use Rattle.entries.proofs.Items.{many-nth}
-use Rattle.lafzimdo.specs.declared.place.EntryKind.the-variants as kind
+use Rattle.access.specs.declared.place.EntryKind.the-variants as kind
 use Rattle.lafzimdo.specs.Entries.{upvalueOf, shownUpvalue}
-use Rattle.lafzimdo.proofs.Found.{entry-refused, entry-shown}
+use Rattle.access.proofs.Found.{entry-refused, entry-shown}
 use Rattle.lafzimdo.proofs.entry.upvalue.Statement.{statement}
 use Rattle.lafzimdo.proofs.entry.upvalue.Tie as tie
 

@@ -1,9 +1,9 @@
--- `lafzimdo::fields::function_fields` meets its contract: by the row (`RowLaws.antt`). Assumes nothing.
+-- `lafzimdo::fields::function_fields` meets its contract: by the row (`FieldLaws.antt`). Assumes nothing.
 use mathlib.Core.Path.{sym, _∙_}
 use borrow.Author.Needs.{needs}
 use Rattle.format.specs.ReadChunk.{read}
-use Rattle.lafzimdo.specs.Asked.{functionOf}
-use Rattle.lafzimdo.proofs.RowLaws.{fields-refused, fields-shown}
+use Rattle.access.specs.Asked.{functionOf}
+use Rattle.lafzimdo.proofs.FieldLaws.{fields-refused, fields-shown}
 use Rattle.lafzimdo.proofs.fields.function_fields.Statement.{statement}
 use Rattle.lafzimdo.proofs.fields.function_fields.Tie as tie
 

@@ -1,8 +1,8 @@
--- `lafzimdo::summary::chunk_summary` meets its contract: the summary of what was read (`Whole.antt`). Assumes nothing.
+-- `lafzimdo::summary::chunk_summary` meets its contract: the summary of what was read (`SummaryLaws.antt`). Assumes nothing.
 use mathlib.Core.Path.{sym, _∙_}
 use borrow.Author.Needs.{needs}
 use Rattle.format.specs.ReadChunk.{read}
-use Rattle.lafzimdo.proofs.Whole.{summary-refused, summary-shown}
+use Rattle.lafzimdo.proofs.SummaryLaws.{summary-refused, summary-shown}
 use Rattle.lafzimdo.proofs.summary.chunk_summary.Statement.{statement}
 use Rattle.lafzimdo.proofs.summary.chunk_summary.Tie as tie
 

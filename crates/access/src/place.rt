@@ -1,10 +1,10 @@
 // Where a function's list stands, if it has an entry of the number asked for.
 ghost use mathlib.Core.Path.{_≡_};
 ghost use Rattle.format.specs.ReadChunk.{read};
-ghost use Rattle.lafzimdo.specs.Asked.{functionOf};
-ghost use Rattle.lafzimdo.specs.Places.{listOf, shownPlace};
-use crate::fields::RowAnswer;
-use crate::fields::function_row;
+ghost use Rattle.access.specs.Asked.{functionOf};
+ghost use Rattle.access.specs.Places.{listOf, shownPlace};
+use crate::row::RowAnswer;
+use crate::row::function_row;
 use chunk::row::FunctionRow;
 use chunk::row::ListAt;
 use format::limits::ResourceLimits;

@@ -1,10 +1,10 @@
--- `lafzimdo::fields::function_row` meets its contract: by the row that the walk brought back (`RowLaws.antt`). Assumes nothing.
+-- `access::row::function_row` meets its contract: by the row that the walk brought back (`RowLaws.antt`). Assumes nothing.
 use mathlib.Core.Path.{sym, _∙_}
 use borrow.Author.Needs.{needs}
 use Rattle.format.specs.ReadChunk.{read}
-use Rattle.lafzimdo.proofs.RowLaws.{row-refused, row-none, row-some}
-use Rattle.lafzimdo.proofs.fields.function_row.Statement.{statement}
-use Rattle.lafzimdo.proofs.fields.function_row.Tie as tie
+use Rattle.access.proofs.RowLaws.{row-refused, row-none, row-some}
+use Rattle.access.proofs.row.function_row.Statement.{statement}
+use Rattle.access.proofs.row.function_row.Tie as tie
 
 pub function-row-spec : {M : Type 1} → statement M
 function-row-spec =

@@ -22,14 +22,12 @@ use Rattle.decode.specs.declared.summary.Decoded.{Decoded}
 use Rattle.decode.specs.declared.summary.DecodedResult.the-variants as decoded
 use Rattle.decode.specs.Decoded.{shownOutcome}
 use Rattle.entries.specs.Nth.{nth}
-use Rattle.lafzimdo.specs.declared.fields.RowAnswer.{RowAnswer}
-use Rattle.lafzimdo.specs.declared.fields.RowAnswer.the-variants as row
-use Rattle.lafzimdo.specs.declared.fields.FieldsAnswer.the-variants as fields
-use Rattle.lafzimdo.specs.declared.place.EntryKind.{EntryKind}
-use Rattle.lafzimdo.specs.declared.place.PlaceAnswer.the-variants as place
-use Rattle.lafzimdo.specs.Asked.{Asked, found, refused, orRefuse, functionOf}
-use Rattle.lafzimdo.specs.Fields.{fieldsShown, shownFields, shownRowAnswer}
-use Rattle.lafzimdo.specs.Places.{listOf, placeIn, shownPlace}
+use Rattle.access.specs.declared.row.RowAnswer.{RowAnswer}
+use Rattle.access.specs.declared.row.RowAnswer.the-variants as row
+use Rattle.access.specs.declared.place.EntryKind.{EntryKind}
+use Rattle.access.specs.declared.place.PlaceAnswer.the-variants as place
+use Rattle.access.specs.Asked.{Asked, found, refused, orRefuse, functionOf}
+use Rattle.access.specs.Places.{shownRowAnswer, listOf, placeIn, shownPlace}
 
 -- a function by its number is the item of that number
 lookup-from : (n k : ℕ) (ps : List Prototype) → lookup (k + n) k ps ≡ nth n ps
@@ -67,15 +65,6 @@ module _ (f : ℕ) where
 
   pub row-some : (o : Outcome) (d : Decoded) → decoded.Ok d ≡ shownOutcome f o → (x : FunctionRow) → d .row ≡ option.Some x → row.Ok x ≡ shownRowAnswer (functionOf f o)
   row-some o d e x is = sym (ap rowOr is) ∙ by-row o d e
-
--- ## The fields
-pub fields-refused : (a : Asked Prototype) (q : Refusal) → row.Err q ≡ shownRowAnswer a → fields.Err q ≡ shownFields a
-fields-refused (found p) q e = absurd (let z : _≡_ {A = ℕ} 0 1 = cc in omega arith)
-fields-refused (refused p) q e = cc
-
-pub fields-shown : (a : Asked Prototype) (x : FunctionRow) → row.Ok x ≡ shownRowAnswer a → fields.Ok (fieldsShown x) ≡ shownFields a
-fields-shown (found p) x e = let same : x ≡ rowOf p = cc in ap (λ x. fields.Ok (fieldsShown x)) same
-fields-shown (refused p) x e = absurd (let z : _≡_ {A = ℕ} 0 1 = cc in omega arith)
 
 -- ## The lists
 module _ (k : EntryKind) (i : ℕ) where

@@ -1,4 +1,4 @@
--- Where a list with an entry of a number stands.
+-- A function's row, and where a list with an entry of a number stands.
 use Prim.Native.Nat.{ℕ}
 use lib.Dec.{ltb}
 use Rattle.format.specs.Pick.{pick}
@@ -8,11 +8,18 @@ use Rattle.reader.specs.Shown.{cursorAt}
 use Rattle.chunk.specs.declared.row.FunctionRow.{FunctionRow}
 use Rattle.chunk.specs.declared.row.ListAt.{ListAt}
 use Rattle.chunk.specs.Row.{rowOf}
-use Rattle.lafzimdo.specs.declared.place.EntryKind.{EntryKind}
-use Rattle.lafzimdo.specs.declared.place.EntryKind.the-variants as kind
-use Rattle.lafzimdo.specs.declared.place.PlaceAnswer.{PlaceAnswer}
-use Rattle.lafzimdo.specs.declared.place.PlaceAnswer.the-variants as answer
-use Rattle.lafzimdo.specs.Asked.{Asked, found, refused}
+use Rattle.access.specs.declared.place.EntryKind.{EntryKind}
+use Rattle.access.specs.declared.place.EntryKind.the-variants as kind
+use Rattle.access.specs.declared.place.PlaceAnswer.{PlaceAnswer}
+use Rattle.access.specs.declared.place.PlaceAnswer.the-variants as answer
+use Rattle.access.specs.declared.row.RowAnswer.{RowAnswer}
+use Rattle.access.specs.declared.row.RowAnswer.the-variants as row
+use Rattle.access.specs.Asked.{Asked, found, refused}
+
+-- of a function its row
+abbrev pub shownRowAnswer : Asked Prototype → RowAnswer
+shownRowAnswer (found p) = row.Ok (rowOf p)
+shownRowAnswer (refused q) = row.Err q
 
 abbrev pub listOf : EntryKind → FunctionRow → ListAt
 listOf kind.Instruction r = r .lists .instructions

@@ -7,7 +7,6 @@ use Prim.Native.Nat.{ℕ, zero, suc}
 use native.Mathlib.Omega.{arith}
 use lib.ListN.{length, drop}
 use Rattle.format.specs.declared.limits.ResourceLimits.{ResourceLimits}
-use Rattle.format.specs.declared.refusal.Refusal.{Refusal}
 use Rattle.format.specs.Form.{Bytes}
 use Rattle.format.specs.Reading.{Reading, Prototype}
 use Rattle.format.specs.GrammarChunk.{Loaded, reading}
@@ -18,12 +17,7 @@ use Rattle.format.proofs.ExactChunk.{exact-main}
 use Rattle.format.proofs.Left.{left}
 use Rattle.format.proofs.Located.{Located, all-located}
 use Rattle.format.proofs.ReadChunkLaws.{read-sound, main-complete}
-use Rattle.decode.specs.declared.summary.Decoded.{Decoded}
-use Rattle.decode.specs.declared.summary.DecodedResult.the-variants as decoded
-use Rattle.decode.specs.Decoded.{shownReading, shownOutcome}
 use Rattle.entries.specs.Nth.{nth}
-use Rattle.lafzimdo.specs.declared.summary.SummaryAnswer.the-variants as summary
-use Rattle.lafzimdo.specs.Summaries.{shownSummary, trailingOf}
 
 -- of items that all have a property, each has it
 pub all-nth : {A : Type 0} (P : A → Type 0) (xs : List A) → All P xs → (i : ℕ) {x : A} → nth i xs ≡ some x → P x
@@ -48,21 +42,3 @@ module _ (L : ResourceLimits) (s : Bytes) (r : Reading) where
 
   pub whole : read L s ≡ shown r → Whole
   whole e = from (main L 0 s) refl (main-complete L s r (read-sound L s r e))
-
--- ## The summary and the trailing bytes, in the code's terms
-module _ (wanted : ℕ) where
-  pub summary-refused : (o : Outcome) (q : Refusal) → decoded.Err q ≡ shownOutcome wanted o → summary.Err q ≡ shownSummary o
-  summary-refused (shown r) q e = absurd (let z : _≡_ {A = ℕ} 0 1 = cc in omega arith)
-  summary-refused (refusal p) q e = cc
-
-  pub summary-shown : (o : Outcome) (d : Decoded) → decoded.Ok d ≡ shownOutcome wanted o → summary.Ok (d .summary) ≡ shownSummary o
-  summary-shown (shown r) d e = let same : d ≡ shownReading wanted r = cc in ap (λ d. summary.Ok (d .summary)) same
-  summary-shown (refusal p) d e = absurd (let z : _≡_ {A = ℕ} 0 1 = cc in omega arith)
-
-  pub trailing-refused : (o : Outcome) (q : Refusal) → decoded.Err q ≡ shownOutcome wanted o → trailingOf o ≡ []
-  trailing-refused (shown r) q e = absurd (let z : _≡_ {A = ℕ} 0 1 = cc in omega arith)
-  trailing-refused (refusal p) q e = refl
-
-  pub trailing-shown : (L : ResourceLimits) (s : Bytes) (o : Outcome) → read L s ≡ o → (d : Decoded) → decoded.Ok d ≡ shownOutcome wanted o → drop (d .summary .«trailing_at») s ≡ trailingOf o
-  trailing-shown L s (shown r) p d e = let same : d ≡ shownReading wanted r = cc in ap (λ d. drop (d .summary .«trailing_at») s) same ∙ sym (whole L s r p .trailing)
-  trailing-shown L s (refusal q) p d e = absurd (let z : _≡_ {A = ℕ} 0 1 = cc in omega arith)

@@ -1,11 +1,11 @@
--- `lafzimdo::place::entry_list` meets its contract: by the row (`RowLaws.antt`). Assumes nothing.
+-- `access::place::entry_list` meets its contract: by the row (`RowLaws.antt`). Assumes nothing.
 use mathlib.Core.Path.{sym, _∙_}
 use borrow.Author.Needs.{needs}
 use Rattle.format.specs.ReadChunk.{read}
-use Rattle.lafzimdo.specs.Asked.{functionOf}
-use Rattle.lafzimdo.proofs.RowLaws.{place-refused, place-there, place-beyond}
-use Rattle.lafzimdo.proofs.place.entry_list.Statement.{statement}
-use Rattle.lafzimdo.proofs.place.entry_list.Tie as tie
+use Rattle.access.specs.Asked.{functionOf}
+use Rattle.access.proofs.RowLaws.{place-refused, place-there, place-beyond}
+use Rattle.access.proofs.place.entry_list.Statement.{statement}
+use Rattle.access.proofs.place.entry_list.Tie as tie
 
 pub entry-list-spec : {M : Type 1} → statement M
 entry-list-spec =

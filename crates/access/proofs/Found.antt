@@ -22,12 +22,12 @@ use Rattle.reader.specs.declared.cursor.Cursor.{Cursor}
 use Rattle.reader.specs.Shown.{cursorAt}
 use Rattle.chunk.specs.Row.{rowOf, listAt}
 use Rattle.entries.specs.Nth.{nth}
-use Rattle.lafzimdo.specs.declared.place.EntryKind.{EntryKind}
-use Rattle.lafzimdo.specs.declared.place.PlaceAnswer.{PlaceAnswer}
-use Rattle.lafzimdo.specs.declared.place.PlaceAnswer.the-variants as place
-use Rattle.lafzimdo.specs.Asked.{Asked, found, refused, orRefuse, functionOf, entryIn, entryOf}
-use Rattle.lafzimdo.specs.Places.{listOf, placeIn, shownPlace}
-use Rattle.lafzimdo.proofs.Whole.{all-nth, whole}
+use Rattle.access.specs.declared.place.EntryKind.{EntryKind}
+use Rattle.access.specs.declared.place.PlaceAnswer.{PlaceAnswer}
+use Rattle.access.specs.declared.place.PlaceAnswer.the-variants as place
+use Rattle.access.specs.Asked.{Asked, found, refused, orRefuse, functionOf, entryIn, entryOf}
+use Rattle.access.specs.Places.{listOf, placeIn, shownPlace}
+use Rattle.access.proofs.Whole.{all-nth, whole}
 
 -- ## Items by number
 nth-beyond : {A : Type 0} (i : ℕ) (xs : List A) → length xs ≤ i → nth i xs ≡ none

@@ -1,7 +1,7 @@
--- `lafzimdo::place::list_of` meets its contract: by the kind. Assumes nothing.
+-- `access::place::list_of` meets its contract: by the kind. Assumes nothing.
 use borrow.Author.Needs.{needs}
-use Rattle.lafzimdo.proofs.place.list_of.Statement.{statement}
-use Rattle.lafzimdo.proofs.place.list_of.Tie as tie
+use Rattle.access.proofs.place.list_of.Statement.{statement}
+use Rattle.access.proofs.place.list_of.Tie as tie
 
 pub list-of-spec : {M : Type 1} → statement M
 list-of-spec =

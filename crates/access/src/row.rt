@@ -1,0 +1,34 @@
+// A function by its number, as the walk finds it.
+ghost use mathlib.Core.Path.{_≡_};
+ghost use Rattle.format.specs.ReadChunk.{read};
+ghost use Rattle.access.specs.Asked.{functionOf};
+ghost use Rattle.access.specs.Places.{shownRowAnswer};
+use chunk::row::FunctionRow;
+use chunk::row::OptionRow;
+use decode::summary::DecodedResult;
+use decode::summary::decode_chunk_lua54;
+use format::limits::ResourceLimits;
+use format::refusal::Refusal;
+
+// The function's fields, and count and place of each of its lists; or the refusal.
+pub enum RowAnswer {
+    Ok(FunctionRow),
+    Err(Refusal),
+}
+
+// Ruled out: main's row for every number, 23 before a refusal of the chunk.
+pub fn function_row(s: &[u8], limits: ResourceLimits, function: usize) -> RowAnswer
+    ensures { λ r. ⌜ r ≡ shownRowAnswer (functionOf function (read limits (now (s .entry)))) ⌝ }
+{
+    let decoded = decode_chunk_lua54(s, limits, function);
+    match decoded {
+        DecodedResult::Err(refusal) => RowAnswer::Err(refusal),
+        DecodedResult::Ok(chunk) => {
+            let found = chunk.row;
+            match found {
+                OptionRow::None => RowAnswer::Err(Refusal::NoFunction),
+                OptionRow::Some(row) => RowAnswer::Ok(row),
+            }
+        }
+    }
+}
