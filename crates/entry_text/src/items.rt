@@ -2,6 +2,7 @@
 ghost use Prim.Native.Nat.{_<_};
 use crate::Name;
 use crate::strings;
+use access::place::EntryKind as Kind;
 use format::limits::ResourceLimits;
 use lafzimdo::entry;
 use lafzimdo::entry::AnchorAnswer;
@@ -13,7 +14,6 @@ use lafzimdo::entry::WordAnswer;
 use lafzimdo::fields::Counts;
 use lafzimdo::local::LocalAnswer;
 use lafzimdo::local::local;
-use lafzimdo::place::EntryKind as Kind;
 use lists::constant::ConstantValue;
 use text::print;
 use text::print::Out;
