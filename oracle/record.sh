@@ -13,8 +13,8 @@ generators="words.py chunks.py"
 
 # What `vectors` does not answer so far, requests and lines of answers by their first word. They are left out of the kept list: requests are not asked,
 # lines are dropped from the judge's answers. Nothing else is changed. Each goes from here once `vectors` answers it.
-later_requests="lines"
-later_lines="copy|verdict|findings|finding|line"
+later_requests=
+later_lines="copy|verdict|findings|finding"
 
 if [ "${1:-}" = --whole ]; then
     later_requests= later_lines=

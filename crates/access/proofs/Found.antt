@@ -30,22 +30,22 @@ use Rattle.access.specs.Places.{listOf, placeIn, shownPlace}
 use Rattle.access.proofs.Whole.{all-nth, whole}
 
 -- ## Items by number
-nth-beyond : {A : Type 0} (i : ℕ) (xs : List A) → length xs ≤ i → nth i xs ≡ none
+pub nth-beyond : {A : Type 0} (i : ℕ) (xs : List A) → length xs ≤ i → nth i xs ≡ none
 nth-beyond i [] h = refl
 nth-beyond zero (x ∷ xs) h = absurd (omega arith)
 nth-beyond (suc i) (x ∷ xs) h = nth-beyond i xs (omega arith)
 
-record Item {A : Type 0} (i : ℕ) (xs : List A) : Type 0 where
-  item : A
-  is : nth i xs ≡ some item
+pub record Item {A : Type 0} (i : ℕ) (xs : List A) : Type 0 where
+  pub item : A
+  pub is : nth i xs ≡ some item
 
-nth-there : {A : Type 0} (i : ℕ) (xs : List A) → i < length xs → Item i xs
+pub nth-there : {A : Type 0} (i : ℕ) (xs : List A) → i < length xs → Item i xs
 nth-there i [] h = absurd (omega arith)
 nth-there zero (x ∷ xs) h = record { item = x; is = refl }
 nth-there (suc i) (x ∷ xs) h = let rest = nth-there i xs (omega arith) in record { item = rest .item; is = rest .is }
 
 -- ## A function of the reading
-found-located : (L : ResourceLimits) (s : Bytes) (f : ℕ) (o : Outcome) → read L s ≡ o → {p : Prototype} → functionOf f o ≡ found p → Located L s p
+pub found-located : (L : ResourceLimits) (s : Bytes) (f : ℕ) (o : Outcome) → read L s ≡ o → {p : Prototype} → functionOf f o ≡ found p → Located L s p
 found-located L s f (shown r) e {p} is = by (nth f (r .functions)) refl is
   where
     by : (o : Option Prototype) → nth f (r .functions) ≡ o → orRefuse NoFunction o ≡ found p → Located L s p

@@ -14,6 +14,9 @@ use lafzimdo::summary::chunk_summary;
 use text::hex::Length;
 use text::print;
 use text::print::Out;
+use text::token;
+use text::token::NumberAt;
+use text::token::Token;
 
 // `L1 .. L9 HEX`. The chunk's bytes go into `space`, the index into `rows`, a local's name into `name`.
 pub fn chunk(
@@ -61,7 +64,7 @@ fn answered(
     }
 }
 
-// The lines of the functions, and those of the index.
+// The lines of the functions, those of the index, and the lines that instructions stand on.
 fn functions(
     out: &mut Out,
     used: usize,
@@ -79,7 +82,53 @@ fn functions(
         IndexAnswer::Ok(count) => {
             let n = row_lines::within(count);
             let used = row_lines::functions(out, used, s, limits, rows, n, name);
-            row_lines::lines(out, used, rows, n)
+            let used = row_lines::lines(out, used, rows, n);
+            line_text::functions(out, used, s, limits, n)
         }
     }
+}
+
+// `L1 .. L9 HEX FN PC ..`, what a request has behind `lines`: lookups in one function.
+pub fn lines(line: &[u8], out: &mut Out, used: usize, space: &mut [u8]) -> usize
+    requires { ⌜ used < 65536 ⌝ }
+    ensures { λ r. ⌜ r < 65536 ⌝ }
+{
+    let asked = request::nine(line);
+    let Limits::Values(limits, at) = asked else {
+        return print::bad_request(out, used);
+    };
+    let Token::Word(_, to) = token::next(line, at) else {
+        return print::bad_request(out, used);
+    };
+    if line.len() <= to {
+        return print::bad_request(out, used);
+    }
+    let read = request::chunk(&line[..to], at, space);
+    let Length::Value(n) = read else {
+        return print::bad_request(out, used);
+    };
+    let used = lookups(line, to + 1, out, used, &space[..n], limits);
+    print::text(out, used, b"end\n")
+}
+
+// `FN PC ..`, which begins at `at`.
+fn lookups(
+    line: &[u8],
+    at: usize,
+    out: &mut Out,
+    used: usize,
+    s: &[u8],
+    limits: ResourceLimits,
+) -> usize
+    requires { ⌜ used < 65536 ⌝ }
+    ensures { λ r. ⌜ r < 65536 ⌝ }
+{
+    let NumberAt::Value(function, next) = token::unsigned(line, at, u64::MAX) else {
+        return print::text(out, used, b"bad request\n");
+    };
+    let spelt = line_text::numbers(line, next);
+    if spelt {
+        return line_text::lookups(out, used, s, limits, function as usize, line, next);
+    }
+    print::text(out, used, b"bad request\n")
 }

@@ -3,31 +3,18 @@ ghost use mathlib.Core.Path.{_≡_};
 ghost use lib.ListN.{take, drop};
 ghost use Rattle.format.specs.ReadChunk.{read};
 ghost use Rattle.lafzimdo.specs.Summaries.{trailingOf};
+use access::bytes::bytes_at;
+use access::bytes::bytes_from;
 use decode::summary::DecodedResult;
 use decode::summary::decode_chunk_lua54;
 use format::limits::ResourceLimits;
-
-// The part of the slice from a place on.
-fn from(s: &[u8], place: usize) -> &[u8]
-    ensures { λ r. ⌜ now r ≡ drop place (now (s .entry)) ⌝ }
-{
-    let end = s.len();
-    if place <= end {
-        return &s[place..end];
-    }
-    &s[end..end]
-}
 
 // The bytes of a string by its place and length. Where the chunk does not reach so far they are those that are there: 01 leaves that answer free.
 // Ruled out: the string's size among its bytes, one byte too few.
 pub fn string_bytes(s: &[u8], place: usize, len: usize) -> &[u8]
     ensures { λ r. ⌜ now r ≡ take len (drop place (now (s .entry))) ⌝ }
 {
-    let rest = from(s, place);
-    if len <= rest.len() {
-        return &rest[0..len];
-    }
-    rest
+    bytes_at(s, place, len)
 }
 
 // The bytes behind main. Of a chunk that is refused there are none: 01 leaves that answer free.
@@ -37,10 +24,10 @@ pub fn trailing_bytes(s: &[u8], limits: ResourceLimits) -> &[u8]
 {
     let decoded = decode_chunk_lua54(s, limits, 0);
     match decoded {
-        DecodedResult::Err(_) => from(s, s.len()),
+        DecodedResult::Err(_) => bytes_from(s, s.len()),
         DecodedResult::Ok(chunk) => {
             let summary = chunk.summary;
-            from(s, summary.trailing_at)
+            bytes_from(s, summary.trailing_at)
         }
     }
 }

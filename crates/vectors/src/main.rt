@@ -45,6 +45,11 @@ fn answer_line(
     if token::begins(line, b"enc ") {
         return answer::enc(line, 4, out, used);
     }
+    if line.len() > 6 {
+        if token::begins(line, b"lines ") {
+            return reply::lines(&line[6..], out, used, space);
+        }
+    }
     reply::chunk(line, out, used, space, rows, name)
 }
 

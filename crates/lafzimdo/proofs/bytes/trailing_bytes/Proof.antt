@@ -15,8 +15,8 @@ trailing-bytes-spec =
     (λ c κs. search needs) (λ c. search needs) (λ c κs. search needs) (λ c. search needs) (λ c κs. search needs)
     (λ c.
     let a = c .before .before .before .before .before .args in
-    c .from .ensures ∙ drop-of-length-le (a .s .now) {i = length (a .s .now)} (omega arith)
+    c .bytes-from .ensures ∙ drop-of-length-le (a .s .now) {i = length (a .s .now)} (omega arith)
     ∙ sym (trailing-refused 0 (read (a .limits) (a .s .now)) _ (sym (c .before .enum-told .given .1) ∙ c .before .before .before .decode-chunk-lua54 .ensures)))
     (λ c.
     let a = c .before .before .before .before .before .before .before .args in
-    c .from2 .ensures ∙ trailing-shown 0 (a .limits) (a .s .now) (read (a .limits) (a .s .now)) refl _ (sym (c .before .before .before .decoded .given .1) ∙ c .before .before .before .before .before .decode-chunk-lua54 .ensures)))
+    c .bytes-from2 .ensures ∙ trailing-shown 0 (a .limits) (a .s .now) (read (a .limits) (a .s .now)) refl _ (sym (c .before .before .before .decoded .given .1) ∙ c .before .before .before .before .before .decode-chunk-lua54 .ensures)))

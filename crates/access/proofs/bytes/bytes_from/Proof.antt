@@ -1,15 +1,15 @@
--- `lafzimdo::bytes::from` meets its contract: from a place on, or nothing. Assumes nothing.
+-- `access::bytes::bytes_from` meets its contract: from a place on, or nothing. Assumes nothing.
 use mathlib.Core.Path.{_≡_, sym}
 use Prim.Native.Nat.{_-_}
 use native.Mathlib.Omega.{arith}
 use borrow.Author.Needs.{needs}
 use lib.ListN.{length, take, drop, length-drop, drop-of-length-le}
 use lib.Seq.{take-all}
-use Rattle.lafzimdo.proofs.bytes.from.Statement.{statement}
-use Rattle.lafzimdo.proofs.bytes.from.Tie as tie
+use Rattle.access.proofs.bytes.bytes_from.Statement.{statement}
+use Rattle.access.proofs.bytes.bytes_from.Tie as tie
 
-pub from-spec : {M : Type 1} → statement M
-from-spec =
+pub bytes-from-spec : {M : Type 1} → statement M
+bytes-from-spec =
     tie.close
     (tie.spec
     (λ c. search needs) (λ c. search needs)

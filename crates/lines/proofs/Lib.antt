@@ -1,0 +1,10 @@
+pub mod Cases
+pub mod Fast
+pub mod Turns
+pub mod Tests
+pub mod Scans
+pub mod Range
+pub mod Sums
+pub mod Rules
+pub mod Rows
+pub mod Asked

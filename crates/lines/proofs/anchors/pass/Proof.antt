@@ -1,0 +1,11 @@
+-- `lines::anchors::pass` meets its contract: field by field. Assumes nothing.
+use borrow.Author.Needs.{needs}
+use Rattle.lines.proofs.anchors.pass.Statement.{statement}
+use Rattle.lines.proofs.anchors.pass.Tie as tie
+
+pub pass-spec : {M : Type 1} → statement M
+pass-spec =
+    tie.close
+    (tie.spec
+    (λ c κs. search needs) (λ c κs. search needs) (λ c κs. search needs) (λ c κs. search needs)
+    (λ c. rw (c .reset-by .ensures, c .before .taken .ensures, c .before .before .or-large .ensures, c .before .before .before .still-taking .ensures)))

@@ -1,0 +1,12 @@
+-- `lines::deltas::raise` meets its contract: by the test (`Sums.antt`). Assumes nothing.
+use Rattle.lines.proofs.Sums.{raised-up, natural, raised-same}
+use Rattle.lines.proofs.deltas.raise.Statement.{statement}
+use Rattle.lines.proofs.deltas.raise.Tie as tie
+
+pub raise-spec : {M : Type 1} → statement M
+raise-spec =
+    tie.close
+    (tie.spec
+    (λ c. raised-up (c .before .args .line) (c .before .fits .line) (c .if1 .taken))
+    (λ c. natural (c .before .args .line) (c .before .fits .line) (c .if1 .left))
+    (λ c. raised-same (c .before .args .line) (c .before .fits .line) (c .if1 .left)))

@@ -1,0 +1,12 @@
+-- `lines::line::numbered` meets its contract: by the test. Assumes nothing.
+use borrow.Author.Tests.{eq-eqb, ne-eqb}
+use Rattle.lines.proofs.Tests.{picked, other}
+use Rattle.lines.proofs.line.numbered.Statement.{statement}
+use Rattle.lines.proofs.line.numbered.Tie as tie
+
+pub numbered-spec : {M : Type 1} → statement M
+numbered-spec =
+    tie.close
+    (tie.spec
+    (λ c. let a = c .before .args in picked (a .anchors) 0 (eq-eqb (a .anchors) (a .instructions) (c .if1 .taken)))
+    (λ c. let a = c .before .args in other (a .anchors) 0 (ne-eqb (a .anchors) (a .instructions) (c .if1 .left))))

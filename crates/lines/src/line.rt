@@ -1,0 +1,86 @@
+// The line of an instruction.
+ghost use mathlib.Core.Path.{_≡_};
+ghost use Prim.Native.Nat.{_≤_};
+ghost use lib.ListN.{length};
+ghost use Rattle.format.specs.ReadChunk.{read};
+ghost use Rattle.access.specs.Asked.{functionOf};
+ghost use Rattle.lines.specs.Lines.{shownLine};
+ghost use Rattle.lines.specs.Scan.{numberedOf, anchorLine, shownRowLine};
+use crate::anchors::ScanResult;
+use crate::anchors::scan_anchors;
+use crate::deltas::line_from;
+use crate::deltas::up_to;
+use access::bytes::bytes_at;
+use access::row::RowAnswer;
+use access::row::function_row;
+use chunk::row::FunctionRow;
+use entries::debug::anchor_at;
+use format::limits::ResourceLimits;
+use format::refusal::Refusal;
+use lists::debug::AnchorResult;
+use reader::cursor::Cursor;
+
+pub enum LineAnswer {
+    Ok(usize),
+    Err(Refusal),
+}
+
+// How many instructions have an anchor each: all, if there are as many anchors, else none.
+fn numbered(anchors: usize, instructions: usize) -> usize
+    ensures { λ r. ⌜ r ≡ numberedOf anchors instructions ⌝ }
+{
+    if anchors == instructions {
+        return anchors;
+    }
+    0
+}
+
+fn anchor_line(read: AnchorResult) -> LineAnswer
+    ensures { λ r. ⌜ r ≡ anchorLine read ⌝ }
+{
+    match read {
+        AnchorResult::Err(refusal) => LineAnswer::Err(refusal),
+        AnchorResult::Ok { value, next: _ } => LineAnswer::Ok(value.line),
+    }
+}
+
+// Of a function's row. Rule 1 gives what rule 4 gives, so it has no test of its own.
+fn line_in_row(s: &[u8], row: FunctionRow, pc: usize) -> LineAnswer
+    requires { ⌜ length (now s) ≤ 16777216 ⌝ }
+    ensures { λ r. ⌜ r ≡ shownRowLine row pc (now (s .entry)) ⌝ }
+{
+    let lists = row.lists;
+    let lines = row.lines;
+    let instructions = lists.instructions;
+    let line_info = lists.line_info;
+    let anchors = lists.abs_line_info;
+    let first = Cursor { at: anchors.place };
+    let deltas = up_to(bytes_at(s, line_info.place, line_info.count), pc);
+    let scanned = scan_anchors(s, first, anchors.count, deltas, pc, lines.line_defined);
+    match scanned {
+        ScanResult::Err(refusal) => LineAnswer::Err(refusal),
+        ScanResult::Ok(scan) => {
+            if scan.large {
+                return LineAnswer::Err(Refusal::LineTooLarge);
+            }
+            if pc < numbered(anchors.count, instructions.count) {
+                return anchor_line(anchor_at(s, first, pc));
+            }
+            if deltas.len() == 0 {
+                return LineAnswer::Ok(0);
+            }
+            LineAnswer::Ok(line_from(deltas, scan))
+        }
+    }
+}
+
+// The Rust's `Prototype::get_line_for_pc`. Ruled out: the delta at the anchor skipped, lines always 0.
+pub fn get_line_for_pc(s: &[u8], limits: ResourceLimits, function: usize, pc: usize) -> LineAnswer
+    ensures { λ r. ⌜ r ≡ shownLine pc (functionOf function (read limits (now (s .entry)))) ⌝ }
+{
+    let found = function_row(s, limits, function);
+    match found {
+        RowAnswer::Err(refusal) => LineAnswer::Err(refusal),
+        RowAnswer::Ok(row) => line_in_row(s, row, pc),
+    }
+}
