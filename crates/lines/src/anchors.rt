@@ -56,7 +56,7 @@ fn taken(taking: bool, anchor: AbsLineInfo, base: AbsLineInfo) -> AbsLineInfo
     base
 }
 
-// Behind the delta at the anchor, if that is -128 and not before the one so far: of two anchors at a pc the first stays.
+// Behind the delta at the anchor, if that is -128 and behind the one so far: of two anchors at a pc the first stays.
 fn reset_by(deltas: &[u8], reset: AbsLineInfo, anchor: AbsLineInfo) -> AbsLineInfo
     ensures { λ r. ⌜ r ≡ resetBy (now (deltas .entry)) reset anchor ⌝ }
 {
@@ -67,11 +67,12 @@ fn reset_by(deltas: &[u8], reset: AbsLineInfo, anchor: AbsLineInfo) -> AbsLineIn
     if deltas[pc] != 128 {
         return reset;
     }
-    if pc < reset.pc {
+    let behind = pc + 1;
+    if behind <= reset.pc {
         return reset;
     }
     AbsLineInfo {
-        pc: pc + 1,
+        pc: behind,
         line: anchor.line,
     }
 }
