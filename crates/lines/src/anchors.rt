@@ -5,12 +5,18 @@ ghost use lib.ListN.{drop};
 ghost use Rattle.format.specs.Pick.{pick};
 ghost use Rattle.format.specs.Read.{many};
 ghost use Rattle.format.specs.ReadChunk.{anchor};
-ghost use Rattle.lines.specs.Scan.{orLarge, stillTaking, resetBy, passed, startOf, shownScan};
+ghost use Rattle.lines.specs.Scan.{orLarge, stillTaking, resetBy, seekBy, passed, startOf, shownScan};
 use format::entry::AbsLineInfo;
 use format::refusal::Refusal;
 use lists::debug::AnchorResult;
 use lists::debug::read_anchor;
 use reader::cursor::Cursor;
+
+// The anchor that has the pc for its number: how many are before it, or its line.
+pub enum Sought {
+    Ahead(usize),
+    At(usize),
+}
 
 // What the anchors so far have settled. `base` and `reset` are each a line, and the pc from which deltas are added to it.
 pub struct Scan {
@@ -22,6 +28,7 @@ pub struct Scan {
     pub base: AbsLineInfo,
     // Just behind the last delta of -128 that has an anchor; pc 0 if none has.
     pub reset: AbsLineInfo,
+    pub sought: Sought,
 }
 
 pub enum ScanResult {
@@ -77,17 +84,33 @@ fn reset_by(deltas: &[u8], reset: AbsLineInfo, anchor: AbsLineInfo) -> AbsLineIn
     }
 }
 
+fn seek(sought: Sought, line: usize) -> Sought
+    ensures { λ r. ⌜ r ≡ seekBy sought line ⌝ }
+{
+    match sought {
+        Sought::At(_) => sought,
+        Sought::Ahead(before) => {
+            if before == 0 {
+                return Sought::At(line);
+            }
+            Sought::Ahead(before - 1)
+        }
+    }
+}
+
 fn pass(deltas: &[u8], pc: usize, scan: Scan, anchor: AbsLineInfo) -> Scan
     ensures { λ r. ⌜ r ≡ passed (now (deltas .entry)) pc scan anchor ⌝ }
 {
     let base = scan.base;
     let reset = scan.reset;
+    let sought = scan.sought;
     let taking = still_taking(scan.taking, pc, anchor);
     Scan {
         large: or_large(scan.large, anchor.line),
         taking: taking,
         base: taken(taking, anchor, base),
         reset: reset_by(deltas, reset, anchor),
+        sought: seek(sought, anchor.line),
     }
 }
 
@@ -100,7 +123,7 @@ pub fn scan_anchors(
     pc: usize,
     line_defined: usize,
 ) -> ScanResult
-    ensures { λ r. ⌜ r ≡ shownScan (now (deltas .entry)) pc (startOf «line_defined») (many n anchor (cursor .at) (drop (cursor .at) (now (s .entry)))) ⌝ }
+    ensures { λ r. ⌜ r ≡ shownScan (now (deltas .entry)) pc (startOf pc «line_defined») (many n anchor (cursor .at) (drop (cursor .at) (now (s .entry)))) ⌝ }
 {
     let mut scan = Scan {
         large: 4611686018427387904 <= line_defined,
@@ -110,6 +133,7 @@ pub fn scan_anchors(
             line: line_defined,
         },
         reset: AbsLineInfo { pc: 0, line: 0 },
+        sought: Sought::Ahead(pc),
     };
     let mut next = cursor;
     let mut left = n;
