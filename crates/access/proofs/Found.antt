@@ -30,16 +30,16 @@ use Rattle.access.specs.Places.{listOf, placeIn, shownPlace}
 use Rattle.access.proofs.Whole.{all-nth, whole}
 
 -- ## Items by number
-pub nth-beyond : {A : Type 0} (i : ℕ) (xs : List A) → length xs ≤ i → nth i xs ≡ none
+nth-beyond : {A : Type 0} (i : ℕ) (xs : List A) → length xs ≤ i → nth i xs ≡ none
 nth-beyond i [] h = refl
 nth-beyond zero (x ∷ xs) h = absurd (omega arith)
 nth-beyond (suc i) (x ∷ xs) h = nth-beyond i xs (omega arith)
 
-pub record Item {A : Type 0} (i : ℕ) (xs : List A) : Type 0 where
-  pub item : A
-  pub is : nth i xs ≡ some item
+record Item {A : Type 0} (i : ℕ) (xs : List A) : Type 0 where
+  item : A
+  is : nth i xs ≡ some item
 
-pub nth-there : {A : Type 0} (i : ℕ) (xs : List A) → i < length xs → Item i xs
+nth-there : {A : Type 0} (i : ℕ) (xs : List A) → i < length xs → Item i xs
 nth-there i [] h = absurd (omega arith)
 nth-there zero (x ∷ xs) h = record { item = x; is = refl }
 nth-there (suc i) (x ∷ xs) h = let rest = nth-there i xs (omega arith) in record { item = rest .item; is = rest .is }

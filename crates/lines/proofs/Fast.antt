@@ -31,7 +31,7 @@ elsewhere : (j : ℕ) (a : AbsLineInfo) (z : ℤ) → (a .pc ≡ j → ⊥) → 
 elsewhere j a z h = ap (λ b. pick b (pos (a .line)) z) (ne-eqb (a .pc) j h)
 
 -- ## The deltas from a pc on
-from-head : (k : ℕ) (ds : Bytes) {d : ℕ} {xs : Bytes} → drop k ds ≡ d ∷ xs → getD ds k 0 ≡ d
+pub from-head : (k : ℕ) (ds : Bytes) {d : ℕ} {xs : Bytes} → drop k ds ≡ d ∷ xs → getD ds k 0 ≡ d
 from-head zero [] e = absurd (let z : _≡_ {A = ℕ} 0 1 = cc in omega arith)
 from-head zero (y ∷ ds) e = cc
 from-head (suc k) [] e = absurd (let z : _≡_ {A = ℕ} 0 1 = cc in omega arith)
@@ -43,13 +43,13 @@ from-tail zero (y ∷ ds) e = cc
 from-tail (suc k) [] e = absurd (let z : _≡_ {A = ℕ} 0 1 = cc in omega arith)
 from-tail (suc k) (y ∷ ds) e = from-tail k ds e
 
-from-none : (k i : ℕ) (ds : Bytes) → drop k ds ≡ [] → k ≤ i → getD ds i 0 ≡ 0
+pub from-none : (k i : ℕ) (ds : Bytes) → drop k ds ≡ [] → k ≤ i → getD ds i 0 ≡ 0
 from-none k i [] e h = refl
 from-none zero i (y ∷ ds) e h = absurd (let z : _≡_ {A = ℕ} 0 1 = cc in omega arith)
 from-none (suc k) zero (y ∷ ds) e h = absurd (omega arith)
 from-none (suc k) (suc i) (y ∷ ds) e h = from-none k i ds e (omega arith)
 
-next-is : (k : ℕ) (ds : Bytes) {d : ℕ} {xs : Bytes} → drop k ds ≡ d ∷ xs → drop (k + 1) ds ≡ xs
+pub next-is : (k : ℕ) (ds : Bytes) {d : ℕ} {xs : Bytes} → drop k ds ≡ d ∷ xs → drop (k + 1) ds ≡ xs
 next-is k ds e = let one : k + 1 ≡ suc k = omega arith in ap (λ n. drop n ds) one ∙ from-tail k ds e
 
 module _ (ds : Bytes) where

@@ -8,3 +8,5 @@ pub mod Sums
 pub mod Rules
 pub mod Rows
 pub mod Asked
+pub mod Ldebug
+pub mod LdebugCases

@@ -1,22 +1,32 @@
 -- What the pass over the anchors gives of the base and of the lines.
 --     scanned-base     the base is that of rule 3
+--     scanned-sought   the line of the anchor whose number is the pc
 --     scanned-large    a line is too large exactly where refusal 25 says so
 --     scanned-small    else the base and the reset are below 2^62
 -- Assumes nothing.
-use mathlib.Core.Path.{_≡_, refl, _∙_, ap}
+use mathlib.Core.Path.{_≡_, refl, sym, _∙_, ap}
 use mathlib.Core.Bool.{Bool, true, false}
 use mathlib.Core.List.{List, [], _∷_}
-use Prim.Native.Nat.{ℕ, _^_, _≤_}
+use mathlib.Core.Option.{Option, none, some}
+use Prim.Native.Nat.{ℕ, zero, suc, _-_, _^_, _≤_}
 use native.Mathlib.Omega.{arith}
-use borrow.Author.Tests.{leb-false}
+use borrow.Author.Tests.{leb-false, ne-eqb}
 use lib.Dec.{eqb, leb, ltb}
 use lib.ListN.{getD}
 use Rattle.format.specs.Pick.{pick}
 use Rattle.format.specs.declared.entry.AbsLineInfo.{AbsLineInfo}
 use Rattle.format.specs.Form.{Bytes}
+use Rattle.entries.specs.Nth.{nth}
 use Rattle.lines.specs.declared.anchors.Scan.{Scan}
-use Rattle.lines.specs.Lines.{baseOf, large}
-use Rattle.lines.specs.Scan.{orLarge, stillTaking, passed, scanned, startOf, startIn}
+use Rattle.lines.specs.declared.anchors.Sought.{Sought}
+use Rattle.lines.specs.declared.anchors.Sought.the-variants.{Ahead, At}
+use Rattle.lines.specs.Lines.{baseOf, lineIf, large}
+use Rattle.lines.specs.Scan.{orLarge, stillTaking, seekBy, passed, scanned, startOf, startIn}
+use Rattle.lines.proofs.Tests.{other}
+
+abbrev pub lineSought : Sought → Option ℕ
+lineSought (At l) = some l
+lineSought (Ahead n) = none
 
 -- what holds of both holds of the one picked
 pub pick-both : {A : Type 0} (P : A → Type 0) (t : Bool) {a b : A} → P a → P b → P (pick t a b)
@@ -39,8 +49,23 @@ module _ (ds : Bytes) (pc : ℕ) where
       by true e go = go e ∙ ap (λ b. baseOf pc (pick b a (z .base)) more) e
       by false e go = base-kept (passed ds pc z a) more e ∙ ap (λ b. pick b a (z .base)) e
 
-  pub scanned-base : (line : ℕ) (anchors : List AbsLineInfo) → scanned ds pc (startOf line) anchors .base ≡ baseOf pc (record { pc = 0; line = line }) anchors
-  scanned-base line anchors = base-taken (startOf line) anchors refl
+  pub scanned-base : (line : ℕ) (anchors : List AbsLineInfo) → scanned ds pc (startOf pc line) anchors .base ≡ baseOf pc (record { pc = 0; line = line }) anchors
+  scanned-base line anchors = base-taken (startOf pc line) anchors refl
+
+  -- ## The anchor by its number
+  at-stays : (z : Scan) (anchors : List AbsLineInfo) {l : ℕ} → z .sought ≡ At l → scanned ds pc z anchors .sought ≡ At l
+  at-stays z [] e = e
+  at-stays z (a ∷ more) e = at-stays (passed ds pc z a) more (ap (λ x. seekBy x (a .line)) e)
+
+  ahead : (n : ℕ) (z : Scan) (anchors : List AbsLineInfo) → z .sought ≡ Ahead n → lineSought (scanned ds pc z anchors .sought) ≡ lineIf (nth n anchors)
+  ahead n z [] e = ap lineSought e
+  ahead zero z (a ∷ more) e = ap lineSought (at-stays (passed ds pc z a) more (ap (λ x. seekBy x (a .line)) e))
+  ahead (suc n) z (a ∷ more) e =
+      let one : suc n - 1 ≡ n = omega arith in
+      ahead n (passed ds pc z a) more (ap (λ x. seekBy x (a .line)) e ∙ sym (other (At (a .line)) (Ahead (suc n - 1)) (ne-eqb (suc n) 0 (λ p. omega arith))) ∙ ap Ahead one)
+
+  pub scanned-sought : (line : ℕ) (anchors : List AbsLineInfo) → lineSought (scanned ds pc (startOf pc line) anchors .sought) ≡ lineIf (nth pc anchors)
+  scanned-sought line anchors = ahead pc (startOf pc line) anchors refl
 
   -- ## Large lines
   large-stays : (z : Scan) (anchors : List AbsLineInfo) → z .large ≡ true → scanned ds pc z anchors .large ≡ true
@@ -56,8 +81,8 @@ module _ (ds : Bytes) (pc : ℕ) where
       by true e go = large-stays (passed ds pc z a) more (ap (λ b. orLarge b (a .line)) e)
       by false e go = go (ap (λ b. orLarge b (a .line)) e)
 
-  pub scanned-large : (line : ℕ) (anchors : List AbsLineInfo) → scanned ds pc (startOf line) anchors .large ≡ large line anchors
-  scanned-large line anchors = large-from line (startOf line) anchors refl
+  pub scanned-large : (line : ℕ) (anchors : List AbsLineInfo) → scanned ds pc (startOf pc line) anchors .large ≡ large line anchors
+  scanned-large line anchors = large-from line (startOf pc line) anchors refl
 
   -- ## Small lines
   abbrev Small : AbsLineInfo → Type 0
@@ -83,7 +108,7 @@ module _ (ds : Bytes) (pc : ℕ) where
   small-all z [] h = h
   small-all z (a ∷ more) h = small-all (passed ds pc z a) more (small-step z a h)
 
-  pub scanned-small : (line : ℕ) (anchors : List AbsLineInfo) → scanned ds pc (startOf line) anchors .large ≡ false → startIn (scanned ds pc (startOf line) anchors) .line ≤ 2 ^ 62
+  pub scanned-small : (line : ℕ) (anchors : List AbsLineInfo) → scanned ds pc (startOf pc line) anchors .large ≡ false → startIn (scanned ds pc (startOf pc line) anchors) .line ≤ 2 ^ 62
   scanned-small line anchors e =
-      let both = small-all (startOf line) anchors (λ h. let less = leb-false (2 ^ 62) line h in (omega arith, omega arith)) e in
-      pick-both Small (ltb (scanned ds pc (startOf line) anchors .base .pc) (scanned ds pc (startOf line) anchors .reset .pc)) (both .1) (both .0)
+      let both = small-all (startOf pc line) anchors (λ h. let less = leb-false (2 ^ 62) line h in (omega arith, omega arith)) e in
+      pick-both Small (ltb (scanned ds pc (startOf pc line) anchors .base .pc) (scanned ds pc (startOf pc line) anchors .reset .pc)) (both .1) (both .0)

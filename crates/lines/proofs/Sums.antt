@@ -16,8 +16,9 @@ use mir.Syntax.{w8, w64}
 use mir.Val.{Fits, SFits, toZ, ofZ}
 use mir.Facts.{toZ-pos, toZ-ofZ, fits-natAbs}
 use Rattle.format.specs.Form.{Bytes}
+use Rattle.lines.specs.declared.anchors.Scan.{Scan}
 use Rattle.lines.specs.Lines.{raised}
-use Rattle.lines.specs.Scan.{added, summed}
+use Rattle.lines.specs.Scan.{added, summed, startIn, lineFrom}
 use Rattle.lines.proofs.Range.{plus-delta, mag-added}
 use Rattle.lines.proofs.Tests.{picked, other}
 
@@ -69,6 +70,15 @@ turn ds i line all low {r} is h few =
   where
     in-range : (m i n : ℕ) → m ≤ 2 ^ 62 + 128 * i → n ≤ m + 128 → i < 16777216 → n < 2 ^ 63
     in-range m i n h k l = omega arith
+
+-- ## line_from
+pub none-from : (z : Scan) (ds : Bytes) → length ds ≡ 0 → 0 ≡ lineFrom z ds
+none-from z [] e = refl
+none-from z (d ∷ ds) e = absurd (omega arith)
+
+pub some-from : (z : Scan) (ds : Bytes) → (length ds ≡ 0 → ⊥) → raised (summed (pos (startIn z .line)) (drop (startIn z .pc) ds)) ≡ lineFrom z ds
+some-from z [] e = absurd (e refl)
+some-from z (d ∷ ds) e = refl
 
 -- ## raise
 module _ (line : ℤ) (fits : SFits w64 line) where

@@ -20,7 +20,7 @@ pub other : {A : Type 0} {t : Bool} (a b : A) → t ≡ false → b ≡ pick t a
 other a b e = sym (ap (λ t. pick t a b) e)
 
 -- ## reset_by
-beyond : (ds : Bytes) (i : ℕ) → length ds ≤ i → getD ds i 0 ≡ 0
+pub beyond : (ds : Bytes) (i : ℕ) → length ds ≤ i → getD ds i 0 ≡ 0
 beyond [] i h = refl
 beyond (d ∷ ds) zero h = absurd (omega arith)
 beyond (d ∷ ds) (suc i) h = beyond ds i (omega arith)

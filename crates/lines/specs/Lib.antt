@@ -1,2 +1,3 @@
+pub mod Ldebug
 pub mod Lines
 pub mod Scan

@@ -5,12 +5,18 @@ ghost use lib.ListN.{drop};
 ghost use Rattle.format.specs.Pick.{pick};
 ghost use Rattle.format.specs.Read.{many};
 ghost use Rattle.format.specs.ReadChunk.{anchor};
-ghost use Rattle.lines.specs.Scan.{orLarge, stillTaking, resetBy, passed, startOf, shownScan};
+ghost use Rattle.lines.specs.Scan.{orLarge, stillTaking, resetBy, seekBy, passed, startOf, shownScan};
 use format::entry::AbsLineInfo;
 use format::refusal::Refusal;
 use lists::debug::AnchorResult;
 use lists::debug::read_anchor;
 use reader::cursor::Cursor;
+
+// The anchor that has the pc for its number: how many are before it, or its line.
+pub enum Sought {
+    Ahead(usize),
+    At(usize),
+}
 
 // What the anchors so far have settled. `base` and `reset` are each a line, and the pc from which deltas are added to it.
 pub struct Scan {
@@ -22,6 +28,7 @@ pub struct Scan {
     pub base: AbsLineInfo,
     // Just behind the last delta of -128 that has an anchor; pc 0 if none has.
     pub reset: AbsLineInfo,
+    pub sought: Sought,
 }
 
 pub enum ScanResult {
@@ -56,7 +63,7 @@ fn taken(taking: bool, anchor: AbsLineInfo, base: AbsLineInfo) -> AbsLineInfo
     base
 }
 
-// Behind the delta at the anchor, if that is -128 and not before the one so far: of two anchors at a pc the first stays.
+// Behind the delta at the anchor, if that is -128 and behind the one so far: of two anchors at a pc the first stays.
 fn reset_by(deltas: &[u8], reset: AbsLineInfo, anchor: AbsLineInfo) -> AbsLineInfo
     ensures { λ r. ⌜ r ≡ resetBy (now (deltas .entry)) reset anchor ⌝ }
 {
@@ -67,12 +74,27 @@ fn reset_by(deltas: &[u8], reset: AbsLineInfo, anchor: AbsLineInfo) -> AbsLineIn
     if deltas[pc] != 128 {
         return reset;
     }
-    if pc < reset.pc {
+    let behind = pc + 1;
+    if behind <= reset.pc {
         return reset;
     }
     AbsLineInfo {
-        pc: pc + 1,
+        pc: behind,
         line: anchor.line,
+    }
+}
+
+fn seek(sought: Sought, line: usize) -> Sought
+    ensures { λ r. ⌜ r ≡ seekBy sought line ⌝ }
+{
+    match sought {
+        Sought::At(_) => sought,
+        Sought::Ahead(before) => {
+            if before == 0 {
+                return Sought::At(line);
+            }
+            Sought::Ahead(before - 1)
+        }
     }
 }
 
@@ -81,12 +103,14 @@ fn pass(deltas: &[u8], pc: usize, scan: Scan, anchor: AbsLineInfo) -> Scan
 {
     let base = scan.base;
     let reset = scan.reset;
+    let sought = scan.sought;
     let taking = still_taking(scan.taking, pc, anchor);
     Scan {
         large: or_large(scan.large, anchor.line),
         taking: taking,
         base: taken(taking, anchor, base),
         reset: reset_by(deltas, reset, anchor),
+        sought: seek(sought, anchor.line),
     }
 }
 
@@ -99,7 +123,7 @@ pub fn scan_anchors(
     pc: usize,
     line_defined: usize,
 ) -> ScanResult
-    ensures { λ r. ⌜ r ≡ shownScan (now (deltas .entry)) pc (startOf «line_defined») (many n anchor (cursor .at) (drop (cursor .at) (now (s .entry)))) ⌝ }
+    ensures { λ r. ⌜ r ≡ shownScan (now (deltas .entry)) pc (startOf pc «line_defined») (many n anchor (cursor .at) (drop (cursor .at) (now (s .entry)))) ⌝ }
 {
     let mut scan = Scan {
         large: 4611686018427387904 <= line_defined,
@@ -109,6 +133,7 @@ pub fn scan_anchors(
             line: line_defined,
         },
         reset: AbsLineInfo { pc: 0, line: 0 },
+        sought: Sought::Ahead(pc),
     };
     let mut next = cursor;
     let mut left = n;

@@ -1,11 +1,10 @@
 // Adding deltas to a line.
 ghost use mathlib.Core.Path.{_≡_};
 ghost use Prim.Native.Nat.{_+_, _^_, _≤_};
-ghost use lib.IntN.{pos};
 ghost use lib.ListN.{length, take, drop};
 ghost use lib.Signed.{mag};
 ghost use Rattle.lines.specs.Lines.{raised};
-ghost use Rattle.lines.specs.Scan.{added, summed, startIn};
+ghost use Rattle.lines.specs.Scan.{added, summed, startIn, lineFrom};
 use crate::anchors::Scan;
 use format::entry::AbsLineInfo;
 
@@ -69,11 +68,14 @@ fn raise(line: i64) -> usize
     line as usize
 }
 
-// The line that the deltas give.
+// The line that the deltas give, 0 without any.
 pub fn line_from(deltas: &[u8], scan: Scan) -> usize
     requires { ⌜ (length (now deltas) ≤ 16777216) × (startIn scan .line ≤ 2 ^ 62) ⌝ }
-    ensures { λ r. ⌜ r ≡ raised (summed (pos (startIn scan .line)) (drop (startIn scan .pc) (now (deltas .entry)))) ⌝ }
+    ensures { λ r. ⌜ r ≡ lineFrom scan (now (deltas .entry)) ⌝ }
 {
+    if deltas.len() == 0 {
+        return 0;
+    }
     let start = start_in(scan);
     raise(add_deltas(deltas, start.pc, start.line as i64))
 }

@@ -5,8 +5,9 @@ ghost use lib.ListN.{length};
 ghost use Rattle.format.specs.ReadChunk.{read};
 ghost use Rattle.access.specs.Asked.{functionOf};
 ghost use Rattle.lines.specs.Lines.{shownLine};
-ghost use Rattle.lines.specs.Scan.{numberedOf, anchorLine, shownRowLine};
+ghost use Rattle.lines.specs.Scan.{numberedOf, shownRowLine};
 use crate::anchors::ScanResult;
+use crate::anchors::Sought;
 use crate::anchors::scan_anchors;
 use crate::deltas::line_from;
 use crate::deltas::up_to;
@@ -14,10 +15,8 @@ use access::bytes::bytes_at;
 use access::row::RowAnswer;
 use access::row::function_row;
 use chunk::row::FunctionRow;
-use entries::debug::anchor_at;
 use format::limits::ResourceLimits;
 use format::refusal::Refusal;
-use lists::debug::AnchorResult;
 use reader::cursor::Cursor;
 
 pub enum LineAnswer {
@@ -25,23 +24,14 @@ pub enum LineAnswer {
     Err(Refusal),
 }
 
-// How many instructions have an anchor each: all, if there are as many anchors, else none.
-fn numbered(anchors: usize, instructions: usize) -> usize
-    ensures { λ r. ⌜ r ≡ numberedOf anchors instructions ⌝ }
+// An anchor counts by its number only where there are as many as instructions.
+fn numbered(anchors: usize, instructions: usize, sought: Sought) -> Sought
+    ensures { λ r. ⌜ r ≡ numberedOf anchors instructions sought ⌝ }
 {
     if anchors == instructions {
-        return anchors;
+        return sought;
     }
-    0
-}
-
-fn anchor_line(read: AnchorResult) -> LineAnswer
-    ensures { λ r. ⌜ r ≡ anchorLine read ⌝ }
-{
-    match read {
-        AnchorResult::Err(refusal) => LineAnswer::Err(refusal),
-        AnchorResult::Ok { value, next: _ } => LineAnswer::Ok(value.line),
-    }
+    Sought::Ahead(0)
 }
 
 // Of a function's row. Rule 1 gives what rule 4 gives, so it has no test of its own.
@@ -63,13 +53,12 @@ fn line_in_row(s: &[u8], row: FunctionRow, pc: usize) -> LineAnswer
             if scan.large {
                 return LineAnswer::Err(Refusal::LineTooLarge);
             }
-            if pc < numbered(anchors.count, instructions.count) {
-                return anchor_line(anchor_at(s, first, pc));
+            let sought = scan.sought;
+            let found = numbered(anchors.count, instructions.count, sought);
+            match found {
+                Sought::At(line) => LineAnswer::Ok(line),
+                Sought::Ahead(_) => LineAnswer::Ok(line_from(deltas, scan)),
             }
-            if deltas.len() == 0 {
-                return LineAnswer::Ok(0);
-            }
-            LineAnswer::Ok(line_from(deltas, scan))
         }
     }
 }

@@ -7,5 +7,5 @@ pub pass-spec : {M : Type 1} → statement M
 pass-spec =
     tie.close
     (tie.spec
-    (λ c κs. search needs) (λ c κs. search needs) (λ c κs. search needs) (λ c κs. search needs)
-    (λ c. rw (c .reset-by .ensures, c .before .taken .ensures, c .before .before .or-large .ensures, c .before .before .before .still-taking .ensures)))
+    (λ c κs. search needs) (λ c κs. search needs) (λ c κs. search needs) (λ c κs. search needs) (λ c κs. search needs)
+    (λ c. rw (c .seek .ensures, c .before .reset-by .ensures, c .before .before .taken .ensures, c .before .before .before .or-large .ensures, c .before .before .before .before .still-taking .ensures)))

@@ -1,4 +1,5 @@
 -- `lines::anchors::reset_by` meets its contract: by the tests (`Tests.antt`). Assumes nothing.
+use native.Mathlib.Omega.{arith}
 use borrow.Author.Needs.{needs}
 use Rattle.lines.proofs.Tests.{reset-beyond, reset-other, reset-before, reset-moved}
 use Rattle.lines.proofs.anchors.reset_by.Statement.{statement}
@@ -11,6 +12,6 @@ reset-by-spec =
     (λ c. let a = c .before .args in reset-beyond (a .deltas .now) (a .reset) (a .anchor) (c .if1 .taken))
     (λ c. search needs)
     (λ c. let a = c .before .before .before .args in reset-other (a .deltas .now) (a .reset) (a .anchor) (c .if2 .taken))
-    (λ c. let a = c .before .before .before .before .before .args in reset-before (a .deltas .now) (a .reset) (a .anchor) (c .before .before .if2 .left) (c .if3 .taken))
     (λ c. search needs)
-    (λ c. let a = c .before .before .before .before .before .args in reset-moved (a .deltas .now) (a .reset) (a .anchor) (c .before .before .if2 .left) (c .if3 .left)))
+    (λ c. let a = c .before .before .before .before .before .args in let t = c .if3 .taken in reset-before (a .deltas .now) (a .reset) (a .anchor) (c .before .before .if2 .left) (omega arith))
+    (λ c. let a = c .before .before .before .before .before .args in let t = c .if3 .left in reset-moved (a .deltas .now) (a .reset) (a .anchor) (c .before .before .if2 .left) (omega arith)))

@@ -11,7 +11,7 @@ use Rattle.lines.proofs.anchors.scan_anchors.Statement.{statement}
 use Rattle.lines.proofs.anchors.scan_anchors.Tie as tie
 
 abbrev Inv-loop : tie.InvT-loop
-Inv-loop s n deltas pc line-defined scan₀ next₀ left₀ scan next left = scanFrom deltas pc s (startOf line-defined) n (next₀ .at) ≡ scanFrom deltas pc s scan left (next .at)
+Inv-loop s n deltas pc line-defined scan₀ next₀ left₀ scan next left = scanFrom deltas pc s (startOf pc line-defined) n (next₀ .at) ≡ scanFrom deltas pc s scan left (next .at)
 
 abbrev μ-loop : tie.MeasureT-loop
 μ-loop s n deltas pc line-defined scan₀ next₀ left₀ scan next left = left

@@ -1,11 +1,9 @@
 -- `lines::line::line_in_row` meets its contract: by what the pass over the anchors gave and by the tests (`Rows.antt`). Assumes nothing.
 use mathlib.Core.Path.{sym, _∙_, ap}
 use Prim.Native.Nat.{_+_}
-use native.Mathlib.Omega.{arith}
 use borrow.Author.Needs.{needs}
 use lib.ListN.{take}
-use Rattle.lines.specs.Scan.{anchorLine}
-use Rattle.lines.proofs.Rows.{scan-refused, too-large, start-low, numbered-line, no-line, sum-line, few}
+use Rattle.lines.proofs.Rows.{scan-refused, too-large, start-low, numbered-line, deltas-line, few}
 use Rattle.lines.proofs.line.line_in_row.Statement.{statement}
 use Rattle.lines.proofs.line.line_in_row.Tie as tie
 
@@ -19,20 +17,7 @@ line-in-row-spec =
     let cut = c .before .before .before .before .before .up-to .ensures ∙ ap (take (a .pc + 1)) (c .before .before .before .before .before .before .bytes-at .ensures) in
     let read = sym (c .before .before .scanned2 .given .1) ∙ c .before .before .before .before .scan-anchors .ensures in
     too-large (a .row) (a .pc) (a .s .now) cut read (c .if1 .taken))
-    (λ c κs. search needs) (λ c κs. search needs) (λ c κs. search needs)
-    (λ c.
-    let a = c .before .before .before .before .before .before .before .before .before .before .before .before .before .before .before .before .before .args in
-    let cut = c .before .before .before .before .before .before .before .before .before .up-to .ensures ∙ ap (take (a .pc + 1)) (c .before .before .before .before .before .before .before .before .before .before .bytes-at .ensures) in
-    let read = sym (c .before .before .before .before .before .before .scanned2 .given .1) ∙ c .before .before .before .before .before .before .before .before .scan-anchors .ensures in
-    let within = c .before .before .if2 .taken in
-    c .anchor-line .ensures ∙ ap anchorLine (c .before .anchor-at .ensures) ∙ numbered-line (a .row) (a .pc) (a .s .now) cut read (c .before .before .before .before .if1 .left) (rw (c .before .before .before .numbered .ensures) at within))
-    (λ c.
-    let a = c .before .before .before .before .before .before .before .before .before .before .before .before .before .before .before .before .args in
-    let cut = c .before .before .before .before .before .before .before .before .up-to .ensures ∙ ap (take (a .pc + 1)) (c .before .before .before .before .before .before .before .before .before .bytes-at .ensures) in
-    let read = sym (c .before .before .before .before .before .scanned2 .given .1) ∙ c .before .before .before .before .before .before .before .scan-anchors .ensures in
-    let beyond = c .before .if2 .left in
-    let none = c .if3 .taken in
-    no-line (a .row) (a .pc) (a .s .now) cut read (c .before .before .before .if1 .left) (rw (c .before .before .numbered .ensures) at beyond) (omega arith))
+    (λ c κs. search needs) (λ c. search needs) (λ c. search needs)
     (λ c κs.
     let a = c .before .before .before .before .before .before .before .before .before .before .before .before .before .before .before .before .args in
     let cut = c .before .before .before .before .before .before .before .before .up-to .ensures ∙ ap (take (a .pc + 1)) (c .before .before .before .before .before .before .before .before .before .bytes-at .ensures) in
@@ -47,6 +32,9 @@ line-in-row-spec =
     let a = c .before .before .before .before .before .before .before .before .before .before .before .before .before .before .before .before .before .args in
     let cut = c .before .before .before .before .before .before .before .before .before .up-to .ensures ∙ ap (take (a .pc + 1)) (c .before .before .before .before .before .before .before .before .before .before .bytes-at .ensures) in
     let read = sym (c .before .before .before .before .before .before .scanned2 .given .1) ∙ c .before .before .before .before .before .before .before .before .scan-anchors .ensures in
-    let beyond = c .before .before .if2 .left in
-    let some = c .before .if3 .left in
-    sum-line (a .row) (a .pc) (a .s .now) cut read (c .before .before .before .before .if1 .left) (rw (c .before .before .before .numbered .ensures) at beyond) (λ h. some (omega arith)) (c .line-from .ensures)))
+    numbered-line (a .row) (a .pc) (a .s .now) cut read (c .before .before .before .before .if1 .left) _ (sym (c .before .found .given .1) ∙ c .before .before .before .numbered .ensures))
+    (λ c.
+    let a = c .before .before .before .before .before .before .before .before .before .before .before .before .before .before .before .before .before .args in
+    let cut = c .before .before .before .before .before .before .before .before .before .up-to .ensures ∙ ap (take (a .pc + 1)) (c .before .before .before .before .before .before .before .before .before .before .bytes-at .ensures) in
+    let read = sym (c .before .before .before .before .before .before .scanned2 .given .1) ∙ c .before .before .before .before .before .before .before .before .scan-anchors .ensures in
+    deltas-line (a .row) (a .pc) (a .s .now) cut read (c .before .before .before .before .if1 .left) _ (sym (c .before .enum-told .given .1) ∙ c .before .before .before .numbered .ensures) (c .line-from .ensures)))

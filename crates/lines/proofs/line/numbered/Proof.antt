@@ -1,5 +1,6 @@
 -- `lines::line::numbered` meets its contract: by the test. Assumes nothing.
 use borrow.Author.Tests.{eq-eqb, ne-eqb}
+use Rattle.lines.specs.declared.anchors.Sought.the-variants.{Ahead}
 use Rattle.lines.proofs.Tests.{picked, other}
 use Rattle.lines.proofs.line.numbered.Statement.{statement}
 use Rattle.lines.proofs.line.numbered.Tie as tie
@@ -8,5 +9,5 @@ pub numbered-spec : {M : Type 1} → statement M
 numbered-spec =
     tie.close
     (tie.spec
-    (λ c. let a = c .before .args in picked (a .anchors) 0 (eq-eqb (a .anchors) (a .instructions) (c .if1 .taken)))
-    (λ c. let a = c .before .args in other (a .anchors) 0 (ne-eqb (a .anchors) (a .instructions) (c .if1 .left))))
+    (λ c. let a = c .before .args in picked (a .sought) (Ahead 0) (eq-eqb (a .anchors) (a .instructions) (c .if1 .taken)))
+    (λ c. let a = c .before .args in other (a .sought) (Ahead 0) (ne-eqb (a .anchors) (a .instructions) (c .if1 .left))))

@@ -1,0 +1,222 @@
+-- Where the anchors are as the compiler writes them, 01's line is ldebug.c's.
+--     Rising           the anchors' pcs rise strictly
+--     At               an anchor stands at a pc
+--     Compiled         the premises
+--     same-line        the theorem
+-- Assumes nothing.
+use mathlib.Core.Path.{_≡_, refl, sym, _∙_, ap}
+use mathlib.Core.Bool.{Bool, true, false}
+use mathlib.Core.List.{List, [], _∷_}
+use mathlib.Core.Option.{none}
+use mathlib.Core.Logic.{_⊎_, inl, ⊎-elim}
+use Prim.Native.Nat.{ℕ, zero, suc, _+_, _-_, _/_, _≤_, _<_}
+use native.Mathlib.Omega.{arith}
+use borrow.Author.Tests.{leb-true, leb-false, le-leb, ltb-true, ltb-false, ne-eqb, eq-eqb, lt-ltb, le-ltb}
+use lib.Dec.{leb, ltb}
+use lib.IntN.{ℤ, pos, _+ℤ_}
+use lib.ListN.{length, take, drop, getD, length-take}
+use lib.Seq.{getD-take}
+use mir.Syntax.{w8}
+use mir.Val.{toZ}
+use Rattle.format.specs.Pick.{pick}
+use Rattle.format.specs.declared.entry.AbsLineInfo.{AbsLineInfo}
+use Rattle.format.specs.Form.{Bytes}
+use Rattle.format.proofs.Every.{All}
+use Rattle.entries.specs.Nth.{nth}
+use Rattle.lines.specs.Ldebug.{MAXIWTHABS, getbaseline, increments, «luaG_getfuncline»}
+use Rattle.lines.specs.Lines.{rule2, lineIf, baseOf, lineAt, walked, raised, byDeltas, orNext, lineOf}
+use Rattle.lines.proofs.Fast.{from-head, from-none, next-is}
+use Rattle.lines.proofs.Tests.{picked, other, beyond}
+use Rattle.lines.proofs.Scans.{pick-both}
+
+-- from n on
+abbrev pub RisingFrom : ℕ → List AbsLineInfo → Type 0
+RisingFrom n [] = Unit {0}
+RisingFrom n (a ∷ more) = (n ≤ a .pc) × RisingFrom (a .pc + 1) more
+
+abbrev pub Rising : List AbsLineInfo → Type 0
+Rising anchors = RisingFrom 0 anchors
+
+abbrev pub At : ℕ → List AbsLineInfo → Type 0
+At i [] = ⊥
+At i (a ∷ more) = (a .pc ≡ i) ⊎ At i more
+
+-- ## Anchors that rise
+from-on : (n i : ℕ) (anchors : List AbsLineInfo) → RisingFrom n anchors → At i anchors → n ≤ i
+from-on n i [] r m = absurd m
+from-on n i (a ∷ more) r m = let h = r .0 in ⊎-elim (λ (e : a .pc ≡ i). omega arith) (λ (k : At i more). omega (arith, from-on (a .pc + 1) i more (r .1) k)) m
+
+-- the base: the last anchor that is not above the pc
+module _ (pc : ℕ) where
+  -- no anchor stands behind it up to the pc
+  base-last : (a : AbsLineInfo) (more : List AbsLineInfo) → RisingFrom (a .pc + 1) more → (j : ℕ) → At j (a ∷ more) → j ≤ pc → j ≤ baseOf pc a more .pc
+  base-last a [] r j m h = ⊎-elim (λ (e : a .pc ≡ j). omega arith) (λ (n : ⊥). absurd n) m
+  base-last a (x ∷ more) r j m h = by (leb (x .pc) pc) refl (base-last x more (r .1))
+    where
+      by : (t : Bool) → leb (x .pc) pc ≡ t → ((j : ℕ) → At j (x ∷ more) → j ≤ pc → j ≤ baseOf pc x more .pc) → j ≤ pick t (baseOf pc x more) a .pc
+      by true t go =
+          let here = leb-true (x .pc) pc t in
+          let over = r .0 in
+          ⊎-elim (λ (e : a .pc ≡ j). omega (arith, go (x .pc) (inl refl) here)) (λ (k : At j (x ∷ more)). go j k h) m
+      by false t go =
+          let above = leb-false (x .pc) pc t in
+          ⊎-elim (λ (e : a .pc ≡ j). omega arith) (λ (k : At j (x ∷ more)). absurd (omega (arith, from-on (x .pc) j (x ∷ more) (omega arith, r .1) k))) m
+
+  base-within : (a : AbsLineInfo) (more : List AbsLineInfo) → a .pc ≤ pc → baseOf pc a more .pc ≤ pc
+  base-within a [] h = h
+  base-within a (x ∷ more) h = by (leb (x .pc) pc) refl (base-within x more)
+    where
+      by : (t : Bool) → leb (x .pc) pc ≡ t → (x .pc ≤ pc → baseOf pc x more .pc ≤ pc) → pick t (baseOf pc x more) a .pc ≤ pc
+      by true t go = go (leb-true (x .pc) pc t)
+      by false t go = h
+
+  base-all : (P : AbsLineInfo → Type 0) (a : AbsLineInfo) (more : List AbsLineInfo) → P a → All P more → P (baseOf pc a more)
+  base-all P a [] h all = h
+  base-all P a (x ∷ more) h all = pick-both P (leb (x .pc) pc) (base-all P x more (all .0) (all .1)) h
+
+  -- it is the first anchor at its pc
+  base-line : (a : AbsLineInfo) (more : List AbsLineInfo) → RisingFrom (a .pc + 1) more → (z : ℤ) → lineAt (baseOf pc a more .pc) (a ∷ more) z ≡ pos (baseOf pc a more .line)
+  base-line a [] r z = ap (λ t. pick t (pos (a .line)) z) (eq-eqb (a .pc) (a .pc) refl)
+  base-line a (x ∷ more) r z = by (leb (x .pc) pc) refl (base-line x more (r .1) z)
+    where
+      by : (t : Bool) → leb (x .pc) pc ≡ t → lineAt (baseOf pc x more .pc) (x ∷ more) z ≡ pos (baseOf pc x more .line)
+          → lineAt (pick t (baseOf pc x more) a .pc) (a ∷ x ∷ more) z ≡ pos (pick t (baseOf pc x more) a .line)
+      by true t go =
+          let over = r .0 in
+          let b = baseOf pc x more .pc in
+          let reached : x .pc ≤ b = base-last x more (r .1) (x .pc) (inl refl) (leb-true (x .pc) pc t) in
+          ap (λ u. pick u (pos (a .line)) (lineAt b (x ∷ more) z)) (ne-eqb (a .pc) b (λ e. omega arith)) ∙ go
+      by false t go = ap (λ u. pick u (pos (a .line)) (lineAt (a .pc) (x ∷ more) z)) (eq-eqb (a .pc) (a .pc) refl)
+
+  -- starting at an anchor that is not above the pc finds the same base
+  from-estimate : (d : AbsLineInfo) (k : ℕ) (a : AbsLineInfo) (more : List AbsLineInfo) → RisingFrom (a .pc + 1) more → k ≤ length more → getD (a ∷ more) k d .pc ≤ pc
+      → baseOf pc a more ≡ baseOf pc (getD (a ∷ more) k d) (drop k more)
+  from-estimate d zero a more r h low = refl
+  from-estimate d (suc k) a [] r h low = absurd (omega arith)
+  from-estimate d (suc k) a (x ∷ more) r h low =
+      ap (λ t. pick t (baseOf pc x more) a) (le-leb (x .pc) pc (omega (arith, head-low k x more (r .1) (omega arith)))) ∙ from-estimate d k x more (r .1) (omega arith) low
+    where
+      head-low : (k : ℕ) (x : AbsLineInfo) (more : List AbsLineInfo) → RisingFrom (x .pc + 1) more → k ≤ length more → x .pc ≤ getD (x ∷ more) k d .pc
+      head-low zero x more r h = omega arith
+      head-low (suc k) x [] r h = absurd (omega arith)
+      head-low (suc k) x (y ∷ more) r h = let over = r .0 in omega (arith, head-low k y more (r .1) (omega arith))
+
+-- ## The sum
+-- the deltas up to the pc
+in-cut : (n j : ℕ) (ds : Bytes) → getD (take n ds) j 0 ≡ 128 → (j < n) × (getD ds j 0 ≡ 128)
+in-cut n j ds e = by (ltb j n) refl
+  where
+    by : (t : Bool) → ltb j n ≡ t → (j < n) × (getD ds j 0 ≡ 128)
+    by true t = let h = ltb-true j n t in (h, sym (getD-take n ds j 0 h) ∙ e)
+    by false t =
+        let h = ltb-false j n t in
+        let short : length (take n ds) ≤ j = simp length-take (omega arith) in
+        absurd (omega (arith, beyond (take n ds) j short))
+
+-- without a delta of −128 the two sums are one
+plain : (anchors : List AbsLineInfo) (cut xs : Bytes) (k : ℕ) (z : ℤ) → drop k cut ≡ xs → ((j : ℕ) → k ≤ j → getD cut j 0 ≡ 128 → ⊥) → walked anchors k z xs ≡ increments z xs
+plain anchors cut [] k z e never = refl
+plain anchors cut (d ∷ xs) k z e never =
+    ap (λ t. walked anchors (k + 1) (pick t (lineAt k anchors z) (z +ℤ toZ w8 d)) xs) (ne-eqb d 128 (λ is. never k (omega arith) (from-head k cut e ∙ is)))
+    ∙ plain anchors cut xs (k + 1) (z +ℤ toZ w8 d) (next-is k cut e) (λ j h. never j (omega arith))
+
+-- behind a delta of −128 whose anchor has the line itself
+at-anchor : (anchors : List AbsLineInfo) (cut : Bytes) (k : ℕ) (z : ℤ) → getD cut k 0 ≡ 128 → lineAt k anchors z ≡ z → walked anchors k z (drop k cut) ≡ walked anchors (k + 1) z (drop (k + 1) cut)
+at-anchor anchors cut k z e same = by (drop k cut) refl
+  where
+    by : (xs : Bytes) → drop k cut ≡ xs → walked anchors k z xs ≡ walked anchors (k + 1) z (drop (k + 1) cut)
+    by [] p = absurd (omega (arith, from-none k k cut p (omega arith)))
+    by (d ∷ xs) p =
+        ap (λ t. walked anchors (k + 1) (pick t (lineAt k anchors z) (z +ℤ toZ w8 d)) xs) (eq-eqb d 128 (sym (from-head k cut p) ∙ e))
+        ∙ ap (λ y. walked anchors (k + 1) y xs) same
+        ∙ ap (walked anchors (k + 1) z) (sym (next-is k cut p))
+
+-- ## As the compiler writes them
+pub record Compiled (instructions : ℕ) (deltas : Bytes) (anchors : List AbsLineInfo) (pc : ℕ) : Type 0 where
+  pub rising : Rising anchors
+  -- the delta at each anchor is −128, and no other is
+  pub marked : All (λ a. getD deltas (a .pc) 0 ≡ 128) anchors
+  pub only : (i : ℕ) → getD deltas i 0 ≡ 128 → At i anchors
+  -- each instruction has a delta, and there is one at the pc
+  pub one-each : length deltas ≡ instructions
+  pub there : pc < instructions
+  -- rule 2 is not for these anchors
+  pub not-numbered : length anchors ≡ instructions → ⊥
+  -- what `getbaseline` asserts: the estimate, where it is not −1, is an anchor that is not above the pc
+  pub estimate : (i : ℕ) (d : AbsLineInfo) → pc / MAXIWTHABS ≡ suc i → (i < length anchors) × (getD anchors i d .pc ≤ pc)
+
+module _ (line-defined instructions : ℕ) (deltas : Bytes) (anchors : List AbsLineInfo) (pc : ℕ) (c : Compiled instructions deltas anchors pc) where
+  abbrev cut : Bytes
+  cut = take (pc + 1) deltas
+
+  abbrev start : AbsLineInfo
+  start = record { pc = 0; line = line-defined }
+
+  abbrev ours : AbsLineInfo → ℤ
+  ours base = walked anchors (base .pc) (pos (base .line)) (drop (base .pc) cut)
+
+  abbrev theirs : AbsLineInfo → ℤ
+  theirs base = increments (pos (base .line)) (drop (base .pc) cut)
+
+  -- where no anchor stands from k up to the pc, no delta there is −128
+  quiet : (k : ℕ) → ((j : ℕ) → k ≤ j → j ≤ pc → At j anchors → ⊥) → (j : ℕ) → k ≤ j → getD cut j 0 ≡ 128 → ⊥
+  quiet k free j h is = let p = in-cut (pc + 1) j deltas is in let within = p .0 in free j h (omega arith) (c .only j (p .1))
+
+  module _ (a : AbsLineInfo) (more : List AbsLineInfo) (e : anchors ≡ a ∷ more) where
+    rising : RisingFrom 0 (a ∷ more)
+    rising = rw e at (c .rising)
+
+    -- before the first anchor
+    before : pc < a .pc → ours start ≡ theirs start
+    before h = plain anchors cut cut 0 (pos line-defined) refl (quiet 0 (λ j _ k m. omega (arith, from-on (a .pc) j (a ∷ more) (omega arith, rising .1) (rw e at m))))
+
+    abbrev base : AbsLineInfo
+    base = baseOf pc a more
+
+    -- from an anchor on
+    behind : a .pc ≤ pc → ours base ≡ theirs (record { pc = base .pc + 1; line = base .line })
+    behind h =
+        let marked = rw e at (c .marked) in
+        let here : getD deltas (base .pc) 0 ≡ 128 = base-all pc (λ x. getD deltas (x .pc) 0 ≡ 128) a more (marked .0) (marked .1) in
+        let within = base-within pc a more h in
+        let line : lineAt (base .pc) anchors (pos (base .line)) ≡ pos (base .line) = ap (λ xs. lineAt (base .pc) xs (pos (base .line))) e ∙ base-line pc a more (rising .1) (pos (base .line)) in
+        at-anchor anchors cut (base .pc) (pos (base .line)) (getD-take (pc + 1) deltas (base .pc) 0 (omega arith) ∙ here) line
+        ∙ plain anchors cut (drop (base .pc + 1) cut) (base .pc + 1) (pos (base .line)) refl (quiet (base .pc + 1) (λ j l k m. omega (arith, base-last pc a more (rising .1) j (rw e at m) k)))
+
+    -- the estimate does not matter
+    found : a .pc ≤ pc → (k : ℕ) → pc / MAXIWTHABS ≡ k → baseOf pc (getD (a ∷ more) (k - 1) a) (drop k (a ∷ more)) ≡ base
+    found h zero is = ap (λ t. pick t base a) (le-leb (a .pc) pc h)
+    found h (suc i) is =
+        let asserted = rw e at (c .estimate i a is) in
+        let size = asserted .0 in
+        let same : suc i - 1 ≡ i = omega arith in
+        ap (λ n. baseOf pc (getD (a ∷ more) n a) (drop i more)) same ∙ sym (from-estimate pc a i a more (rising .1) (omega arith) (asserted .1))
+
+    both : ours (baseOf pc start (a ∷ more)) ≡ theirs (getbaseline line-defined pc (a ∷ more))
+    both = by (leb (a .pc) pc) refl
+      where
+        by : (t : Bool) → leb (a .pc) pc ≡ t → ours (pick t base start) ≡ theirs (getbaseline line-defined pc (a ∷ more))
+        by true t =
+            let h = leb-true (a .pc) pc t in
+            behind h
+            ∙ sym (ap (λ b. theirs (record { pc = b .pc + 1; line = b .line })) (found h (pc / MAXIWTHABS) refl))
+            ∙ ap theirs (other start _ (le-ltb pc (a .pc) h))
+        by false t = let h = leb-false (a .pc) pc t in before h ∙ ap theirs (picked start _ (lt-ltb pc (a .pc) h))
+
+  by-base : (xs : List AbsLineInfo) → anchors ≡ xs → ours (baseOf pc start xs) ≡ theirs (getbaseline line-defined pc xs)
+  by-base [] e = plain anchors cut cut 0 (pos line-defined) refl (quiet 0 (λ j _ _ m. rw e at m))
+  by-base (a ∷ more) e = both a more e
+
+  pub same-line : lineOf instructions line-defined deltas anchors pc ≡ raised («luaG_getfuncline» line-defined deltas anchors pc)
+  same-line = by deltas refl
+    where
+      third : rule2 instructions anchors pc ≡ none
+      third = sym (other (lineIf (nth pc anchors)) none (ne-eqb (length anchors) instructions (c .not-numbered)))
+
+      by : (ds : Bytes) → deltas ≡ ds → lineOf instructions line-defined ds anchors pc ≡ raised («luaG_getfuncline» line-defined ds anchors pc)
+      by [] e = absurd (let size = ap length e in let one = c .one-each in let some = c .there in omega arith)
+      by (d ∷ ds) e =
+          ap (λ o. orNext o (byDeltas (baseOf pc start anchors) (d ∷ ds) anchors pc)) third
+          ∙ ap (λ ds. raised (walked anchors (baseOf pc start anchors .pc) (pos (baseOf pc start anchors .line)) (drop (baseOf pc start anchors .pc) (take (pc + 1) ds)))) (sym e)
+          ∙ ap raised (by-base anchors refl)
+          ∙ ap (λ ds. raised (increments (pos (getbaseline line-defined pc anchors .line)) (drop (getbaseline line-defined pc anchors .pc) (take (pc + 1) ds)))) e

@@ -1,0 +1,53 @@
+-- Where 01's line and ldebug.c's part: the smallest input of each way, with both lines, and one theorem over the list, which antt computes.
+-- Each breaks one premise of `Compiled` (Ldebug.antt), or the line would be below 0.
+-- Assumes nothing.
+use mathlib.Core.Path.{_≡_, refl}
+use mathlib.Core.List.{List, [], _∷_, _++_, map}
+use Prim.Native.Nat.{ℕ}
+use lib.IntN.{ℤ, pos, negsuc}
+use lib.ListN.{replicate}
+use Rattle.format.specs.declared.entry.AbsLineInfo.{AbsLineInfo}
+use Rattle.format.specs.Form.{Bytes}
+use Rattle.lines.specs.Ldebug.{«luaG_getfuncline»}
+use Rattle.lines.specs.Lines.{lineOf}
+
+record Case : Type 0 where
+  line-defined : ℕ
+  instructions : ℕ
+  deltas : Bytes
+  anchors : List AbsLineInfo
+  pc : ℕ
+  -- 01's line, and ldebug.c's
+  ours : ℕ
+  theirs : ℤ
+
+abbrev at : ℕ → ℕ → AbsLineInfo
+at pc line = record { pc = pc; line = line }
+
+parted : List Case
+parted =
+    -- no line information: −1
+    record { line-defined = 7; instructions = 1; deltas = []; anchors = []; pc = 0; ours = 0; theirs = negsuc 0 }
+    -- the delta at an anchor is not −128: here it is added
+    ∷ record { line-defined = 7; instructions = 2; deltas = 0x01 ∷ 0x00 ∷ []; anchors = at 0 9 ∷ []; pc = 0; ours = 10; theirs = pos 9 }
+    -- a delta of −128 without an anchor: there it is added, −121
+    ∷ record { line-defined = 7; instructions = 1; deltas = 0x80 ∷ []; anchors = []; pc = 0; ours = 7; theirs = negsuc 120 }
+    -- as many anchors as instructions
+    ∷ record { line-defined = 7; instructions = 1; deltas = 0x01 ∷ []; anchors = at 1 9 ∷ []; pc = 0; ours = 9; theirs = pos 8 }
+    -- anchors that fall: there the delta of −128 at the first is added, −98
+    ∷ record { line-defined = 7; instructions = 3; deltas = 0x80 ∷ 0x80 ∷ 0x00 ∷ []; anchors = at 1 9 ∷ at 0 30 ∷ []; pc = 1; ours = 9; theirs = negsuc 97 }
+    -- two anchors at a pc: here the first gives the line
+    ∷ record { line-defined = 7; instructions = 1; deltas = 0x80 ∷ []; anchors = at 0 9 ∷ at 0 30 ∷ []; pc = 0; ours = 9; theirs = pos 30 }
+    -- below 0: −4
+    ∷ record { line-defined = 1; instructions = 1; deltas = 0xfb ∷ []; anchors = []; pc = 0; ours = 0; theirs = negsuc 3 }
+    -- an estimate above the pc: the second of two anchors, for the pc 256
+    ∷ record { line-defined = 7; instructions = 258; deltas = 0x80 ∷ replicate 256 0x00 ++ 0x80 ∷ []; anchors = at 0 9 ∷ at 257 30 ∷ []; pc = 256; ours = 9; theirs = pos 30 }
+    ∷ []
+
+parted-ours : map (λ (c : Case). lineOf (c .instructions) (c .line-defined) (c .deltas) (c .anchors) (c .pc)) parted ≡ map (λ (c : Case). c .ours) parted
+unfolding parted
+parted-ours = refl
+
+parted-theirs : map (λ (c : Case). «luaG_getfuncline» (c .line-defined) (c .deltas) (c .anchors) (c .pc)) parted ≡ map (λ (c : Case). c .theirs) parted
+unfolding parted
+parted-theirs = refl
