@@ -1,18 +1,15 @@
 -- Where the anchors are as the compiler writes them, 01's line is ldebug.c's.
---     Rising           the anchors' pcs rise strictly
---     At               an anchor stands at a pc
 --     Compiled         the premises
 --     same-line        the theorem
 -- Assumes nothing.
 use mathlib.Core.Path.{_≡_, refl, sym, _∙_, ap}
 use mathlib.Core.Bool.{Bool, true, false}
 use mathlib.Core.List.{List, [], _∷_}
-use mathlib.Core.Option.{none}
-use mathlib.Core.Logic.{_⊎_, inl, ⊎-elim}
+use mathlib.Core.Option.{none, some}
 use Prim.Native.Nat.{ℕ, zero, suc, _+_, _-_, _/_, _≤_, _<_}
 use native.Mathlib.Omega.{arith}
-use borrow.Author.Tests.{leb-true, leb-false, le-leb, ltb-true, ltb-false, ne-eqb, eq-eqb, lt-ltb, le-ltb}
-use lib.Dec.{leb, ltb}
+use borrow.Author.Tests.{eqb-true, leb-true, leb-false, le-leb, ltb-true, ltb-false, ne-eqb, eq-eqb, lt-ltb, le-ltb}
+use lib.Dec.{eqb, leb, ltb}
 use lib.IntN.{ℤ, pos, _+ℤ_}
 use lib.ListN.{length, take, drop, getD, length-take}
 use lib.Seq.{getD-take}
@@ -24,82 +21,10 @@ use Rattle.format.specs.Form.{Bytes}
 use Rattle.format.proofs.Every.{All}
 use Rattle.entries.specs.Nth.{nth}
 use Rattle.lines.specs.Ldebug.{MAXIWTHABS, getbaseline, increments, «luaG_getfuncline»}
-use Rattle.lines.specs.Lines.{rule2, lineIf, baseOf, lineAt, walked, raised, byDeltas, orNext, lineOf}
+use Rattle.lines.specs.Lines.{lineIf, baseOf, lineAt, walked, raised, byDeltas, orNext, lineOf}
 use Rattle.lines.proofs.Fast.{from-head, from-none, next-is}
-use Rattle.lines.proofs.Tests.{picked, other, beyond}
-use Rattle.lines.proofs.Scans.{pick-both}
-
--- from n on
-abbrev pub RisingFrom : ℕ → List AbsLineInfo → Type 0
-RisingFrom n [] = Unit {0}
-RisingFrom n (a ∷ more) = (n ≤ a .pc) × RisingFrom (a .pc + 1) more
-
-abbrev pub Rising : List AbsLineInfo → Type 0
-Rising anchors = RisingFrom 0 anchors
-
-abbrev pub At : ℕ → List AbsLineInfo → Type 0
-At i [] = ⊥
-At i (a ∷ more) = (a .pc ≡ i) ⊎ At i more
-
--- ## Anchors that rise
-from-on : (n i : ℕ) (anchors : List AbsLineInfo) → RisingFrom n anchors → At i anchors → n ≤ i
-from-on n i [] r m = absurd m
-from-on n i (a ∷ more) r m = let h = r .0 in ⊎-elim (λ (e : a .pc ≡ i). omega arith) (λ (k : At i more). omega (arith, from-on (a .pc + 1) i more (r .1) k)) m
-
--- the base: the last anchor that is not above the pc
-module _ (pc : ℕ) where
-  -- no anchor stands behind it up to the pc
-  base-last : (a : AbsLineInfo) (more : List AbsLineInfo) → RisingFrom (a .pc + 1) more → (j : ℕ) → At j (a ∷ more) → j ≤ pc → j ≤ baseOf pc a more .pc
-  base-last a [] r j m h = ⊎-elim (λ (e : a .pc ≡ j). omega arith) (λ (n : ⊥). absurd n) m
-  base-last a (x ∷ more) r j m h = by (leb (x .pc) pc) refl (base-last x more (r .1))
-    where
-      by : (t : Bool) → leb (x .pc) pc ≡ t → ((j : ℕ) → At j (x ∷ more) → j ≤ pc → j ≤ baseOf pc x more .pc) → j ≤ pick t (baseOf pc x more) a .pc
-      by true t go =
-          let here = leb-true (x .pc) pc t in
-          let over = r .0 in
-          ⊎-elim (λ (e : a .pc ≡ j). omega (arith, go (x .pc) (inl refl) here)) (λ (k : At j (x ∷ more)). go j k h) m
-      by false t go =
-          let above = leb-false (x .pc) pc t in
-          ⊎-elim (λ (e : a .pc ≡ j). omega arith) (λ (k : At j (x ∷ more)). absurd (omega (arith, from-on (x .pc) j (x ∷ more) (omega arith, r .1) k))) m
-
-  base-within : (a : AbsLineInfo) (more : List AbsLineInfo) → a .pc ≤ pc → baseOf pc a more .pc ≤ pc
-  base-within a [] h = h
-  base-within a (x ∷ more) h = by (leb (x .pc) pc) refl (base-within x more)
-    where
-      by : (t : Bool) → leb (x .pc) pc ≡ t → (x .pc ≤ pc → baseOf pc x more .pc ≤ pc) → pick t (baseOf pc x more) a .pc ≤ pc
-      by true t go = go (leb-true (x .pc) pc t)
-      by false t go = h
-
-  base-all : (P : AbsLineInfo → Type 0) (a : AbsLineInfo) (more : List AbsLineInfo) → P a → All P more → P (baseOf pc a more)
-  base-all P a [] h all = h
-  base-all P a (x ∷ more) h all = pick-both P (leb (x .pc) pc) (base-all P x more (all .0) (all .1)) h
-
-  -- it is the first anchor at its pc
-  base-line : (a : AbsLineInfo) (more : List AbsLineInfo) → RisingFrom (a .pc + 1) more → (z : ℤ) → lineAt (baseOf pc a more .pc) (a ∷ more) z ≡ pos (baseOf pc a more .line)
-  base-line a [] r z = ap (λ t. pick t (pos (a .line)) z) (eq-eqb (a .pc) (a .pc) refl)
-  base-line a (x ∷ more) r z = by (leb (x .pc) pc) refl (base-line x more (r .1) z)
-    where
-      by : (t : Bool) → leb (x .pc) pc ≡ t → lineAt (baseOf pc x more .pc) (x ∷ more) z ≡ pos (baseOf pc x more .line)
-          → lineAt (pick t (baseOf pc x more) a .pc) (a ∷ x ∷ more) z ≡ pos (pick t (baseOf pc x more) a .line)
-      by true t go =
-          let over = r .0 in
-          let b = baseOf pc x more .pc in
-          let reached : x .pc ≤ b = base-last x more (r .1) (x .pc) (inl refl) (leb-true (x .pc) pc t) in
-          ap (λ u. pick u (pos (a .line)) (lineAt b (x ∷ more) z)) (ne-eqb (a .pc) b (λ e. omega arith)) ∙ go
-      by false t go = ap (λ u. pick u (pos (a .line)) (lineAt (a .pc) (x ∷ more) z)) (eq-eqb (a .pc) (a .pc) refl)
-
-  -- starting at an anchor that is not above the pc finds the same base
-  from-estimate : (d : AbsLineInfo) (k : ℕ) (a : AbsLineInfo) (more : List AbsLineInfo) → RisingFrom (a .pc + 1) more → k ≤ length more → getD (a ∷ more) k d .pc ≤ pc
-      → baseOf pc a more ≡ baseOf pc (getD (a ∷ more) k d) (drop k more)
-  from-estimate d zero a more r h low = refl
-  from-estimate d (suc k) a [] r h low = absurd (omega arith)
-  from-estimate d (suc k) a (x ∷ more) r h low =
-      ap (λ t. pick t (baseOf pc x more) a) (le-leb (x .pc) pc (omega (arith, head-low k x more (r .1) (omega arith)))) ∙ from-estimate d k x more (r .1) (omega arith) low
-    where
-      head-low : (k : ℕ) (x : AbsLineInfo) (more : List AbsLineInfo) → RisingFrom (x .pc + 1) more → k ≤ length more → x .pc ≤ getD (x ∷ more) k d .pc
-      head-low zero x more r h = omega arith
-      head-low (suc k) x [] r h = absurd (omega arith)
-      head-low (suc k) x (y ∷ more) r h = let over = r .0 in omega (arith, head-low k y more (r .1) (omega arith))
+use Rattle.lines.proofs.Rising.{RisingFrom, Rising, At, from-on, base-last, base-within, base-all, base-line, from-estimate, Numbered, numbered}
+use Rattle.lines.proofs.Tests.{picked, other, beyond, drop-beyond}
 
 -- ## The sum
 -- the deltas up to the pc
@@ -140,8 +65,6 @@ pub record Compiled (instructions : ℕ) (deltas : Bytes) (anchors : List AbsLin
   -- each instruction has a delta, and there is one at the pc
   pub one-each : length deltas ≡ instructions
   pub there : pc < instructions
-  -- rule 2 is not for these anchors
-  pub not-numbered : length anchors ≡ instructions → ⊥
   -- what `getbaseline` asserts: the estimate, where it is not −1, is an anchor that is not above the pc
   pub estimate : (i : ℕ) (d : AbsLineInfo) → pc / MAXIWTHABS ≡ suc i → (i < length anchors) × (getD anchors i d .pc ≤ pc)
 
@@ -207,16 +130,51 @@ module _ (line-defined instructions : ℕ) (deltas : Bytes) (anchors : List AbsL
   by-base [] e = plain anchors cut cut 0 (pos line-defined) refl (quiet 0 (λ j _ _ m. rw e at m))
   by-base (a ∷ more) e = both a more e
 
-  pub same-line : lineOf instructions line-defined deltas anchors pc ≡ raised («luaG_getfuncline» line-defined deltas anchors pc)
-  same-line = by deltas refl
+  -- ## As many anchors as instructions
+  below-all : (xs : List AbsLineInfo) → All (λ a. getD deltas (a .pc) 0 ≡ 128) xs → All (λ a. a .pc < instructions) xs
+  below-all [] h = tt
+  below-all (x ∷ xs) h = (inside (ltb (x .pc) instructions) refl, below-all xs (h .1))
     where
-      third : rule2 instructions anchors pc ≡ none
-      third = sym (other (lineIf (nth pc anchors)) none (ne-eqb (length anchors) instructions (c .not-numbered)))
+      inside : (t : Bool) → ltb (x .pc) instructions ≡ t → x .pc < instructions
+      inside true t = ltb-true (x .pc) instructions t
+      inside false t = absurd (let out = ltb-false (x .pc) instructions t in let size = c .one-each in let is = h .0 in omega (arith, beyond deltas (x .pc) (omega arith)))
 
-      by : (ds : Bytes) → deltas ≡ ds → lineOf instructions line-defined ds anchors pc ≡ raised («luaG_getfuncline» line-defined ds anchors pc)
-      by [] e = absurd (let size = ap length e in let one = c .one-each in let some = c .there in omega arith)
-      by (d ∷ ds) e =
-          ap (λ o. orNext o (byDeltas (baseOf pc start anchors) (d ∷ ds) anchors pc)) third
+  module _ (full : length anchors ≡ instructions) where
+    number : (z : ℤ) → Numbered (0 + pc) pc anchors z
+    number z = let inside = c .there in numbered 0 instructions anchors (c .rising) (below-all anchors (c .marked)) (omega arith) pc (omega arith) z
+
+    all-numbered : (xs : List AbsLineInfo) → anchors ≡ xs → lineIf (nth pc anchors) ≡ some (raised (theirs (getbaseline line-defined pc xs)))
+    all-numbered [] e = absurd (let size = ap length e in let inside = c .there in omega arith)
+    all-numbered (a ∷ more) e =
+        let b = base a more e in
+        let x = number (pos (b .line)) in
+        let zero-plus : 0 + pc ≡ pc = omega arith in
+        let there : At pc (a ∷ more) = rw (e, zero-plus) at (x .there) in
+        let up = rising a more e .1 in
+        let begun : a .pc ≤ pc = from-on (a .pc) pc (a ∷ more) (omega arith, up) there in
+        let least = base-last pc a more up pc there (omega arith) in
+        let most = base-within pc a more begun in
+        let at-pc : b .pc ≡ pc = omega arith in
+        let line : pos (x .line) ≡ pos (b .line) = sym (x .first) ∙ ap (λ n. lineAt n anchors (pos (b .line))) (zero-plus ∙ sym at-pc) ∙ ap (λ xs. lineAt (b .pc) xs (pos (b .line))) e ∙ base-line pc a more up (pos (b .line)) in
+        let short : length cut ≤ b .pc + 1 = simp length-take (omega arith) in
+        let sum : theirs (getbaseline line-defined pc (a ∷ more)) ≡ pos (b .line) =
+        sym (both a more e)
+        ∙ ap (λ t. ours (pick t b start)) (le-leb (a .pc) pc begun)
+        ∙ behind a more e begun
+        ∙ ap (increments (pos (b .line))) (drop-beyond cut (b .pc + 1) short) in
+        x .is ∙ ap (λ y. some (raised y)) (line ∙ sym sum)
+
+  -- ## The theorem
+  pub same-line : lineOf instructions line-defined deltas anchors pc ≡ raised («luaG_getfuncline» line-defined deltas anchors pc)
+  same-line = by deltas refl (eqb (length anchors) instructions) refl
+    where
+      by : (ds : Bytes) → deltas ≡ ds → (t : Bool) → eqb (length anchors) instructions ≡ t → lineOf instructions line-defined ds anchors pc ≡ raised («luaG_getfuncline» line-defined ds anchors pc)
+      by [] e t is = absurd (let size = ap length e in let one = c .one-each in let some = c .there in omega arith)
+      by (d ∷ ds) e true is =
+          ap (λ o. orNext o (byDeltas (baseOf pc start anchors) (d ∷ ds) anchors pc)) (sym (picked (lineIf (nth pc anchors)) none is) ∙ all-numbered (eqb-true (length anchors) instructions is) anchors refl)
+          ∙ ap (λ ds. raised (increments (pos (getbaseline line-defined pc anchors .line)) (drop (getbaseline line-defined pc anchors .pc) (take (pc + 1) ds)))) e
+      by (d ∷ ds) e false is =
+          ap (λ o. orNext o (byDeltas (baseOf pc start anchors) (d ∷ ds) anchors pc)) (sym (other (lineIf (nth pc anchors)) none is))
           ∙ ap (λ ds. raised (walked anchors (baseOf pc start anchors .pc) (pos (baseOf pc start anchors .line)) (drop (baseOf pc start anchors .pc) (take (pc + 1) ds)))) (sym e)
           ∙ ap raised (by-base anchors refl)
           ∙ ap (λ ds. raised (increments (pos (getbaseline line-defined pc anchors .line)) (drop (getbaseline line-defined pc anchors .pc) (take (pc + 1) ds)))) e

@@ -1,15 +1,19 @@
 -- Where 01's line and ldebug.c's part: the smallest input of each way, with both lines, and one theorem over the list, which antt computes.
--- Each breaks one premise of `Compiled` (Ldebug.antt), or the line would be below 0.
+-- Each breaks a premise of `Compiled` (Ldebug.antt), or the line would be below 0. Last a function that meets them all.
 -- Assumes nothing.
 use mathlib.Core.Path.{_≡_, refl}
 use mathlib.Core.List.{List, [], _∷_, _++_, map}
-use Prim.Native.Nat.{ℕ}
+use mathlib.Core.Logic.{inl}
+use Prim.Native.Nat.{ℕ, zero, suc, _<_}
+use native.Mathlib.Omega.{arith}
 use lib.IntN.{ℤ, pos, negsuc}
-use lib.ListN.{replicate}
+use lib.ListN.{replicate, getD}
 use Rattle.format.specs.declared.entry.AbsLineInfo.{AbsLineInfo}
 use Rattle.format.specs.Form.{Bytes}
 use Rattle.lines.specs.Ldebug.{«luaG_getfuncline»}
-use Rattle.lines.specs.Lines.{lineOf}
+use Rattle.lines.specs.Lines.{raised, lineOf}
+use Rattle.lines.proofs.Ldebug.{Compiled, same-line}
+use Rattle.lines.proofs.Rising.{At}
 
 record Case : Type 0 where
   line-defined : ℕ
@@ -51,3 +55,30 @@ parted-ours = refl
 parted-theirs : map (λ (c : Case). «luaG_getfuncline» (c .line-defined) (c .deltas) (c .anchors) (c .pc)) parted ≡ map (λ (c : Case). c .theirs) parted
 unfolding parted
 parted-theirs = refl
+
+-- ## A function that meets the premises: 01's, at each pc that has an instruction
+five : Bytes
+five = 0x01 ∷ 0x00 ∷ 0x02 ∷ 0x80 ∷ 0x01 ∷ []
+
+only : (i : ℕ) → getD five i 0 ≡ 128 → At i (at 3 200 ∷ [])
+unfolding five
+only zero e = absurd (omega arith)
+only (suc zero) e = absurd (omega arith)
+only (suc (suc zero)) e = absurd (omega arith)
+only (suc (suc (suc zero))) e = inl refl
+only (suc (suc (suc (suc zero)))) e = absurd (omega arith)
+only (suc (suc (suc (suc (suc i))))) e = absurd (omega arith)
+
+compiled : (pc : ℕ) → pc < 5 → Compiled 5 five (at 3 200 ∷ []) pc
+unfolding five
+compiled pc h = record {
+  rising = (omega arith, tt);
+  marked = (refl, tt);
+  only = only;
+  one-each = refl;
+  there = h;
+  estimate = λ i d e. absurd (omega arith);
+}
+
+five-same : (pc : ℕ) → pc < 5 → lineOf 5 10 five (at 3 200 ∷ []) pc ≡ raised («luaG_getfuncline» 10 five (at 3 200 ∷ []) pc)
+five-same pc h = same-line 10 5 five (at 3 200 ∷ []) pc (compiled pc h)

@@ -8,5 +8,6 @@ pub mod Sums
 pub mod Rules
 pub mod Rows
 pub mod Asked
+pub mod Rising
 pub mod Ldebug
 pub mod LdebugCases

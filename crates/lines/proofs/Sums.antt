@@ -3,7 +3,7 @@
 use mathlib.Core.Path.{_≡_, refl, sym, _∙_, ap, ap₂}
 use mathlib.Core.Bool.{true, false, true≢false}
 use mathlib.Core.List.{[], _∷_}
-use Prim.Native.Nat.{ℕ, zero, suc, _+_, _-_, _*_, _^_, _≤_, _<_}
+use Prim.Native.Nat.{ℕ, suc, _+_, _-_, _*_, _^_, _≤_, _<_}
 use native.Mathlib.Omega.{arith}
 use native.Mathlib.Numerals.{add-one}
 use borrow.Author.Tests.{ltb-true, le-ltb, eq-eqb, ne-eqb}
@@ -20,7 +20,7 @@ use Rattle.lines.specs.declared.anchors.Scan.{Scan}
 use Rattle.lines.specs.Lines.{raised}
 use Rattle.lines.specs.Scan.{added, summed, startIn, lineFrom}
 use Rattle.lines.proofs.Range.{plus-delta, mag-added}
-use Rattle.lines.proofs.Tests.{picked, other}
+use Rattle.lines.proofs.Tests.{picked, other, drop-beyond}
 
 -- ## add_delta
 module _ (line : ℤ) (fits : SFits w64 line) (d : ℕ) where
@@ -53,13 +53,7 @@ module _ (ds : Bytes) (i : ℕ) (line : ℤ) where
   one-added h = rw (add-one, drop-cons ds i 0 h)
 
   pub none-left : length ds ≤ i → summed line (drop i ds) ≡ line
-  none-left h = ap (summed line) (beyond ds i h)
-    where
-      beyond : (ds : Bytes) (i : ℕ) → length ds ≤ i → drop i ds ≡ []
-      beyond [] zero h = refl
-      beyond [] (suc i) h = refl
-      beyond (d ∷ ds) zero h = absurd (omega arith)
-      beyond (d ∷ ds) (suc i) h = beyond ds i (omega arith)
+  none-left h = ap (summed line) (drop-beyond ds i h)
 
 -- one turn: the line r behind the delta at i
 pub turn : {whole : ℤ} (ds : Bytes) (i : ℕ) (line : ℤ) → whole ≡ summed line (drop i ds) → mag line ≤ 2 ^ 62 + 128 * i → {r : ℤ} → r ≡ added line (getD ds i 0) → i < length ds → length ds ≤ 16777216

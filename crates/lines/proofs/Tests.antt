@@ -6,7 +6,7 @@ use mathlib.Core.List.{[], _∷_}
 use Prim.Native.Nat.{ℕ, zero, suc, _+_, _≤_, _<_}
 use native.Mathlib.Omega.{arith}
 use borrow.Author.Tests.{lt-ltb, le-ltb, eq-eqb, ne-eqb}
-use lib.ListN.{length, getD}
+use lib.ListN.{length, drop, getD}
 use Rattle.format.specs.Pick.{pick}
 use Rattle.format.specs.declared.entry.AbsLineInfo.{AbsLineInfo}
 use Rattle.format.specs.Form.{Bytes}
@@ -19,12 +19,19 @@ picked a b e = sym (ap (λ t. pick t a b) e)
 pub other : {A : Type 0} {t : Bool} (a b : A) → t ≡ false → b ≡ pick t a b
 other a b e = sym (ap (λ t. pick t a b) e)
 
--- ## reset_by
+-- ## Beyond the deltas
 pub beyond : (ds : Bytes) (i : ℕ) → length ds ≤ i → getD ds i 0 ≡ 0
 beyond [] i h = refl
 beyond (d ∷ ds) zero h = absurd (omega arith)
 beyond (d ∷ ds) (suc i) h = beyond ds i (omega arith)
 
+pub drop-beyond : (ds : Bytes) (i : ℕ) → length ds ≤ i → drop i ds ≡ []
+drop-beyond [] zero h = refl
+drop-beyond [] (suc i) h = refl
+drop-beyond (d ∷ ds) zero h = absurd (omega arith)
+drop-beyond (d ∷ ds) (suc i) h = drop-beyond ds i (omega arith)
+
+-- ## reset_by
 module _ (ds : Bytes) (r a : AbsLineInfo) where
   abbrev moved : AbsLineInfo
   moved = record { pc = a .pc + 1; line = a .line }

@@ -2,7 +2,7 @@
 -- Beside `luaG_getfuncline` of ldebug.c (specs/Ldebug.antt):
 --     without line information the line is 0; there −1
 --     the delta at the base itself is added too; there adding starts just behind it
---     a delta of −128 takes the line of an anchor at its pc, and without one leaves the line; there it is never met
+--     a delta of −128 takes the line of an anchor at its pc, and without one leaves the line; there an assertion says that it is not met
 --     as many anchors as instructions are taken one for each; there they are as any others
 use mathlib.Core.Bool.{Bool, true}
 use mathlib.Core.List.{List, [], _∷_}
