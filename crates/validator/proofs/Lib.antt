@@ -5,3 +5,4 @@ pub mod Laws
 pub mod Few
 pub mod Counting
 pub mod Whole
+pub mod Chunk

@@ -4,3 +4,4 @@ pub mod Findings
 pub mod Rust
 pub mod Position
 pub mod Totals
+pub mod Answers

@@ -4,3 +4,4 @@ pub mod judge;
 pub mod scan;
 pub mod search;
 pub mod tally;
+pub mod verdict;
