@@ -64,13 +64,13 @@ one-warning place format = by (eqb format 0)
     by true = refl
     by false = refl
 
-abbrev AtMostOne : Headed → Type 0
+abbrev pub AtMostOne : Headed → Type 0
 AtMostOne h = h .warnings ≡ listOf (firstWarning (h .warnings))
 
 every-header : Every Header AtMostOne
 every-header = every-then any λ _ _. every-then any λ place _. every-then any λ format _. every-then any λ _ _. every-is (one-warning place format)
 
-every-main : (L : ResourceLimits) → Every (Main L) (λ m. AtMostOne (m .headed))
+pub every-main : (L : ResourceLimits) → Every (Main L) (λ m. AtMostOne (m .headed))
 every-main L = every-then every-header λ headed p. every-then any λ _ _. every-then any λ _ _. every-is p
 
 -- ## The whole

@@ -42,6 +42,7 @@ use Rattle.decode.specs.declared.summary.Decoded.{Decoded}
 use Rattle.decode.specs.declared.summary.DecodedResult.the-variants as decoded
 use Rattle.decode.specs.Decoded.{shownOutcome, shownReading}
 use Rattle.decode.proofs.Summaries.{in-ceilings}
+use Rattle.decode.proofs.MainAt.{WasShown, was-shown, First, first-of, MainAt, main-at}
 use Rattle.index.specs.declared.IndexAnswer.the-variants as answer
 use Rattle.index.specs.Index.{index, shownIndex, indexWritten}
 use Rattle.lent.specs.Splice.{splice}
@@ -56,16 +57,6 @@ index-length (p ∷ ps) = let more = index-length ps in omega arith
 pub refused-index : (old : List ℕ) (o : Outcome) (q : Refusal) → decoded.Err q ≡ shownOutcome 0 o → (answer.Err q ≡ shownIndex (length old) o) × (old ≡ indexWritten old o)
 refused-index old (shown r) q e = absurd (let z : _≡_ {A = ℕ} 0 1 = cc in omega arith)
 refused-index old (refusal p) q e = (let same : q ≡ p = cc in ap answer.Err same, refl)
-
--- what the first pass showed is of a reading
-record WasShown (o : Outcome) (d : Decoded) : Type 0 where
-  value : Reading
-  is : o ≡ shown value
-  shows : d ≡ shownReading 0 value
-
-was-shown : (o : Outcome) (d : Decoded) → decoded.Ok d ≡ shownOutcome 0 o → WasShown o d
-was-shown (shown r) d e = record { value = r; is = refl; shows = cc }
-was-shown (refusal q) d e = absurd (let z : _≡_ {A = ℕ} 0 1 = cc in omega arith)
 
 -- 12 numbers for each function have room where a twelfth of the space is at least the number of functions
 short-space : (space n : ℕ) → space / 12 < n → space < 12 * n
@@ -106,64 +97,6 @@ module _ (old : List ℕ) (o : Outcome) (d : Decoded) (e : decoded.Ok d ≡ show
         let enough = fits in
         let both = by-test true (le-leb (length (index functions)) (length old) (omega arith)) in
         (ap answer.Ok count ∙ sym (both .0), e ∙ sym (both .1))
-
--- ## Where main stands
--- a function is the first of those that are read with it, and begins where they do
-record First (at : ℕ) (ps : List Prototype) : Type 0 where
-  this : Prototype
-  those : List Prototype
-  all : ps ≡ this ∷ those
-  begins : this .start ≡ at
-
-first-of : (L : ResourceLimits) (n at : ℕ) (s : Bytes) {ps : List Prototype} {to : ℕ} {rest : Bytes} → function L n outermost at (drop at s) ≡ ok ps to rest → First at ps
-first-of L n at s {ps} {to} {rest} e = one (head L 0 at (drop at s)) (sym (by-parts s L n 0 (shownWhere outermost) outermost refl at) ∙ e)
-  where
-    ended : Head → List Prototype → Tail → Reader (List Prototype)
-    ended h nested t end = give (prototypeOf outermost at h t end ∷ nested) end
-
-    three : (h : Head) (nested : List Prototype) (o : Read Tail) → next o (ended h nested) ≡ ok ps to rest → First at ps
-    three h nested (refused q) e = absurd (never e)
-    three h nested (ok t end behind) e =
-        let same : ps ≡ prototypeOf outermost at h t end ∷ nested = cc in
-        record { this = prototypeOf outermost at h t end; those = nested; all = same; begins = refl }
-
-    two : (h : Head) (o : Read (List Prototype)) → next o (λ nested c d. next (tail (L .«max_string_bytes») c d) (ended h nested)) ≡ ok ps to rest → First at ps
-    two h (refused q) e = absurd (never e)
-    two h (ok nested c d) e = three h nested (tail (L .«max_string_bytes») c d) e
-
-    one : (o : Read Head) → next o (λ h a b. next (forest (h .protos .count) (entered L n) (inside outermost h) a b) (λ nested c d. next (tail (L .«max_string_bytes») c d) (ended h nested))) ≡ ok ps to rest → First at ps
-    one (refused q) e = absurd (never e)
-    one (ok h a b) e = two h (forest (h .protos .count) (entered L n) (inside outermost h) a b) e
-
-record MainAt (L : ResourceLimits) (s : Bytes) (ps : List Prototype) : Type 0 where
-  at : ℕ
-  to : ℕ
-  rest : Bytes
-  reads : function L (L .«max_nesting_depth») outermost at (drop at s) ≡ ok ps to rest
-
-main-at : (L : ResourceLimits) (s : Bytes) {m : Loaded} {to : ℕ} {rest : Bytes} → main L 0 s ≡ ok m to rest → MainAt L s (m .functions)
-main-at L s {m} {to} {rest} e = one (header 0 s) refl e
-  where
-    loaded : Headed → List Prototype → Reader Loaded
-    loaded headed functions = give (record { headed = headed; functions = functions })
-
-    three : (headed : Headed) (at : ℕ) (o : Read (List Prototype)) → function L (L .«max_nesting_depth») outermost at (drop at s) ≡ o → next o (loaded headed) ≡ ok m to rest → MainAt L s (m .functions)
-    three headed at (refused q) is e = absurd (never e)
-    three headed at (ok functions end behind) is e =
-        let whole : record { headed = headed; functions = functions } ≡ m = cc in
-        record { at = at; to = end; rest = behind; reads = is ∙ ap (λ l. ok (l .functions) end behind) whole }
-
-    two : (headed : Headed) (at : ℕ) (o : Read ℕ) → byte at (drop at s) ≡ o → next o (λ forgotten a b. next (function L (L .«max_nesting_depth») outermost a b) (loaded headed)) ≡ ok m to rest → MainAt L s (m .functions)
-    two headed at (refused q) is e = absurd (never e)
-    two headed at (ok forgotten a b) is e =
-        let here : b ≡ drop a s = left (exact-field 1) s at is in
-        three headed a (function L (L .«max_nesting_depth») outermost a (drop a s)) refl (rw here at e)
-
-    one : (o : Read Headed) → header 0 s ≡ o → next o (λ headed a b. next (byte a b) (λ forgotten a b. next (function L (L .«max_nesting_depth») outermost a b) (loaded headed))) ≡ ok m to rest → MainAt L s (m .functions)
-    one (refused q) is e = absurd (never e)
-    one (ok headed a b) is e =
-        let here : b ≡ drop a s = left exact-header s 0 is in
-        two headed a (byte a (drop a s)) refl (rw here at e)
 
 -- ## The second pass
 both : (b c : Bool) → b && c ≡ true → (b ≡ true) × (c ≡ true)

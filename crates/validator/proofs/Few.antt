@@ -1,0 +1,102 @@
+-- There are at most as many findings as the maximum and one more: an instruction has at most two.
+-- Assumes nothing.
+use mathlib.Core.Path.{_≡_, refl}
+use mathlib.Core.Bool.{Bool, true, false}
+use mathlib.Core.List.{List, [], _∷_, _++_}
+use mathlib.Core.Option.{Option, none, some}
+use Prim.Native.Nat.{ℕ, zero, suc, _+_, _-_, _≤_, _<_}
+use native.Mathlib.Omega.{arith}
+use lib.ListN.{length, length-append}
+use lib.Dec.{leb}
+use borrow.Author.Tests.{leb-true, leb-false, le-leb}
+use Rattle.format.specs.Pick.{pick}
+use Rattle.format.specs.declared.limits.ResourceLimits.{ResourceLimits}
+use Rattle.format.specs.Form.{Bytes}
+use Rattle.format.proofs.Every.{All, all-append}
+use Rattle.opcodes.specs.declared.opcode.OptionOpcode54.{OptionOpcode54}
+use Rattle.opcodes.specs.declared.opcode.OptionOpcode54.the-variants as option
+use Rattle.instructions.specs.declared.instruction.RawInstruction54.{RawInstruction54}
+use Rattle.instructions.specs.Word.{decoded}
+use Rattle.functions.specs.declared.Row.{Row}
+use Rattle.functions.specs.Rows.{rowsFrom}
+use Rattle.validator.specs.declared.finding.Rule.{Rule}
+use Rattle.validator.specs.declared.finding.Finding.{Finding}
+use Rattle.validator.specs.declared.finding.Bounds.{Bounds}
+use Rattle.validator.specs.declared.scan.Code.{Code}
+use Rattle.validator.specs.Rules.{registerRule, operandRule, checkOf, ifAny, rules, at, instruction}
+use Rattle.validator.specs.Findings.{codeGroups, Listing, ended, prepend, limited}
+use Rattle.validator.specs.declared.finding.OptionFinding.{OptionFinding}
+use Rattle.validator.specs.declared.finding.OptionFinding.the-variants as finding
+use Rattle.validator.specs.declared.search.Position.{Position}
+use Rattle.validator.specs.Judged.{listed}
+use Rattle.validator.specs.Position.{wordsAt, codeLeft, rowBounds, nextNumber, rowGroups, groupsLeft, goesOn, outOf}
+
+abbrev pub Few : List Finding → Type 0
+Few g = length g ≤ 2
+
+as-many : (k pc : ℕ) (rs : List Rule) → length (at k pc rs) ≡ length rs
+as-many k pc [] = refl
+as-many k pc (r ∷ rs) = rw (as-many k pc rs)
+
+two : (a b : Option Rule) → length (ifAny a ++ ifAny b) ≤ 2
+two none none = omega arith
+two none (some y) = omega arith
+two (some x) none = omega arith
+two (some x) (some y) = omega arith
+
+few-rules : (o : OptionOpcode54) (r : RawInstruction54) (b : Bounds) (pc : ℕ) → length (rules o r b pc) ≤ 2
+few-rules option.None r b pc = omega arith
+few-rules (option.Some o) r b pc = two (registerRule o (r .a) (b .maxstacksize)) (operandRule (checkOf o) r b pc)
+
+few-findings : (k : ℕ) (b : Bounds) (pc word : ℕ) → Few (instruction k b pc word)
+unfolding instruction
+few-findings k b pc word = rw (as-many k pc (rules (decoded word .opcode) (decoded word) b pc)) (few-rules (decoded word .opcode) (decoded word) b pc)
+
+few-code : (k : ℕ) (b : Bounds) (words : List ℕ) (pc : ℕ) → All Few (codeGroups k b words pc)
+unfolding codeGroups
+few-code k b [] pc = tt
+few-code k b (word ∷ words) pc = (few-findings k b pc word, few-code k b words (pc + 1))
+
+few-rows : (s : Bytes) (k : ℕ) (rows : List Row) → All Few (rowGroups s k rows)
+unfolding rowGroups
+few-rows s k [] = tt
+few-rows s k (row ∷ rows) = (omega arith, all-append Few (codeGroups k (rowBounds row) (wordsAt s (row .instructions .count) (row .instructions .place)) 0) (rowGroups s (nextNumber k) rows) (few-code k (rowBounds row) _ 0) (few-rows s (nextNumber k) rows))
+
+pub few-left : (s : Bytes) (c : Code) (k : ℕ) (rows : List Row) → All Few (codeLeft s c ++ rowGroups s k rows)
+unfolding codeLeft
+few-left s c k rows = all-append Few (codeGroups (c .function) (c .bounds) (wordsAt s (c .bounds .instructions - c .pc) (c .place .at)) (c .pc)) (rowGroups s k rows) (few-code (c .function) (c .bounds) _ (c .pc)) (few-rows s k rows)
+
+up-to : (max n : ℕ) (gs : List (List Finding)) → All Few gs → n ≤ max + 1 → length (limited max n gs .findings) + n ≤ max + 1
+unfolding limited
+up-to max n [] few h = omega arith
+up-to max n (g ∷ gs) few h = go (leb max n) refl (up-to max (n + length g) gs (few .1))
+  where
+    go : (b : Bool) → leb max n ≡ b → (n + length g ≤ max + 1 → length (limited max (n + length g) gs .findings) + (n + length g) ≤ max + 1)
+        → length (pick b (ended true) (prepend g (limited max (n + length g) gs)) .findings) + n ≤ max + 1
+    go true e more = omega arith
+    go false e more =
+        let small = few .0 in
+        let room = leb-false max n e in
+        let rest = more (omega arith) in
+        omega (arith, length-append g (limited max (n + length g) gs .findings))
+
+pub at-most : (max n : ℕ) (gs : List (List Finding)) → All Few gs → length (limited max n gs .findings) ≤ max + 1
+unfolding limited
+at-most max n gs few = go (leb n (max + 1)) refl gs few
+  where
+    go : (b : Bool) → leb n (max + 1) ≡ b → (gs : List (List Finding)) → All Few gs → length (limited max n gs .findings) ≤ max + 1
+    go true e gs few = omega (arith, up-to max n gs few (leb-true n (max + 1) e))
+    go false e [] few = omega arith
+    go false e (g ∷ gs) few = let more = leb-false n (max + 1) e in rw (le-leb max n (omega arith)) (omega arith)
+
+listed-one : (w : OptionFinding) → length (listed w) ≤ 1
+listed-one finding.None = omega arith
+listed-one (finding.Some f) = omega arith
+
+-- for whatever position
+pub few-out : (L : ResourceLimits) (s : Bytes) (max : ℕ) (p : Position) → length (outOf L s max p .findings) ≤ max + 2
+unfolding outOf
+few-out L s max p =
+    let one = listed-one (p .waiting) in
+    let rest = at-most max (p .found) (groupsLeft L s p) (few-left s (p .code) (p .number) (rowsFrom L s (p .left) (p .depth) (p .at .at))) in
+    omega (arith, length-append (listed (p .waiting)) (goesOn L s max p .findings))

@@ -1,0 +1,8 @@
+pub mod Targets
+pub mod Judging
+pub mod RustLaws
+pub mod Laws
+pub mod Few
+pub mod Counting
+pub mod Whole
+pub mod Chunk

@@ -1,0 +1,20 @@
+-- `validator::search::advance` meets its contract: what waits; or there are enough; or the next. Assumes nothing.
+use borrow.Author.Needs.{needs}
+use Rattle.validator.specs.Position.{outOf}
+use Rattle.validator.proofs.Laws.{limited-full}
+use Rattle.validator.proofs.search.advance.Statement.{statement}
+use Rattle.validator.proofs.search.advance.Tie as tie
+
+pub advance-spec : {M : Type 1} → statement M
+unfolding outOf
+advance-spec =
+    tie.close
+    (tie.spec
+    (λ c. search needs)
+    (λ c. search needs)
+    (λ c κs. search needs)
+    (λ c κs. search needs)
+    (λ c. rw (c .before .before .before .before .enum-told .given .1, limited-full _ _ _ (c .before .before .if1 .taken), c .before .stops .ensures))
+    (λ c κs. search needs)
+    (λ c. rw (c .before .before .before .before .waiting .given .1))
+    (λ c. rw (c .before .before .before .enum-told .given .1) (c .search .ensures)))

@@ -1,0 +1,19 @@
+-- What is counted of a listing, and the verdict on that.
+use mathlib.Core.Bool.{Bool, true, false, _||_}
+use Prim.Native.Nat.{ℕ, _+_}
+use lib.ListN.{length}
+use Rattle.format.specs.Pick.{pick}
+use Rattle.validator.specs.declared.finding.Verdict.{Verdict}
+use Rattle.validator.specs.declared.finding.Verdict.the-variants.{ValidForAnalysis, Invalid, Incomplete}
+use Rattle.validator.specs.declared.tally.Totals.{Totals}
+use Rattle.validator.specs.Findings.{Listing, anyError}
+
+-- behind so many findings, and an error or none
+abbrev pub andTally : ℕ → Bool → Listing → Totals
+andTally n errors l = record { count = n + length (l .findings); errors = errors || anyError (l .findings); stopped = l .stopped }
+
+abbrev pub tallied : Listing → Totals
+tallied l = record { count = length (l .findings); errors = anyError (l .findings); stopped = l .stopped }
+
+abbrev pub verdictShown : Totals → Verdict
+verdictShown t = pick (t .errors) Invalid (pick (t .stopped) Incomplete ValidForAnalysis)

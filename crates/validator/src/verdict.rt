@@ -1,0 +1,103 @@
+// The verdict on a chunk, and how many findings there are.
+ghost use mathlib.Core.Path.{_≡_};
+ghost use Prim.Native.Nat.{_<_};
+ghost use Rattle.format.specs.ReadChunk as format;
+ghost use Rattle.validator.specs.Answers.{keptCount, shownTotals, shownVerdict, shownCount};
+use crate::finding::Verdict;
+use crate::tally::Totals;
+use crate::tally::tally;
+use crate::tally::verdict_of;
+use chunk::row::OptionRow;
+use decode::summary::DecodedResult;
+use decode::summary::Warnings;
+use decode::summary::decode_chunk_lua54;
+use format::limits::ResourceLimits;
+use format::refusal::Refusal;
+use header::OptionWarning;
+use reader::cursor::Cursor;
+
+pub enum TotalsResult {
+    Ok(Totals),
+    Err(Refusal),
+}
+
+pub enum VerdictAnswer {
+    Ok(Verdict),
+    Err(Refusal),
+}
+
+pub enum CountAnswer {
+    Ok(u64),
+    Err(Refusal),
+}
+
+// How many of a reading's warnings were kept.
+fn kept_count(w: Warnings) -> u64
+    ensures { λ r. ⌜ r ≡ keptCount w ⌝ }
+{
+    let second = w.second;
+    match second {
+        OptionWarning::Some(_) => 2,
+        OptionWarning::None => {
+            let first = w.first;
+            match first {
+                OptionWarning::Some(_) => 1,
+                OptionWarning::None => 0,
+            }
+        }
+    }
+}
+
+// A number of functions, and that it is one of 64 bits.
+fn number(n: usize) -> usize
+    ensures { λ r. ⌜ (r ≡ n) × (n < 18446744073709551616) ⌝ }
+{
+    n
+}
+
+// All findings of a chunk, counted. The first pass judges, the second searches. Ruled out: dropped warnings that count.
+pub fn chunk_totals(s: &[u8], limits: ResourceLimits) -> TotalsResult
+    ensures { λ r. ⌜ r ≡ shownTotals (format.read limits (now (s .entry))) ⌝ }
+{
+    let decoded = decode_chunk_lua54(s, limits, 0);
+    match decoded {
+        DecodedResult::Err(refusal) => TotalsResult::Err(refusal),
+        DecodedResult::Ok(chunk) => {
+            let warnings = chunk.summary.warnings;
+            let kept = kept_count(warnings);
+            number(chunk.summary.functions);
+            let main = chunk.row;
+            match main {
+                // Never: a chunk that is read has main.
+                OptionRow::None => TotalsResult::Err(Refusal::NoFunction),
+                OptionRow::Some(row) => {
+                    let place = Cursor { at: row.start };
+                    let totals = tally(s, limits, 10000, place, kept);
+                    TotalsResult::Ok(totals)
+                }
+            }
+        }
+    }
+}
+
+// The verdict alone. Ruled out: incomplete at the first finding, valid for analysis where an error was found.
+pub fn chunk_verdict(s: &[u8], limits: ResourceLimits) -> VerdictAnswer
+    ensures { λ r. ⌜ r ≡ shownVerdict (format.read limits (now (s .entry))) ⌝ }
+{
+    let found = chunk_totals(s, limits);
+    match found {
+        TotalsResult::Err(refusal) => VerdictAnswer::Err(refusal),
+        TotalsResult::Ok(totals) => VerdictAnswer::Ok(verdict_of(totals)),
+    }
+}
+
+// The number of findings. Ruled out: the reading's warnings counted with them.
+pub fn finding_count(s: &[u8], limits: ResourceLimits) -> CountAnswer
+    ensures { λ r. ⌜ r ≡ shownCount (format.read limits (now (s .entry))) ⌝ }
+{
+    let found = chunk_totals(s, limits);
+    match found {
+        TotalsResult::Err(refusal) => CountAnswer::Err(refusal),
+        TotalsResult::Ok(totals) => CountAnswer::Ok(totals.count),
+    }
+}
