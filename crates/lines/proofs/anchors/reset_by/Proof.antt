@@ -11,7 +11,15 @@ reset-by-spec =
     (tie.spec
     (λ c. let a = c .before .args in reset-beyond (a .deltas .now) (a .reset) (a .anchor) (c .if1 .taken))
     (λ c. search needs)
-    (λ c. let a = c .before .before .before .args in reset-other (a .deltas .now) (a .reset) (a .anchor) (c .if2 .taken))
+    (λ c. let a = c .before .before .before .args in let t = c .if2 .taken in reset-other (a .deltas .now) (a .reset) (a .anchor) (λ e. omega arith))
     (λ c. search needs)
-    (λ c. let a = c .before .before .before .before .before .args in let t = c .if3 .taken in reset-before (a .deltas .now) (a .reset) (a .anchor) (c .before .before .if2 .left) (omega arith))
-    (λ c. let a = c .before .before .before .before .before .args in let t = c .if3 .left in reset-moved (a .deltas .now) (a .reset) (a .anchor) (c .before .before .if2 .left) (omega arith)))
+    (λ c.
+    let a = c .before .before .before .before .before .args in
+    let is = c .before .before .if2 .left in
+    let t = c .if3 .taken in
+    reset-before (a .deltas .now) (a .reset) (a .anchor) (omega arith) (omega arith))
+    (λ c.
+    let a = c .before .before .before .before .before .args in
+    let is = c .before .before .if2 .left in
+    let t = c .if3 .left in
+    reset-moved (a .deltas .now) (a .reset) (a .anchor) (omega arith) (omega arith)))
