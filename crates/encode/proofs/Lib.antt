@@ -1,2 +1,5 @@
 pub mod Writes
 pub mod Stores
+pub mod Entries
+pub mod Values
+pub mod Items

@@ -4,7 +4,8 @@
 -- Assumes nothing.
 use mathlib.Core.Path.{_≡_, refl, sym, _∙_, ap}
 use mathlib.Core.List.{List, [], _∷_, _++_}
-use Prim.Native.Nat.{ℕ, _+_, _-_, _≤_, _<_}
+use Prim.Native.Nat.{ℕ, _+_, _-_, _*_, _/_, _≤_, _<_}
+use native.Mathlib.Nat.{le-div-iff-mul-le}
 use native.Mathlib.Omega.{arith}
 use lib.ListN.{length, take, drop, length-append, length-drop}
 use lib.Seq.{length-take-le}
@@ -48,3 +49,11 @@ module _ (s : Bytes) (start len : ℕ) (there : len ≤ length s - start) where
 
   pub part-room : {at : ℕ} {l l′ : Bytes} → at + len ≤ length l → l′ ≡ splice at (take len (drop start s)) l → Put (take len (drop start s)) at l (at + len) l′
   part-room fits w = let z = part-length in put-room (omega arith) (omega arith) w
+
+-- items of a width, as many as fit into what there is
+module _ (count width rest there : ℕ) (some : 0 < width) (same : rest ≡ there) where
+  pub too-few : rest / width < count → count * width ≤ there → ⊥
+  too-few short h = let k : count ≤ rest / width = le-div-iff-mul-le some .1 (rw same h) in omega arith
+
+  pub in-there : count ≤ rest / width → count * width ≤ there
+  in-there h = rw (← same) (le-div-iff-mul-le some .0 h)
