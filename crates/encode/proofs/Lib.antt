@@ -3,3 +3,4 @@ pub mod Stores
 pub mod Entries
 pub mod Values
 pub mod Items
+pub mod Lists
