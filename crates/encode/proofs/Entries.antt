@@ -78,12 +78,12 @@ pub record Raw {A : Type 0} (s : Bytes) (bytes : A → Bytes) (width at to : ℕ
 take-join : (s : Bytes) (at a b : ℕ) → take a (drop at s) ++ take b (drop (at + a) s) ≡ take (a + b) (drop at s)
 take-join s at a b = sym (take-add a b (drop at s) ∙ ap (λ r. take a (drop at s) ++ take b r) (drop-drop a at s))
 
-below-part : (s : Bytes) (n at : ℕ) → Below 256 s → Below 256 (take n (drop at s))
+pub below-part : (s : Bytes) (n at : ℕ) → Below 256 s → Below 256 (take n (drop at s))
 below-part s n at h =
     let back = below-split 256 (take at s) (drop at s) (rw take-append-drop h) .1 in
     below-split 256 (take n (drop at s)) (drop n (drop at s)) (rw take-append-drop back) .0
 
-at-run : {s : Bytes} {at : ℕ} (n : ℕ) → AtPlace s at (run n) (λ to b. Raw s (λ b. b) n at to b)
+pub at-run : {s : Bytes} {at : ℕ} (n : ℕ) → AtPlace s at (run n) (λ to b. Raw s (λ b. b) n at to b)
 at-run {s} {at} n = record { holds = λ {x} {to} {rest} e. from (leb n (length (drop at s))) refl e }
   where
     from : {x : Bytes} {to : ℕ} {rest : Bytes} (t : Bool) → leb n (length (drop at s)) ≡ t → piece t n at (drop at s) ≡ ok x to rest → Raw s (λ b. b) n at to x

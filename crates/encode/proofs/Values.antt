@@ -29,7 +29,7 @@ pub record Kept (s : Bytes) (at to : ℕ) (k : ConstantValue) : Type 0 where
   pub stood : Stood s at to (constantValue k)
   pub same : valueBytes s at to (constantValue k) ≡ constantBytes k
 
-at-pick : {A : Type 0} {s : Bytes} {at : ℕ} {r q : Reader A} {P : ℕ → A → Type 0} (b : Bool) → (b ≡ true → AtPlace s at r P) → (b ≡ false → AtPlace s at q P) → AtPlace s at (pick b r q) P
+pub at-pick : {A : Type 0} {s : Bytes} {at : ℕ} {r q : Reader A} {P : ℕ → A → Type 0} (b : Bool) → (b ≡ true → AtPlace s at r P) → (b ≡ false → AtPlace s at q P) → AtPlace s at (pick b r q) P
 at-pick true f g = f refl
 at-pick false f g = g refl
 
