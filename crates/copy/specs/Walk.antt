@@ -1,0 +1,32 @@
+-- What the walk shows and puts of what it reads.
+--     PutsTail o at l len l′           where the end of a function was read, its bytes, at a place
+--     PutsFunction named o l len l′    where a function was read, with all that nest in it, its bytes, at the start
+--     endShown ..                      the walk behind a function whose end is o
+use mathlib.Core.Path.{_≡_}
+use mathlib.Core.Bool.{Bool}
+use mathlib.Core.List.{List}
+use Prim.Native.Nat.{ℕ}
+use Rattle.format.specs.Form.{Bytes}
+use Rattle.format.specs.Reading.{Prototype}
+use Rattle.format.specs.Read.{Read, ok, refused}
+use Rattle.reader.specs.Shown.{cursorAt}
+use Rattle.chunk.specs.declared.parts.Head as declared
+use Rattle.chunk.specs.declared.walk.Where.{Where}
+use Rattle.chunk.specs.declared.walk.Walked.{Walked}
+use Rattle.chunk.specs.declared.walk.WalkResult.{WalkResult}
+use Rattle.chunk.specs.declared.walk.WalkResult.the-variants as answer
+use Rattle.chunk.specs.Parts.{Tail}
+use Rattle.chunk.specs.PartsShown.{tailOf}
+use Rattle.chunk.specs.Walk.{finishedShown}
+use Rattle.encode.specs.Put.{Put}
+use Rattle.copy.specs.Parts.{tailBytes, functionBytes}
+
+pub record PutsTail (o : Read Tail) (at : ℕ) (l : Bytes) (len : ℕ) (l′ : Bytes) : Type 0 where
+  pub put : (t : Tail) (to : ℕ) (rest : Bytes) → o ≡ ok t to rest → Put (tailBytes t) at l len l′
+
+pub record PutsFunction (named : Bool) (o : Read (List Prototype)) (l : Bytes) (len : ℕ) (l′ : Bytes) : Type 0 where
+  pub put : (ps : List Prototype) (to : ℕ) (rest : Bytes) → o ≡ ok ps to rest → Put (functionBytes named ps) 0 l len l′
+
+abbrev pub endShown : Where → ℕ → declared.Head → Walked → Read Tail → WalkResult
+endShown place start head nested (ok t to rest) = answer.Ok (finishedShown place start head (tailOf t) (cursorAt to) nested 0)
+endShown place start head nested (refused q) = answer.Err q

@@ -1,0 +1,142 @@
+// The functions of a chunk, judged and copied in one walk.
+ghost use mathlib.Core.Path.{_≡_};
+ghost use mathlib.Core.Bool.{true};
+ghost use mathlib.Core.Option.{none};
+ghost use Prim.Native.Nat.{_+_, _≤_};
+ghost use lib.Dec.{leb};
+ghost use lib.ListN.{drop};
+ghost use Rattle.format.specs.Pick.{pick};
+ghost use Rattle.format.specs.Form.{Below};
+ghost use Rattle.format.specs.GrammarChunk as grammar;
+ghost use Rattle.format.specs.ReadChunk.{function};
+ghost use Rattle.chunk.specs.declared.walk.WalkResult.the-variants as walk;
+ghost use Rattle.chunk.specs.Parts as parts;
+ghost use Rattle.chunk.specs.Walk.{shownWhere, shownWalk};
+ghost use Rattle.copy.specs.Walk.{PutsTail, PutsFunction, endShown};
+use crate::parts::put_head;
+use crate::parts::put_tail;
+use chunk::parts::Head;
+use chunk::parts::HeadResult;
+use chunk::parts::TailResult;
+use chunk::parts::read_head;
+use chunk::parts::read_tail;
+use chunk::row::OptionRow;
+use chunk::walk::WalkResult;
+use chunk::walk::Walked;
+use chunk::walk::Where;
+use chunk::walk::again;
+use chunk::walk::finished;
+use chunk::walk::inside;
+use chunk::walk::joined;
+use encode::raw::plus;
+use format::limits::ResourceLimits;
+use format::refusal::Refusal;
+use reader::cursor::Cursor;
+
+// What a walk over functions found, and the length of their copy.
+pub struct Copied {
+    pub walk: WalkResult,
+    pub len: usize,
+}
+
+fn stopped(refusal: Refusal) -> Copied
+    ensures { λ r. ⌜ r .walk ≡ walk.Err refusal ⌝ }
+{
+    Copied {
+        walk: WalkResult::Err(refusal),
+        len: 0,
+    }
+}
+
+// The smaller of two numbers.
+fn within(n: usize, limit: usize) -> usize
+    ensures { λ r. ⌜ r ≡ pick (leb n limit) n limit ⌝ }
+{
+    if n <= limit { n } else { limit }
+}
+
+// Reads what stands behind the nested functions of a function, and puts its copy behind theirs.
+fn copy_end(
+    s: &[u8],
+    limits: ResourceLimits,
+    place: Where,
+    start: usize,
+    head: Head,
+    nested: Walked,
+    out: &mut [u8],
+    at: usize,
+) -> Copied
+    ensures { λ r. ⌜ r .walk ≡ endShown place start head nested (parts.tail (limits .«max_string_bytes») (nested .next .at) (drop (nested .next .at) (now (s .entry)))) ⌝ }
+    ensures { λ r. ⌜ PutsTail (parts.tail (limits .«max_string_bytes») (nested .next .at) (drop (nested .next .at) (now (s .entry)))) at (now (out .entry)) (r .len) (now (out .exit)) ⌝ }
+{
+    let ends = read_tail(s, limits.max_string_bytes, nested.next);
+    match ends {
+        TailResult::Err(refusal) => stopped(refusal),
+        TailResult::Ok { tail, next } => {
+            let len = put_tail(s, limits.max_string_bytes, tail, out, at);
+            let walked = finished(place, start, head, tail, next, nested, 0);
+            Copied {
+                walk: WalkResult::Ok(walked),
+                len: len,
+            }
+        }
+    }
+}
+
+// Reads a function and all that nest in it, as `read_function` does for main's row, and puts their copy at the start of the lent memory: each nested function
+// is lent the part behind what is put, before what follows the nested functions. Ruled out: a nested function's source kept, a function's end before the functions that nest in it.
+pub fn copy_function(
+    s: &[u8],
+    limits: ResourceLimits,
+    place: Where,
+    named: bool,
+    left: usize,
+    cursor: Cursor,
+    out: &mut [u8],
+) -> Copied
+    requires { ⌜ (limits .«max_total_prototypes» ≤ 16777216) × (limits .«max_total_instructions» ≤ 16777216) × (place .number ≤ 16777216) × (place .depth + left ≤ 200) ⌝ }
+    ensures { λ r. ⌜ ((w : grammar.Where) → place ≡ shownWhere w → r .walk ≡ shownWalk 0 w (function limits left w (cursor .at) (drop (cursor .at) (now (s .entry))))) ⌝ }
+    ensures { λ r. ⌜ ((w : grammar.Where) → place ≡ shownWhere w → (named ≡ true → w .source ≡ none) → Below 256 (now (s .entry)) → PutsFunction named (function limits left w (cursor .at) (drop (cursor .at) (now (s .entry)))) (now (out .entry)) (r .len) (now (out .exit))) ⌝ }
+{
+    let begins = read_head(s, limits, place.instructions, cursor);
+    match begins {
+        HeadResult::Err(refusal) => stopped(refusal),
+        HeadResult::Ok {
+            head: head,
+            next: behind,
+        } => {
+            let first = inside(place, head);
+            let mut len = put_head(s, limits, named, head, out);
+            let mut nested = Walked {
+                next: behind,
+                number: first.number,
+                instructions: first.instructions,
+                row: OptionRow::None,
+            };
+            let mut more = head.protos.count;
+            while more > 0 {
+                let at = nested.next.at;
+                if left == 0 {
+                    return stopped(Refusal::NestingDepth(at));
+                }
+                if limits.max_total_prototypes < nested.number {
+                    return stopped(Refusal::TotalPrototypes(at));
+                }
+                let inner = again(first, nested);
+                let next = nested.next;
+                let from = within(len, out.len());
+                let one = copy_function(s, limits, inner, false, left - 1, next, &mut out[from..]);
+                let walk = one.walk;
+                match walk {
+                    WalkResult::Err(refusal) => return stopped(refusal),
+                    WalkResult::Ok(later) => {
+                        nested = joined(nested, later);
+                    }
+                }
+                len = plus(len, one.len);
+                more -= 1;
+            }
+            copy_end(s, limits, place, cursor.at, head, nested, out, len)
+        }
+    }
+}

@@ -1,0 +1,4 @@
+pub mod Put
+pub mod Groups
+pub mod Text
+pub mod Value
