@@ -5,3 +5,5 @@ pub mod Nests
 pub mod Tails
 pub mod Loops
 pub mod Functions
+pub mod Chunks
+pub mod Outcomes

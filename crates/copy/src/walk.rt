@@ -49,7 +49,7 @@ fn stopped(refusal: Refusal) -> Copied
 }
 
 // The smaller of two numbers.
-fn within(n: usize, limit: usize) -> usize
+pub fn within(n: usize, limit: usize) -> usize
     ensures { λ r. ⌜ r ≡ pick (leb n limit) n limit ⌝ }
 {
     if n <= limit { n } else { limit }

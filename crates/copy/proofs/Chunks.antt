@@ -1,0 +1,105 @@
+-- A whole chunk copied, in the code's terms: by what the calls showed and put.
+-- Assumes nothing.
+use mathlib.Core.Path.{_≡_, refl, sym, subst, _∙_, ap}
+use mathlib.Core.Bool.{Bool, true, false}
+use mathlib.Core.List.{List, [], _∷_, _++_, append-assoc}
+use Prim.Native.Nat.{ℕ, _+_, _-_, _*_, _≤_}
+use native.Mathlib.Omega.{arith}
+use lib.ListN.{length, take, drop, length-append, length-drop}
+use lib.Seq.{take-all}
+use Rattle.format.specs.declared.limits.ResourceLimits.{ResourceLimits}
+use Rattle.format.specs.declared.refusal.Refusal.{Refusal}
+use Rattle.format.specs.Form.{Bytes, Below}
+use Rattle.format.specs.Reading.{Prototype}
+use Rattle.format.specs.GrammarChunk.{outermost}
+use Rattle.format.specs.Read.{Read, ok, refused}
+use Rattle.format.specs.ReadChunk.{function}
+use Rattle.format.specs.Copy.{fieldBytes, headerBytes, functionsBytes, upvaluesOfMain}
+use Rattle.format.proofs.Exact.{never}
+use Rattle.format.proofs.ExactChunk.{exact-function}
+use Rattle.format.proofs.Left.{left}
+use Rattle.chunk.specs.declared.row.OptionRow.{OptionRow}
+use Rattle.chunk.specs.declared.walk.Walked.{Walked}
+use Rattle.chunk.specs.declared.walk.WalkResult.the-variants as walk
+use Rattle.chunk.specs.Row.{shownRow, lookup}
+use Rattle.chunk.specs.Walk.{shownWalk}
+use Rattle.chunk.proofs.Functions.{walk-err, walk-ok}
+use Rattle.lent.specs.Splice.{splice}
+use Rattle.lent.proofs.Splices.{splice-length, splice-before}
+use Rattle.encode.specs.Put.{Put}
+use Rattle.encode.proofs.Writes.{put-then}
+use Rattle.copy.specs.declared.whole.CopyAnswer.the-variants as answer
+use Rattle.copy.specs.Chunk.{upvaluesShown}
+use Rattle.copy.specs.Parts.{functionBytes}
+use Rattle.copy.specs.Answers.{chunkBytes, Answers}
+use Rattle.copy.proofs.PutParts.{put-as}
+use Rattle.copy.proofs.Nests.{main-short}
+
+-- ## Two pieces, where the first is put last
+pub put-before : {a b : Bytes} {n after m : ℕ} {l l₁ l₂ : Bytes} → n ≡ length a → Put b n l after l₁ → Put a 0 l₁ m l₂ → Put (a ++ b) 0 l after l₂
+put-before {a} {b} {n} {after} {m} {l} {l₁} {l₂} e p q = record {
+  long = q .long ∙ p .long;
+  reach = λ small. let k = size small in p .reach (omega arith) ∙ rw length-append (omega arith);
+  wrote = λ small fits.
+      let k = size small in
+      let h = size fits in
+      let long = p .long in
+      let here : n ≡ 0 + length a = omega arith in
+      q .wrote (omega arith) (omega arith) ∙ ap (splice 0 a) (p .wrote (omega arith) (omega arith) ∙ ap (λ k. splice k b l) here) ∙ splice-before 0 a b l (omega arith);
+}
+  where
+    size : {n : ℕ} → 0 + length (a ++ b) ≤ n → length a + length b ≤ n
+    size h = omega (arith, simp length-append at h)
+
+-- ## Main and the trailing bytes
+pub functions-stops : (o : Read (List Prototype)) (q : Refusal) {l l′ : Bytes} → walk.Err q ≡ shownWalk 0 outermost o → Answers chunkBytes o l (answer.Err q) l′
+functions-stops o q e =
+    let is = walk-err 0 outermost o q e in
+    record { stops = λ p f. let same : q ≡ p = (let both = sym is ∙ f in cc) in ap answer.Err same; puts = λ x to rest f. absurd (never (sym is ∙ f)) }
+
+upvalues-is : (ps : List Prototype) → upvaluesShown (shownRow (lookup 0 0 ps)) ≡ upvaluesOfMain ps
+upvalues-is [] = refl
+upvalues-is (p ∷ ps) = refl
+
+functions-are : (ps : List Prototype) → functionBytes true ps ≡ functionsBytes ps
+functions-are [] = refl
+functions-are (p ∷ ps) = refl
+
+module _ (s : Bytes) (bytes : Below 256 s) (short : length s ≤ 16777216) (L : ResourceLimits) (at : ℕ) where
+  abbrev functions : Read (List Prototype)
+  functions = function L (L .«max_nesting_depth») outermost at (drop at s)
+
+  small-copy : (ps : List Prototype) (to : ℕ) (rest : Bytes) → functions ≡ ok ps to rest → length (chunkBytes ps rest) ≤ 4294967296
+  small-copy ps to rest e =
+      let z = exact-function L (L .«max_nesting_depth») outermost .sound {at = at} {s = drop at s} e in
+      let short′ = main-short s bytes L (L .«max_nesting_depth») outermost at refl .holds e in
+      let place = z .place in
+      let whole : length (drop at s) ≡ length (z .bytes) + length rest = ap length (z .whole) ∙ length-append (z .bytes) rest in
+      let there = length-drop at s in
+      let few = short′ .short in
+      let same = ap length (functions-are ps) in
+      let size : length (chunkBytes ps rest) ≡ 32 + length (functionsBytes ps ++ rest) = length-append (headerBytes 0 ++ fieldBytes 1 (upvaluesOfMain ps)) (functionsBytes ps ++ rest) in
+      let behind = length-append (functionsBytes ps) rest in
+      omega arith
+
+  pub functions-put : (walked : Walked) (upvalues n : ℕ) → walk.Ok walked ≡ shownWalk 0 outermost functions → upvalues ≡ upvaluesShown (walked .row) → n ≡ length (drop (walked .next .at) s)
+      → {l l₁ l₂ l′ : Bytes} {after m len : ℕ}
+      → ((ps : List Prototype) (to : ℕ) (rest : Bytes) → functions ≡ ok ps to rest → Put (functionBytes true ps) 32 l after l₁)
+      → Put (headerBytes 0 ++ fieldBytes 1 upvalues) 0 l₁ m l₂
+      → (n ≤ length s - walked .next .at → Put (take n (drop (walked .next .at) s)) after l₂ len l′)
+      → Answers chunkBytes functions l (answer.Ok len) l′
+  functions-put walked upvalues n e u size {l} {l₁} {l₂} {l′} {after} {m} {len} p q r =
+      let o = walk-ok 0 outermost functions walked e in
+      record {
+        stops = λ x f. absurd (never (sym f ∙ o .was .is));
+        puts = λ ps to rest f. record { len = len; is = refl; small = small-copy ps to rest f; put = all ps to rest f (o .value) (let both = sym (o .was .is) ∙ f in cc) (let both = sym (o .was .is) ∙ f in cc) (ap (λ k. k .row) (o .shows)) };
+      }
+    where
+      all : (ps : List Prototype) (to : ℕ) (rest : Bytes) → functions ≡ ok ps to rest → (qs : List Prototype) → qs ≡ ps → walked .next .at ≡ to → walked .row ≡ shownRow (lookup 0 0 qs) → Put (chunkBytes ps rest) 0 l len l′
+      all ps to rest f qs same place row =
+          let count : upvalues ≡ upvaluesOfMain ps = u ∙ ap upvaluesShown row ∙ upvalues-is qs ∙ ap upvaluesOfMain same in
+          let there : length (drop (walked .next .at) s) ≡ length s - walked .next .at = length-drop (walked .next .at) s in
+          let trailing : take n (drop (walked .next .at) s) ≡ rest = take-all n (drop (walked .next .at) s) (omega arith) ∙ ap (λ k. drop k s) place ∙ sym (left (exact-function L (L .«max_nesting_depth») outermost) s at f) in
+          let front : Put ((headerBytes 0 ++ fieldBytes 1 upvalues) ++ functionBytes true ps) 0 l after l₂ = put-before {a = headerBytes 0 ++ fieldBytes 1 upvalues} refl (p ps to rest f) q in
+          let main : Put ((headerBytes 0 ++ fieldBytes 1 (upvaluesOfMain ps)) ++ functionsBytes ps) 0 l after l₂ = put-as (λ i. (headerBytes 0 ++ fieldBytes 1 (count i)) ++ functions-are ps i) front in
+          put-then main (put-as trailing (r (omega arith)))
