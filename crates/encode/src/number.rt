@@ -7,7 +7,7 @@ ghost use Rattle.lent.specs.Splice.{splice};
 ghost use Rattle.encode.specs.Put.{Put};
 ghost use Rattle.encode.specs.Groups.{groups};
 use crate::raw::plus;
-use reader::varint::varint_len;
+use shortest::varint_len;
 
 // Stores the n lowest groups of v from `at` on, the lowest last.
 fn store_groups(out: &mut [u8], at: usize, n: usize, v: u64)

@@ -46,7 +46,8 @@ use Rattle.decode.proofs.MainAt.{WasShown, was-shown, First, first-of, MainAt, 
 use Rattle.index.specs.declared.IndexAnswer.the-variants as answer
 use Rattle.index.specs.Index.{index, shownIndex, indexWritten}
 use Rattle.lent.specs.Splice.{splice}
-use Rattle.index.specs.Stored.{stored, Wrote}
+use Rattle.index_row.specs.Stored.{stored}
+use Rattle.index_walk.specs.Written.{Wrote}
 use Rattle.index.proofs.Small.{small-main, stored-index}
 
 index-length : (ps : List Prototype) → length (index ps) ≡ 12 * length ps

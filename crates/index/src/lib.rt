@@ -1,18 +1,15 @@
 // chunk.rs, the index: a row of twelve numbers for each function of a chunk, written into lent space.
-pub mod row;
-pub mod walk;
-
 ghost use mathlib.Core.Path.{_≡_};
 ghost use lib.ListN.{length};
 ghost use Rattle.format.specs.ReadChunk as format;
 ghost use Rattle.index.specs.Index.{shownIndex, indexWritten};
-use crate::walk::write_function;
 use chunk::row::OptionRow;
 use decode::outermost;
 use decode::summary::DecodedResult;
 use decode::summary::decode_chunk_lua54;
 use format::limits::ResourceLimits;
 use format::refusal::Refusal;
+use index_walk::write_function;
 use reader::cursor::Cursor;
 
 // The number of functions, or why there is no index.

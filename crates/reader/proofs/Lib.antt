@@ -1,4 +1,3 @@
-pub mod Fields
 pub mod Shows
 pub mod ThreeBytes
 pub mod Strings

@@ -1,14 +1,13 @@
 // Numbers of variable length.
 ghost use mathlib.Core.Path.{_≡_};
-ghost use lib.ListN.{length, drop};
+ghost use lib.ListN.{drop};
 ghost use Rattle.format.specs.ReadFields.{number};
-ghost use Rattle.format.specs.Shortest.{shortest};
 ghost use Rattle.reader.specs.Shown.{shownU64};
 use crate::cursor::Cursor;
 use crate::cursor::short;
 use crate::field::U64Result;
-use crate::field::wide;
 use format::refusal::Refusal;
+use little::wide;
 
 // Ruled out: low group first, a number that is cut short reported as overflow.
 pub fn read_varint_lua54(s: &[u8], cursor: Cursor) -> U64Result
@@ -31,16 +30,4 @@ pub fn read_varint_lua54(s: &[u8], cursor: Cursor) -> U64Result
         value = value * 128 + byte;
     }
     U64Result::Err(short(1, i))
-}
-
-// How many bytes the shortest spelling of v takes: one for 0, else its bits divided by 7, rounded up.
-// Ruled out: 0 bytes for 0, the quotient rounded down.
-pub fn varint_len(v: u64) -> usize
-    ensures { λ r. ⌜ r ≡ length (shortest v) ⌝ }
-{
-    if v == 0 {
-        return 1;
-    }
-    let bits = 64 - (u64::leading_zeros(v) as usize);
-    (bits + 6) / 7
 }

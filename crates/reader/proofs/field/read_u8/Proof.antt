@@ -3,7 +3,7 @@ use native.Mathlib.Omega.{arith}
 use borrow.Author.Needs.{needs}
 use lib.ListN.{drop, length-drop}
 use Rattle.format.proofs.Steps.{field-short, field-enough}
-use Rattle.reader.proofs.Fields.{one}
+use Rattle.little.proofs.Fields.{one}
 use Rattle.reader.proofs.field.read_u8.Statement.{statement}
 use Rattle.reader.proofs.field.read_u8.Tie as tie
 

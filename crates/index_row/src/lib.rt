@@ -1,0 +1,53 @@
+// The twelve numbers of a function, stored.
+ghost use mathlib.Core.Path.{_≡_};
+ghost use mathlib.Core.List.{[], _∷_};
+ghost use Prim.Native.Nat.{_+_, _*_, _≤_};
+ghost use lib.ListN.{length};
+ghost use Rattle.lent.specs.Splice.{splice};
+ghost use Rattle.index_row.specs.Stored.{low, storedRow};
+use chunk::row::FunctionRow;
+
+// The low 32 bits: in a chunk that is read no number of the index has more.
+fn narrow(x: usize) -> u32
+    ensures { λ r. ⌜ r ≡ low x ⌝ }
+{
+    (x % 4294967296) as u32
+}
+
+// Stores four numbers from `at` on.
+fn put_four(rows: &mut [u32], at: usize, a: usize, b: usize, c: usize, d: usize)
+    requires { ⌜ at + 4 ≤ length (now rows) ⌝ }
+    ensures { λ _. ⌜ now (rows .exit) ≡ splice at (low a ∷ low b ∷ low c ∷ low d ∷ []) (now (rows .entry)) ⌝ }
+{
+    rows[at] = narrow(a);
+    rows[at + 1] = narrow(b);
+    rows[at + 2] = narrow(c);
+    rows[at + 3] = narrow(d);
+}
+
+// Stores the row of the function of this number, where there is room for it. Ruled out: a count in another's column, the row of one function in another's place.
+pub fn put_row(rows: &mut [u32], number: usize, row: FunctionRow)
+    ensures { λ _. ⌜ (12 * number + 12 ≤ length (now (rows .entry)) → now (rows .exit) ≡ splice (12 * number) (storedRow row) (now (rows .entry))) ⌝ }
+{
+    if rows.len() / 12 <= number {
+        return;
+    }
+    let at = 12 * number;
+    put_four(rows, at, row.start, row.end, row.depth, row.parent);
+    put_four(
+        rows,
+        at + 4,
+        row.lists.instructions.count,
+        row.lists.constants.count,
+        row.lists.upvalues.count,
+        row.lists.protos.count,
+    );
+    put_four(
+        rows,
+        at + 8,
+        row.lists.line_info.count,
+        row.lists.abs_line_info.count,
+        row.lists.loc_vars.count,
+        row.lists.upvalue_names.count,
+    );
+}
