@@ -17,9 +17,10 @@ use mir.Val.{toZ}
 use Rattle.format.specs.Pick.{pick}
 use Rattle.format.specs.declared.entry.AbsLineInfo.{AbsLineInfo}
 use Rattle.format.specs.Form.{Bytes}
-use Rattle.lines.specs.declared.anchors.Scan.{Scan}
+use Rattle.anchors.specs.declared.Scan.{Scan}
 use Rattle.lines.specs.Lines.{lineAt, stepped, walked}
-use Rattle.lines.specs.Scan.{resetBy, passed, scanned, added, summed}
+use Rattle.anchors.specs.Scan.{resetBy, passed, scanned}
+use Rattle.lines.specs.Scan.{added, summed}
 
 -- ## The first anchor at a pc
 lineAt-append : (j : ℕ) (xs ys : List AbsLineInfo) (z : ℤ) → lineAt j (xs ++ ys) z ≡ lineAt j xs (lineAt j ys z)

@@ -24,7 +24,7 @@ use Rattle.lines.specs.Ldebug.{MAXIWTHABS, getbaseline, increments, «lu
 use Rattle.lines.specs.Lines.{lineIf, baseOf, lineAt, walked, raised, byDeltas, orNext, lineOf}
 use Rattle.lines.proofs.Fast.{from-head, from-none, next-is}
 use Rattle.lines.proofs.Rising.{RisingFrom, Rising, At, from-on, base-last, base-within, base-all, base-line, from-estimate, Numbered, numbered}
-use Rattle.lines.proofs.Tests.{picked, other, beyond, drop-beyond}
+use Rattle.anchors.proofs.Tests.{picked, other, beyond, drop-beyond}
 
 -- ## The sum
 -- the deltas up to the pc

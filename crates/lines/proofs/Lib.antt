@@ -1,7 +1,5 @@
 pub mod Cases
 pub mod Fast
-pub mod Turns
-pub mod Tests
 pub mod Scans
 pub mod Range
 pub mod Sums

@@ -18,14 +18,15 @@ use Rattle.format.proofs.Every.{every-many}
 use Rattle.format.proofs.Every as every
 use Rattle.format.proofs.Located.{Found}
 use Rattle.chunk.specs.declared.row.FunctionRow.{FunctionRow}
-use Rattle.lines.specs.declared.anchors.Scan.{Scan}
-use Rattle.lines.specs.declared.anchors.ScanResult.the-variants as scan
+use Rattle.anchors.specs.declared.Scan.{Scan}
+use Rattle.anchors.specs.declared.ScanResult.the-variants as scan
 use Rattle.lines.specs.declared.line.LineAnswer.{LineAnswer}
 use Rattle.lines.specs.declared.line.LineAnswer.the-variants as answer
 use Rattle.lines.specs.Lines.{answerOf}
-use Rattle.lines.specs.Scan.{scanned, startOf, startIn, shownScan, lineFrom, numberedOf, answered, shownRowLine}
-use Rattle.lines.specs.declared.anchors.Sought.{Sought}
-use Rattle.lines.specs.declared.anchors.Sought.the-variants.{Ahead, At}
+use Rattle.anchors.specs.Scan.{scanned, startOf, shownScan}
+use Rattle.lines.specs.Scan.{startIn, lineFrom, numberedOf, answered, shownRowLine}
+use Rattle.anchors.specs.declared.Sought.{Sought}
+use Rattle.anchors.specs.declared.Sought.the-variants.{Ahead, At}
 use Rattle.lines.proofs.Rules.{large-refused, small-shown, by-number, by-deltas}
 use Rattle.lines.proofs.Scans.{scanned-small}
 

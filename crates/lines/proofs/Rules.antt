@@ -14,14 +14,15 @@ use Rattle.format.specs.declared.entry.AbsLineInfo.{AbsLineInfo}
 use Rattle.format.specs.declared.refusal.Refusal.the-variants.{LineTooLarge}
 use Rattle.format.specs.Form.{Bytes}
 use Rattle.entries.specs.Nth.{nth}
-use Rattle.lines.specs.declared.anchors.Scan.{Scan}
+use Rattle.anchors.specs.declared.Scan.{Scan}
 use Rattle.lines.specs.declared.line.LineAnswer.the-variants as answer
 use Rattle.lines.specs.Lines.{rule1, rule2, rule3, lineIf, baseOf, raised, byDeltas, orNext, lineOf, large, answerOf}
-use Rattle.lines.specs.Scan.{scanned, startOf, startIn, summed, lineFrom, numberedOf}
-use Rattle.lines.specs.declared.anchors.Sought.the-variants.{Ahead, At}
+use Rattle.anchors.specs.Scan.{scanned, startOf}
+use Rattle.lines.specs.Scan.{startIn, summed, lineFrom, numberedOf}
+use Rattle.anchors.specs.declared.Sought.the-variants.{Ahead, At}
 use Rattle.lines.proofs.Fast.{settled, fast, none-settled}
 use Rattle.lines.proofs.Scans.{lineSought, scanned-base, scanned-large, scanned-sought}
-use Rattle.lines.proofs.Tests.{picked, other}
+use Rattle.anchors.proofs.Tests.{picked, other}
 
 module _ (instructions line : ℕ) (deltas : Bytes) (anchors : List AbsLineInfo) (pc : ℕ) where
   abbrev cut : Bytes

@@ -17,12 +17,13 @@ use Rattle.format.specs.Pick.{pick}
 use Rattle.format.specs.declared.entry.AbsLineInfo.{AbsLineInfo}
 use Rattle.format.specs.Form.{Bytes}
 use Rattle.entries.specs.Nth.{nth}
-use Rattle.lines.specs.declared.anchors.Scan.{Scan}
-use Rattle.lines.specs.declared.anchors.Sought.{Sought}
-use Rattle.lines.specs.declared.anchors.Sought.the-variants.{Ahead, At}
+use Rattle.anchors.specs.declared.Scan.{Scan}
+use Rattle.anchors.specs.declared.Sought.{Sought}
+use Rattle.anchors.specs.declared.Sought.the-variants.{Ahead, At}
 use Rattle.lines.specs.Lines.{baseOf, lineIf, large}
-use Rattle.lines.specs.Scan.{orLarge, stillTaking, seekBy, passed, scanned, startOf, startIn}
-use Rattle.lines.proofs.Tests.{other}
+use Rattle.anchors.specs.Scan.{orLarge, stillTaking, seekBy, passed, scanned, startOf}
+use Rattle.lines.specs.Scan.{startIn}
+use Rattle.anchors.proofs.Tests.{other}
 
 abbrev pub lineSought : Sought → Option ℕ
 lineSought (At l) = some l

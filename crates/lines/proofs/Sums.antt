@@ -16,11 +16,11 @@ use mir.Syntax.{w8, w64}
 use mir.Val.{Fits, SFits, toZ, ofZ}
 use mir.Facts.{toZ-pos, toZ-ofZ, fits-natAbs}
 use Rattle.format.specs.Form.{Bytes}
-use Rattle.lines.specs.declared.anchors.Scan.{Scan}
+use Rattle.anchors.specs.declared.Scan.{Scan}
 use Rattle.lines.specs.Lines.{raised}
 use Rattle.lines.specs.Scan.{added, summed, startIn, lineFrom}
 use Rattle.lines.proofs.Range.{plus-delta, mag-added}
-use Rattle.lines.proofs.Tests.{picked, other, drop-beyond}
+use Rattle.anchors.proofs.Tests.{picked, other, drop-beyond}
 
 -- ## add_delta
 module _ (line : ℤ) (fits : SFits w64 line) (d : ℕ) where

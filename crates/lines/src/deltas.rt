@@ -5,7 +5,7 @@ ghost use lib.ListN.{length, take, drop};
 ghost use lib.Signed.{mag};
 ghost use Rattle.lines.specs.Lines.{raised};
 ghost use Rattle.lines.specs.Scan.{added, summed, startIn, lineFrom};
-use crate::anchors::Scan;
+use anchors::Scan;
 use format::entry::AbsLineInfo;
 
 // The deltas up to the pc, or all of them.

@@ -1,6 +1,6 @@
 -- `lines::deltas::start_in` meets its contract: by the test. Assumes nothing.
 use borrow.Author.Tests.{lt-ltb, le-ltb}
-use Rattle.lines.proofs.Tests.{picked, other}
+use Rattle.anchors.proofs.Tests.{picked, other}
 use Rattle.lines.proofs.deltas.start_in.Statement.{statement}
 use Rattle.lines.proofs.deltas.start_in.Tie as tie
 

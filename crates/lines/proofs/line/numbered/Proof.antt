@@ -1,7 +1,7 @@
 -- `lines::line::numbered` meets its contract: by the test. Assumes nothing.
 use borrow.Author.Tests.{eq-eqb, ne-eqb}
-use Rattle.lines.specs.declared.anchors.Sought.the-variants.{Ahead}
-use Rattle.lines.proofs.Tests.{picked, other}
+use Rattle.anchors.specs.declared.Sought.the-variants.{Ahead}
+use Rattle.anchors.proofs.Tests.{picked, other}
 use Rattle.lines.proofs.line.numbered.Statement.{statement}
 use Rattle.lines.proofs.line.numbered.Tie as tie
 

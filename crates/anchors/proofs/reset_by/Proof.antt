@@ -1,9 +1,9 @@
--- `lines::anchors::reset_by` meets its contract: by the tests (`Tests.antt`). Assumes nothing.
+-- `anchors::reset_by` meets its contract: by the tests (`Tests.antt`). Assumes nothing.
 use native.Mathlib.Omega.{arith}
 use borrow.Author.Needs.{needs}
-use Rattle.lines.proofs.Tests.{reset-beyond, reset-other, reset-before, reset-moved}
-use Rattle.lines.proofs.anchors.reset_by.Statement.{statement}
-use Rattle.lines.proofs.anchors.reset_by.Tie as tie
+use Rattle.anchors.proofs.Tests.{reset-beyond, reset-other, reset-before, reset-moved}
+use Rattle.anchors.proofs.reset_by.Statement.{statement}
+use Rattle.anchors.proofs.reset_by.Tie as tie
 
 pub reset-by-spec : {M : Type 1} → statement M
 reset-by-spec =

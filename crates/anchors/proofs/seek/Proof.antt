@@ -1,8 +1,8 @@
--- `lines::anchors::seek` meets its contract: by the case and the test. Assumes nothing.
+-- `anchors::seek` meets its contract: by the case and the test. Assumes nothing.
 use borrow.Author.Needs.{needs}
 use borrow.Author.Tests.{eq-eqb, ne-eqb}
-use Rattle.lines.proofs.anchors.seek.Statement.{statement}
-use Rattle.lines.proofs.anchors.seek.Tie as tie
+use Rattle.anchors.proofs.seek.Statement.{statement}
+use Rattle.anchors.proofs.seek.Tie as tie
 
 pub seek-spec : {M : Type 1} → statement M
 seek-spec =

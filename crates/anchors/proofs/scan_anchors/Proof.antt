@@ -1,14 +1,14 @@
--- `lines::anchors::scan_anchors` meets its contract. The invariant: what all anchors give those left give (`Turns.antt`). Assumes nothing.
+-- `anchors::scan_anchors` meets its contract. The invariant: what all anchors give those left give (`Turns.antt`). Assumes nothing.
 use mathlib.Core.Path.{_≡_, refl, sym, _∙_}
 use native.Mathlib.Omega.{arith}
 use borrow.Author.Needs.{needs}
 use lib.ListN.{drop}
 use Rattle.format.specs.ReadChunk.{anchor}
 use Rattle.lists.proofs.DebugInfo.{anchor-err, anchor-ok}
-use Rattle.lines.specs.Scan.{startOf}
-use Rattle.lines.proofs.Turns.{scanFrom, ends, stops, goes-on}
-use Rattle.lines.proofs.anchors.scan_anchors.Statement.{statement}
-use Rattle.lines.proofs.anchors.scan_anchors.Tie as tie
+use Rattle.anchors.specs.Scan.{startOf}
+use Rattle.anchors.proofs.Turns.{scanFrom, ends, stops, goes-on}
+use Rattle.anchors.proofs.scan_anchors.Statement.{statement}
+use Rattle.anchors.proofs.scan_anchors.Tie as tie
 
 abbrev Inv-loop : tie.InvT-loop
 Inv-loop s n deltas pc line-defined scan₀ next₀ left₀ scan next left = scanFrom deltas pc s (startOf pc line-defined) n (next₀ .at) ≡ scanFrom deltas pc s scan left (next .at)

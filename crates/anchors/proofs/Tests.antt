@@ -10,7 +10,7 @@ use lib.ListN.{length, drop, getD}
 use Rattle.format.specs.Pick.{pick}
 use Rattle.format.specs.declared.entry.AbsLineInfo.{AbsLineInfo}
 use Rattle.format.specs.Form.{Bytes}
-use Rattle.lines.specs.Scan.{resetBy}
+use Rattle.anchors.specs.Scan.{resetBy}
 
 -- what is picked, where the test is known
 pub picked : {A : Type 0} {t : Bool} (a b : A) → t ≡ true → a ≡ pick t a b

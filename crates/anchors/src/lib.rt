@@ -5,7 +5,7 @@ ghost use lib.ListN.{drop};
 ghost use Rattle.format.specs.Pick.{pick};
 ghost use Rattle.format.specs.Read.{many};
 ghost use Rattle.format.specs.ReadChunk.{anchor};
-ghost use Rattle.lines.specs.Scan.{orLarge, stillTaking, resetBy, seekBy, passed, startOf, shownScan};
+ghost use Rattle.anchors.specs.Scan.{orLarge, stillTaking, resetBy, seekBy, passed, startOf, shownScan};
 use format::entry::AbsLineInfo;
 use format::refusal::Refusal;
 use lists::debug::AnchorResult;

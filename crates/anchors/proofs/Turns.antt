@@ -12,10 +12,10 @@ use Rattle.format.specs.Read.{Read, ok, refused, next, _>>=_, give, many}
 use Rattle.format.specs.ReadChunk.{anchor}
 use Rattle.format.proofs.ExactChunk.{exact-anchor}
 use Rattle.reader.proofs.Shows.{Was, onward}
-use Rattle.lines.specs.declared.anchors.Scan.{Scan}
-use Rattle.lines.specs.declared.anchors.ScanResult.{ScanResult}
-use Rattle.lines.specs.declared.anchors.ScanResult.the-variants as scan
-use Rattle.lines.specs.Scan.{passed, shownScan}
+use Rattle.anchors.specs.declared.Scan.{Scan}
+use Rattle.anchors.specs.declared.ScanResult.{ScanResult}
+use Rattle.anchors.specs.declared.ScanResult.the-variants as scan
+use Rattle.anchors.specs.Scan.{passed, shownScan}
 
 -- what is given of a scan and the anchors left, from a place on
 abbrev pub scanFrom : Bytes → ℕ → Bytes → Scan → ℕ → ℕ → ScanResult

@@ -1,7 +1,7 @@
--- `lines::anchors::pass` meets its contract: field by field. Assumes nothing.
+-- `anchors::pass` meets its contract: field by field. Assumes nothing.
 use borrow.Author.Needs.{needs}
-use Rattle.lines.proofs.anchors.pass.Statement.{statement}
-use Rattle.lines.proofs.anchors.pass.Tie as tie
+use Rattle.anchors.proofs.pass.Statement.{statement}
+use Rattle.anchors.proofs.pass.Tie as tie
 
 pub pass-spec : {M : Type 1} → statement M
 pass-spec =
