@@ -26,7 +26,7 @@ use Rattle.reader.specs.declared.cursor.Cursor.{Cursor}
 use Rattle.reader.specs.Shown.{cursorAt, optionString}
 use Rattle.reader.proofs.Shows.{Showed, Was, onward}
 use Rattle.format.proofs.Every.{Every, any, every-then, every-is, every-given, every-many}
-use Rattle.lists.proofs.Within.{Code, exact-protosCount, ProtosCount}
+use Rattle.counted.proofs.Within.{Code, exact-protosCount, ProtosCount}
 use Rattle.chunk.specs.declared.walk.Where.{Where}
 use Rattle.chunk.specs.declared.walk.Walked.{Walked}
 use Rattle.chunk.specs.declared.walk.WalkResult.{WalkResult}

@@ -23,12 +23,12 @@ use Rattle.format.proofs.ExactChunk.{exact-counted, exact-countedUpTo, exact-co
 use Rattle.reader.specs.declared.cursor.Cursor.{Cursor}
 use Rattle.reader.specs.Shown.{cursorAt}
 use Rattle.reader.proofs.Shows.{Showed, onward}
-use Rattle.lists.specs.declared.counted.ListResult.the-variants as list
+use Rattle.counted.specs.declared.ListResult.the-variants as list
 use Rattle.lists.specs.Readers.{Count, protosCount, code, lineInfo}
-use Rattle.lists.specs.Shown.{shownList, shownCount}
-use Rattle.lists.proofs.Listing.{WasList, list-err, list-ok}
-use Rattle.lists.proofs.Counts.{count-err, count-ok}
-use Rattle.lists.proofs.Within.{Code, exact-lineInfo, exact-code, exact-protosCount}
+use Rattle.counted.specs.Shown.{shownList, shownCount}
+use Rattle.counted.proofs.Listing.{WasList, list-err, list-ok}
+use Rattle.counted.proofs.Counts.{count-err, count-ok}
+use Rattle.counted.proofs.Within.{Code, exact-lineInfo, exact-code, exact-protosCount}
 use Rattle.chunk.specs.declared.front.Front as declared-front
 use Rattle.chunk.specs.declared.front.FrontResult.the-variants as front-answer
 use Rattle.chunk.specs.declared.parts.HeadLists as declared-lists

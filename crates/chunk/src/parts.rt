@@ -7,17 +7,17 @@ use crate::front::Front;
 use crate::front::FrontResult;
 use crate::front::read_front;
 use crate::row::ListAt;
+use counted::ListResult;
+use counted::anchors_list;
+use counted::constants_list;
+use counted::instructions_list;
+use counted::line_info_list;
+use counted::locals_list;
+use counted::names_list;
+use counted::protos_count;
+use counted::upvalues_list;
 use format::limits::ResourceLimits;
 use format::refusal::Refusal;
-use lists::counted::ListResult;
-use lists::counted::anchors_list;
-use lists::counted::constants_list;
-use lists::counted::instructions_list;
-use lists::counted::line_info_list;
-use lists::counted::locals_list;
-use lists::counted::names_list;
-use lists::counted::protos_count;
-use lists::counted::upvalues_list;
 use reader::cursor::Cursor;
 
 pub struct HeadLists {

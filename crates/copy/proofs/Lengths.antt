@@ -27,7 +27,7 @@ use Rattle.format.proofs.ExactFields.{exact-field, exact-number, exact-string}
 use Rattle.format.proofs.ExactChunk.{exact-always}
 use Rattle.format.proofs.ShortestLaws.{shortest-least, length-zero}
 use Rattle.format.proofs.Located.{Found, AtPlace, at-give, at-here, at-then, at-refuse}
-use Rattle.lists.proofs.Listing.{many-sized}
+use Rattle.counted.proofs.Listing.{many-sized}
 use Rattle.encode.proofs.Entries.{Raw, at-run, raw-field}
 use Rattle.encode.proofs.Values.{at-pick}
 

@@ -25,7 +25,7 @@ use Rattle.format.proofs.Exact.{Exact, exact-then, exact-give, exact-atMost}
 use Rattle.format.proofs.ExactFields.{exact-string}
 use Rattle.format.proofs.ExactChunk.{exact-counted, exact-anchor, exact-local, exact-forest}
 use Rattle.format.proofs.Located.{AtPlace, at-give, at-here, at-then, at-refuse}
-use Rattle.lists.proofs.Within.{LineInfo, ProtosCount, exact-lineInfo, exact-protosCount}
+use Rattle.counted.proofs.Within.{LineInfo, ProtosCount, exact-lineInfo, exact-protosCount}
 use Rattle.chunk.specs.Parts.{Head, head, Tail, tail, prototypeOf, inside, parts}
 use Rattle.chunk.specs.Walk.{entered}
 use Rattle.chunk.proofs.FrontAnswers.{FrontForm, exact-front}

@@ -25,7 +25,7 @@ use Rattle.format.proofs.ExactChunk.{exact-counted, exact-countedUpTo, exact-co
 use Rattle.format.proofs.ShortestLaws.{length-zero}
 use Rattle.format.proofs.Located.{Found, AtPlace, at-give, at-here, at-then, at-string, StandsIf}
 use Rattle.lists.specs.Readers.{Count, protosCount, code, lineInfo}
-use Rattle.lists.proofs.Within.{exact-code, exact-lineInfo, exact-protosCount}
+use Rattle.counted.proofs.Within.{exact-code, exact-lineInfo, exact-protosCount}
 use Rattle.chunk.specs.declared.front.Sizes.{Sizes}
 use Rattle.chunk.specs.Front.{Front, front, lines, sizes}
 use Rattle.chunk.specs.Parts.{HeadLists, headLists, Head, head, Tail, tail}

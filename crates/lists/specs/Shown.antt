@@ -1,15 +1,12 @@
--- What the code shows of what a reader gives, of an entry or a list: the value and the cursor behind it, or the refusal.
+-- What the code shows of what a reader gives, of an entry: the value and the cursor behind it, or the refusal.
 use Prim.Native.Nat.{ℕ}
 use lib.ListN.{length}
 use mir.Syntax.{w64}
 use mir.Val.{toZ}
 use Rattle.format.specs.GrammarFields.{LuaString}
 use Rattle.format.specs.declared.entry.AbsLineInfo.{AbsLineInfo}
-use Rattle.format.specs.GrammarChunk.{Listed}
 use Rattle.format.specs.Reading as reading
 use Rattle.format.specs.Read.{Read, ok, refused}
-use Rattle.reader.specs.declared.cursor.CursorResult.{CursorResult}
-use Rattle.reader.specs.declared.cursor.CursorResult.the-variants as cursor
 use Rattle.reader.specs.declared.string.OptionString.{OptionString}
 use Rattle.reader.specs.declared.string.OptionString.the-variants as option
 use Rattle.reader.specs.declared.string.StringAt.{StringAt}
@@ -22,13 +19,11 @@ use Rattle.lists.specs.declared.constant.ConstantValue.{ConstantValue}
 use Rattle.lists.specs.declared.constant.ConstantValue.the-variants as constant
 use Rattle.lists.specs.declared.constant.ConstantResult.{ConstantResult}
 use Rattle.lists.specs.declared.constant.ConstantResult.the-variants as answer
-use Rattle.lists.specs.declared.counted.ListResult.{ListResult}
-use Rattle.lists.specs.declared.counted.ListResult.the-variants as list
 use Rattle.lists.specs.declared.debug.AnchorResult.{AnchorResult}
 use Rattle.lists.specs.declared.debug.AnchorResult.the-variants as anchor
 use Rattle.lists.specs.declared.debug.LocalResult.{LocalResult}
 use Rattle.lists.specs.declared.debug.LocalResult.the-variants as local
-use Rattle.lists.specs.Readers.{RawLocal, Count}
+use Rattle.lists.specs.Readers.{RawLocal}
 
 -- ## Constants
 -- a string, or where it is absent an empty one at the place behind its size
@@ -78,17 +73,3 @@ shownAnchor (refused q) = anchor.Err q
 abbrev pub shownLocal : Read RawLocal → LocalResult
 shownLocal (ok l to rest) = local.Ok (optionString (l .name)) (l .startpc) (l .endpc) (cursorAt to)
 shownLocal (refused q) = local.Err q
-
--- ## Lists
--- of what passing over its items showed
-abbrev pub listedOf : CursorResult → ℕ → ℕ → ListResult
-listedOf (cursor.Ok c) count place = list.Ok count place c
-listedOf (cursor.Err q) count place = list.Err q
-
-abbrev pub shownList : {A : Type 0} → Read (Listed A) → ListResult
-shownList (ok l to rest) = list.Ok (length (l .items)) (l .place) (cursorAt to)
-shownList (refused q) = list.Err q
-
-abbrev pub shownCount : Read Count → ListResult
-shownCount (ok c to rest) = list.Ok (c .count) (c .place) (cursorAt to)
-shownCount (refused q) = list.Err q

@@ -1,7 +1,6 @@
 // chunk.rs, decoding: the lists of a function. Each is passed over, and its entries are read.
 // Every contract holds for any slice and any cursor, and is an equation with a reader of `format`.
 pub mod constant;
-pub mod counted;
 pub mod debug;
 pub mod runs;
 pub mod strings;
