@@ -10,23 +10,24 @@ use borrow.Author.Tests.{le-leb, lt-leb}
 use lib.Dec.{eqb}
 use lib.ListN.{length, drop}
 use Rattle.format.specs.Pick.{pick}
-use Rattle.format.specs.GrammarFields.{LuaString}
+use Rattle.format.specs.GrammarFields.{LuaString, String}
 use Rattle.format.specs.declared.limits.ResourceLimits.{ResourceLimits}
 use Rattle.format.specs.declared.refusal.Refusal.{Refusal}
 use Rattle.format.specs.declared.refusal.Refusal.the-variants.{NestingDepth, TotalPrototypes}
 use Rattle.format.specs.Form.{Bytes, Form, Then, Is, Nothing, Given}
 use Rattle.format.specs.Reading.{Prototype}
 use Rattle.format.specs.GrammarChunk as grammar
-use Rattle.format.specs.GrammarChunk.{Function, inherit, instructionsOf}
+use Rattle.format.specs.GrammarChunk.{Function, Counted, Anchor, Local, inherit, instructionsOf}
 use Rattle.format.specs.Read.{Read, ok, refused, Reader, next}
 use Rattle.format.specs.ReadChunk.{forest, function, body}
 use Rattle.format.proofs.Exact.{Exact, exact-then, exact-give, exact-place, exact-atMost}
-use Rattle.format.proofs.ExactChunk.{exact-refuse, exact-function, exact-forest}
+use Rattle.format.proofs.ExactFields.{exact-string}
+use Rattle.format.proofs.ExactChunk.{exact-refuse, exact-counted, exact-anchor, exact-local, exact-function, exact-forest}
 use Rattle.reader.specs.declared.cursor.Cursor.{Cursor}
 use Rattle.reader.specs.Shown.{cursorAt, optionString}
 use Rattle.reader.proofs.Shows.{Showed, Was, onward}
 use Rattle.format.proofs.Every.{Every, any, every-then, every-is, every-given, every-many}
-use Rattle.counted.proofs.Within.{Code, exact-protosCount, ProtosCount}
+use Rattle.counted.proofs.Within.{Code, LineInfo, ProtosCount, exact-lineInfo, exact-protosCount}
 use Rattle.chunk.specs.declared.walk.Where.{Where}
 use Rattle.chunk.specs.declared.walk.Walked.{Walked}
 use Rattle.chunk.specs.declared.walk.WalkResult.{WalkResult}
@@ -70,11 +71,17 @@ module _ (L : ResourceLimits) (left : ℕ) (w : grammar.Where) (at : ℕ) (s : B
   enters more h = let e : left ≡ suc (left - 1) = omega arith in ap (λ n. entered L n w at s) e ∙ rw (le-leb _ _ h)
 
 -- ## The parts of a function
-abbrev HeadForm : ResourceLimits → ℕ → Form Head
+abbrev pub HeadForm : ResourceLimits → ℕ → Form Head
 HeadForm L before = Then (FrontForm (L .«max_string_bytes»)) λ front. Then (ListsForm L before) λ lists. Then (ProtosCount (L .«max_total_prototypes»)) λ protos. Is (record { front = front; lists = lists; protos = protos })
 
-exact-head : (L : ResourceLimits) (before : ℕ) → Exact (head L before) (HeadForm L before)
+pub exact-head : (L : ResourceLimits) (before : ℕ) → Exact (head L before) (HeadForm L before)
 exact-head L before = exact-then (exact-front (L .«max_string_bytes»)) λ _. exact-then (exact-lists L before) λ _. exact-then (exact-protosCount (L .«max_total_prototypes»)) λ _. exact-give _
+
+abbrev pub TailForm : ℕ → Form Tail
+TailForm limit = Then LineInfo λ a. Then (Counted Anchor) λ b. Then (Counted (Local limit)) λ c. Then (Counted (String limit)) λ d. Is (record { line-info = a; abs-line-info = b; loc-vars = c; upvalue-names = d })
+
+pub exact-tail : (limit : ℕ) → Exact (tail limit) (TailForm limit)
+exact-tail limit = exact-then exact-lineInfo λ _. exact-then (exact-counted exact-anchor) λ _. exact-then (exact-counted (exact-local limit)) λ _. exact-then (exact-counted (exact-string limit)) λ _. exact-give _
 
 -- the instructions of all functions so far stay within the limit
 every-code : (per-proto before total : ℕ) → Every (Code per-proto before total) (λ l. before + length (l .items) ≤ total)
@@ -103,7 +110,7 @@ in-total s L before at h c e =
     let split = exact-head L before .sound {at = at} {s = drop at s} (o .was .is) in
     rw (o .shows) (every-head L before .holds at (split .bytes) (o .value) (split .spelt))
 
-tail-err : (o : Read Tail) (q : Refusal) → tail-answer.Err q ≡ shownTail o → o ≡ refused q
+pub tail-err : (o : Read Tail) (q : Refusal) → tail-answer.Err q ≡ shownTail o → o ≡ refused q
 tail-err (ok x to rest) q e = absurd (let z : _≡_ {A = ℕ} 0 1 = cc in omega arith)
 tail-err (refused p) q e = cc
 

@@ -30,10 +30,10 @@ use Rattle.encode.specs.Put.{Put}
 use Rattle.encode.proofs.Writes.{put-then}
 use Rattle.copy.specs.declared.whole.CopyAnswer.the-variants as answer
 use Rattle.copy.specs.Chunk.{upvaluesShown}
-use Rattle.copy.specs.Parts.{functionBytes}
+use Rattle.copy_parts.specs.Parts.{functionBytes}
 use Rattle.copy.specs.Answers.{chunkBytes, Answers}
-use Rattle.copy.proofs.PutParts.{put-as}
-use Rattle.copy.proofs.Nests.{main-short}
+use Rattle.copy_parts.proofs.PutParts.{put-as}
+use Rattle.copy_walk.proofs.Nests.{main-short}
 
 -- ## Two pieces, where the first is put last
 pub put-before : {a b : Bytes} {n after m : ℕ} {l l₁ l₂ : Bytes} → n ≡ length a → Put b n l after l₁ → Put a 0 l₁ m l₂ → Put (a ++ b) 0 l after l₂

@@ -1,19 +1,17 @@
 -- From main to the reading of a chunk, and to the answers of the exported calls.
 -- Assumes nothing.
 use mathlib.Core.Path.{_≡_, refl, sym, subst, _∙_, ap}
-use mathlib.Core.Bool.{Bool, true, false, _&&_}
+use mathlib.Core.Bool.{true, false}
 use mathlib.Core.List.{List, [], _∷_, _++_}
 use Prim.Native.Nat.{ℕ, zero, suc, _+_, _≤_, _<_}
 use native.Mathlib.Nat.{zero-add}
 use native.Mathlib.Omega.{arith}
-use borrow.Author.Tests.{leb-true, le-leb, lt-leb}
-use lib.Dec.{leb}
+use borrow.Author.Tests.{le-leb, lt-leb}
 use lib.ListN.{length, drop, getD}
 use Rattle.format.specs.declared.limits.ResourceLimits.{ResourceLimits}
 use Rattle.format.specs.declared.refusal.Refusal.{Refusal}
 use Rattle.format.specs.declared.refusal.Refusal.the-variants.{LimitAboveCeiling, InputBytes, LentSpace}
 use Rattle.format.specs.declared.header.Header as declared
-use Rattle.format.specs.Pick.{pick}
 use Rattle.format.specs.Limits.{withinCeilings}
 use Rattle.format.specs.Form.{Bytes, Below}
 use Rattle.format.specs.Reading.{Prototype, Reading}
@@ -25,18 +23,16 @@ use Rattle.format.specs.ReadHeader.{header}
 use Rattle.format.specs.ReadChunk.{function, main, Outcome, shown, refusal, outcome, read}
 use Rattle.format.specs.Copy.{copy}
 use Rattle.format.proofs.Exact.{never}
-use Rattle.format.proofs.ExactFields.{exact-field}
-use Rattle.format.proofs.ExactHeader.{exact-header}
 use Rattle.reader.specs.declared.cursor.Cursor.{Cursor}
 use Rattle.reader.specs.declared.field.U8Result.the-variants as u8
-use Rattle.reader.specs.Shown.{cursorAt, shownU8}
-use Rattle.reader.proofs.Shows.{Was, Passed, onward, u8-ok}
+use Rattle.reader.specs.Shown.{shownU8}
 use Rattle.header.specs.declared.OptionWarning.{OptionWarning}
 use Rattle.header.specs.declared.HeaderResult.the-variants as header-answer
 use Rattle.header.specs.Shown.{shownHeader}
 use Rattle.chunk.proofs.On.{taken}
 use Rattle.decode.specs.declared.LoadedResult.the-variants as loaded
 use Rattle.decode.specs.Loaded.{shownMain}
+use Rattle.decode.proofs.Answers.{headed, header-on, byte-on}
 use Rattle.lent.specs.Splice.{splice}
 use Rattle.lent.proofs.Splices.{splice-front}
 use Rattle.copy.specs.declared.whole.CopyAnswer.{CopyAnswer}
@@ -54,12 +50,6 @@ main-stops o q e =
     let is = main-err o q e in
     record { stops = λ p f. let same : q ≡ p = (let both = sym is ∙ f in cc) in ap answer.Err same; puts = λ x to rest f. absurd (never (sym is ∙ f)) }
 
-header-passed : (o : Read Headed) (h : declared.Header) (w : OptionWarning) (c : Cursor) → header-answer.Ok h w c ≡ shownHeader o → Passed o (c .at)
-header-passed (ok x to rest) h w c e =
-    let next : c ≡ cursorAt to = cc in
-    record { value = x; was = record { rest = rest; is = rw next } }
-header-passed (refused p) h w c e = absurd (let z : _≡_ {A = ℕ} 0 1 = cc in omega arith)
-
 abbrev load : Headed → List Prototype → Reader Loaded
 load headed ps = give (record { headed = headed; functions = ps })
 
@@ -68,21 +58,19 @@ module _ (s : Bytes) (L : ResourceLimits) (h : declared.Header) (w : OptionWarni
   abbrev functions : Read (List Prototype)
   functions = function L (L .«max_nesting_depth») outermost (c₂ .at) (drop (c₂ .at) s)
 
-  behind-byte : main L 0 s ≡ next functions (load (header-passed (header 0 (drop 0 s)) h w c₁ e₁ .value))
-  behind-byte =
-      taken _ (onward exact-header s 0 (header-passed (header 0 (drop 0 s)) h w c₁ e₁ .was))
-      ∙ taken _ (onward (exact-field 1) s (c₁ .at) (u8-ok (byte (c₁ .at) (drop (c₁ .at) s)) v c₂ e₂))
+  behind-byte : main L 0 s ≡ next functions (load (headed s L 0 h w c₁ e₁ .value))
+  behind-byte = taken _ (header-on s L 0 h w c₁ e₁) ∙ taken _ (byte-on s L 0 h w c₁ e₁ v c₂ e₂)
 
   pub main-puts : {l l′ : Bytes} {r : CopyAnswer} → Answers chunkBytes functions l r l′ → Answers loadedBytes (main L 0 s) l r l′
   main-puts {l} {l′} {r} a = record { stops = λ q f. stops functions refl q (sym behind-byte ∙ f); puts = λ x to rest f. puts functions refl x to rest (sym behind-byte ∙ f) }
     where
-      stops : (o : Read (List Prototype)) → functions ≡ o → (q : Refusal) → next o (load (header-passed (header 0 (drop 0 s)) h w c₁ e₁ .value)) ≡ refused q → r ≡ answer.Err q
+      stops : (o : Read (List Prototype)) → functions ≡ o → (q : Refusal) → next o (load (headed s L 0 h w c₁ e₁ .value)) ≡ refused q → r ≡ answer.Err q
       stops (ok ps to rest) is q f = absurd (never (sym f))
       stops (refused p) is q f = let same : p ≡ q = cc in a .stops q (is ∙ ap refused same)
 
-      puts : (o : Read (List Prototype)) → functions ≡ o → (x : Loaded) (to : ℕ) (rest : Bytes) → next o (load (header-passed (header 0 (drop 0 s)) h w c₁ e₁ .value)) ≡ ok x to rest → PutAll (loadedBytes x rest) l r l′
+      puts : (o : Read (List Prototype)) → functions ≡ o → (x : Loaded) (to : ℕ) (rest : Bytes) → next o (load (headed s L 0 h w c₁ e₁ .value)) ≡ ok x to rest → PutAll (loadedBytes x rest) l r l′
       puts (ok ps up rest′) is x to rest f =
-          let same : record { headed = header-passed (header 0 (drop 0 s)) h w c₁ e₁ .value; functions = ps } ≡ x = cc in
+          let same : record { headed = headed s L 0 h w c₁ e₁ .value; functions = ps } ≡ x = cc in
           let left : rest′ ≡ rest = cc in
           subst (λ b. PutAll b l r l′) (λ i. chunkBytes (same i .functions) (left i)) (a .puts ps up rest′ is)
       puts (refused p) is x to rest f = absurd (never f)
@@ -153,15 +141,3 @@ module _ (old : Bytes) (o : Outcome) where
 pub all-bytes : (s : Bytes) → ((i : ℕ) → i < length s → getD s i 0 < 256) → Below 256 s
 all-bytes [] h = tt
 all-bytes (x ∷ s) h = (h 0 (omega arith), all-bytes s (λ i k. h (suc i) (omega arith)))
-
--- ## The input limit
-both : (b c : Bool) → b && c ≡ true → (b ≡ true) × (c ≡ true)
-both true true e = (refl, refl)
-both true false e = absurd (let z : _≡_ {A = ℕ} 0 1 = cc in omega arith)
-both false c e = absurd (let z : _≡_ {A = ℕ} 0 1 = cc in omega arith)
-
-first-limit : (a b c d e f g h i : Bool) → a && b && c && d && e && f && g && h && i ≡ true → a ≡ true
-first-limit a b c d e f g h i t = both a b (both _ c (both _ d (both _ e (both _ f (both _ g (both _ h (both _ i t .0) .0) .0) .0) .0) .0) .0) .0
-
-pub input-ceiling : (L : ResourceLimits) → withinCeilings L ≡ true → L .«max_input_bytes» ≤ 16777216
-input-ceiling L e = leb-true (L .«max_input_bytes») 16777216 (first-limit _ _ _ _ _ _ _ _ _ e)

@@ -1,7 +1,5 @@
 // chunk.rs, `encode_chunk_lua54`: the archive copy of a chunk, written into lent memory.
 // One walk judges a chunk and copies it as far as the copy has room: lent next to nothing it measures, lent enough it writes.
-pub mod parts;
-pub mod walk;
 pub mod whole;
 
 ghost use mathlib.Core.Path.{_≡_};

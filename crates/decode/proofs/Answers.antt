@@ -39,7 +39,7 @@ header-err : (o : Read Headed) (q : Refusal) → header-answer.Err q ≡ shownHe
 header-err (ok x to rest) q e = absurd (let z : _≡_ {A = ℕ} 0 1 = cc in omega arith)
 header-err (refused p) q e = cc
 
-record WasHeader (o : Read Headed) (h : declared.Header) (w : OptionWarning) (to : ℕ) : Type 0 where
+pub record WasHeader (o : Read Headed) (h : declared.Header) (w : OptionWarning) (to : ℕ) : Type 0 where
   pub value : Headed
   pub was : Was o value to
   pub header : h ≡ value .header
@@ -59,17 +59,17 @@ module _ (s : Bytes) (L : ResourceLimits) (wanted : ℕ) where
   header-refused q e = sym (ap (shownMain wanted) (stopped _ (header-err (header 0 s) q e)))
 
   module _ (h : declared.Header) (w : OptionWarning) (c₁ : Cursor) (e₁ : header-answer.Ok h w c₁ ≡ shownHeader (header 0 (drop 0 s))) where
-    headed : WasHeader (header 0 (drop 0 s)) h w (c₁ .at)
+    pub headed : WasHeader (header 0 (drop 0 s)) h w (c₁ .at)
     headed = header-ok (header 0 (drop 0 s)) h w c₁ e₁
 
-    header-on : header 0 (drop 0 s) ≡ ok (headed .value) (c₁ .at) (drop (c₁ .at) s)
+    pub header-on : header 0 (drop 0 s) ≡ ok (headed .value) (c₁ .at) (drop (c₁ .at) s)
     header-on = onward exact-header s 0 (headed .was)
 
     pub byte-refused : (q : Refusal) → u8.Err q ≡ shownU8 (byte (c₁ .at) (drop (c₁ .at) s)) → answer.Err q ≡ shownMain wanted whole
     byte-refused q e = sym (ap (shownMain wanted) (taken _ header-on ∙ stopped _ (u8-err (byte (c₁ .at) (drop (c₁ .at) s)) q e)))
 
     module _ (v : ℕ) (c₂ : Cursor) (e₂ : u8.Ok v c₂ ≡ shownU8 (byte (c₁ .at) (drop (c₁ .at) s))) where
-      byte-on : byte (c₁ .at) (drop (c₁ .at) s) ≡ ok v (c₂ .at) (drop (c₂ .at) s)
+      pub byte-on : byte (c₁ .at) (drop (c₁ .at) s) ≡ ok v (c₂ .at) (drop (c₂ .at) s)
       byte-on = onward (exact-field 1) s (c₁ .at) (u8-ok (byte (c₁ .at) (drop (c₁ .at) s)) v c₂ e₂)
 
       abbrev functions : Read (List Prototype)

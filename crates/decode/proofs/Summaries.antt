@@ -1,7 +1,7 @@
 -- The summary of a chunk against its reading.
 -- Assumes nothing.
 use mathlib.Core.Path.{_≡_, refl, sym, _∙_, ap}
-use mathlib.Core.Bool.{Bool, true, false, _&&_}
+use mathlib.Core.Bool.{Bool, true, false, true≢false, _&&_}
 use mathlib.Core.List.{List, [], _∷_, _++_}
 use Prim.Native.Nat.{ℕ, zero, suc, _+_, _≤_, _<_}
 use native.Mathlib.Omega.{arith}
@@ -135,3 +135,10 @@ in-ceilings L e =
     let three = both (input && nesting) protos (both (input && nesting && protos) code (five .0) .0) in
     let two = both input nesting (three .0) in
     (leb-true (L .«max_nesting_depth») 200 (two .1), leb-true (L .«max_total_prototypes») 16777216 (three .1), leb-true (L .«max_total_instructions») 16777216 (five .1))
+
+pub input-ceiling : (L : ResourceLimits) → withinCeilings L ≡ true → L .«max_input_bytes» ≤ 16777216
+input-ceiling L e = by (leb (L .«max_input_bytes») 16777216) refl
+  where
+    by : (t : Bool) → leb (L .«max_input_bytes») 16777216 ≡ t → L .«max_input_bytes» ≤ 16777216
+    by true h = leb-true (L .«max_input_bytes») 16777216 h
+    by false h = absurd (true≢false (sym (rw h at e)))

@@ -6,28 +6,33 @@
 --     instruction ..      answer     shownWord, .. (entryOf (λ p. p .instructions) f i (read L s)), and so for the other lists
 --     local               answers    shownLocal space (entryOf (λ p. p .loc-vars) f i (read L s)), and leaves nameWritten old of the same
 --     function_index      answers    shownIndex space (read L s), and leaves indexWritten old (read L s)
+--     copy_length         answers    shownLength (read L s)
+--     encode_chunk_lua54  answers    shownCopy space (read L s), and leaves copyWritten old (read L s)
 -- and the theorems below say what these are.
 -- Assumes nothing.
 use mathlib.Core.Path.{_≡_, _∙_, ap}
 use mathlib.Core.List.{List, [], _++_}
 use mathlib.Core.Option.{Option, none, some}
-use Prim.Native.Nat.{ℕ, _≤_}
-use borrow.Author.Tests.{le-leb}
+use Prim.Native.Nat.{ℕ, _≤_, _<_}
+use borrow.Author.Tests.{le-leb, lt-leb}
 use lib.ListN.{length, drop}
 use Rattle.format.specs.declared.limits.ResourceLimits.{ResourceLimits}
 use Rattle.format.specs.declared.refusal.Refusal.{Refusal}
-use Rattle.format.specs.declared.refusal.Refusal.the-variants.{NoFunction, NoEntry}
+use Rattle.format.specs.declared.refusal.Refusal.the-variants.{NoFunction, NoEntry, LentSpace}
 use Rattle.format.specs.Form.{Bytes}
 use Rattle.format.specs.GrammarFields.{LuaString}
 use Rattle.format.specs.Reading.{Reading, Prototype, ConstantValue, LocalVar}
 use Rattle.format.specs.ReadFields.{string}
 use Rattle.format.specs.ReadChunk.{constant, shown, refusal, read}
+use Rattle.format.specs.Copy.{copy}
 use Rattle.format.proofs.Located.{Located, StandsIf}
 use Rattle.entries.specs.Nth.{nth}
 use Rattle.entries.proofs.Items.{many-nth}
 use Rattle.entries.proofs.Strings.{ConstantStands, constant-stands, name-stands}
 use Rattle.index.specs.Index.{index, shownIndex, indexWritten}
 use Rattle.index.specs.declared.IndexAnswer.the-variants as index-answer
+use Rattle.copy.specs.Copied.{shownLength, shownCopy, copyWritten}
+use Rattle.copy.specs.declared.whole.CopyAnswer.the-variants as copy-answer
 use Rattle.lafzimdo.specs.declared.summary.SummaryAnswer.the-variants as summary-answer
 use Rattle.lafzimdo.specs.declared.fields.FieldsAnswer.the-variants as fields-answer
 use Rattle.lafzimdo.specs.declared.local.LocalAnswer.the-variants as local-answer
@@ -67,6 +72,10 @@ pub record Shows (L : ResourceLimits) (s : Bytes) (r : Reading) : Type 0 where
   -- the index is written into lent space that has room for it
   pub index-rows : (old : List ℕ) → length (index (r .functions)) ≤ length old
       → (shownIndex (length old) (read L s) ≡ index-answer.Ok (length (r .functions))) × (indexWritten old (read L s) ≡ index (r .functions) ++ drop (length (index (r .functions))) old)
+  pub copy-length : shownLength (read L s) ≡ copy-answer.Ok (length (copy r))
+  -- the copy is written into lent space that has room for it, and what stood behind it stays; else 26, and all that stood there stays
+  pub copied : (old : Bytes) → length (copy r) ≤ length old → (shownCopy (length old) (read L s) ≡ copy-answer.Ok (length (copy r))) × (copyWritten old (read L s) ≡ copy r ++ drop (length (copy r)) old)
+  pub copy-too-long : (old : Bytes) → length old < length (copy r) → (shownCopy (length old) (read L s) ≡ copy-answer.Err LentSpace) × (copyWritten old (read L s) ≡ old)
 
 module _ (L : ResourceLimits) (s : Bytes) (r : Reading) (is : read L s ≡ shown r) where
   module _ (f : ℕ) (p : Prototype) (there : nth f (r .functions) ≡ some p) where
@@ -110,6 +119,9 @@ module _ (L : ResourceLimits) (s : Bytes) (r : Reading) (is : read L s ≡ shown
     function = function-shown;
     no-function = λ f e. ap (functionOf f) is ∙ ap (orRefuse NoFunction) e;
     index-rows = λ old room. let fits = le-leb (length (index (r .functions))) (length old) room in (ap (shownIndex (length old)) is ∙ rw fits, ap (indexWritten old) is ∙ rw fits);
+    copy-length = ap shownLength is;
+    copied = λ old room. let fits = le-leb (length (copy r)) (length old) room in (ap (shownCopy (length old)) is ∙ rw fits, ap (copyWritten old) is ∙ rw fits);
+    copy-too-long = λ old short. let test = lt-leb (length (copy r)) (length old) short in (ap (shownCopy (length old)) is ∙ rw test, ap (copyWritten old) is ∙ rw test);
   }
 
 -- ## A chunk that is refused: every call answers with the same refusal, and lent memory stays as it was
@@ -120,6 +132,8 @@ pub record Refuses (L : ResourceLimits) (s : Bytes) (q : Refusal) : Type 0 where
   pub function : (f : ℕ) → functionOf f (read L s) ≡ refused q
   pub local-name : (f i : ℕ) (old : Bytes) → nameWritten old (entryOf (λ p. p .loc-vars) f i (read L s)) ≡ old
   pub index-rows : (old : List ℕ) → (shownIndex (length old) (read L s) ≡ index-answer.Err q) × (indexWritten old (read L s) ≡ old)
+  pub copy-length : shownLength (read L s) ≡ copy-answer.Err q
+  pub copied : (old : Bytes) → (shownCopy (length old) (read L s) ≡ copy-answer.Err q) × (copyWritten old (read L s) ≡ old)
 
 pub refuses : (L : ResourceLimits) (s : Bytes) (q : Refusal) → read L s ≡ refusal q → Refuses L s q
 refuses L s q is = record {
@@ -128,4 +142,6 @@ refuses L s q is = record {
   function = λ f. ap (functionOf f) is;
   local-name = λ f i old. ap (λ o. nameWritten old (entryOf (λ p. p .loc-vars) f i o)) is;
   index-rows = λ old. (ap (shownIndex (length old)) is, ap (indexWritten old) is);
+  copy-length = ap shownLength is;
+  copied = λ old. (ap (shownCopy (length old)) is, ap (copyWritten old) is);
 }

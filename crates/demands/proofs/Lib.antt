@@ -1,2 +1,3 @@
 pub mod Calls
+pub mod Written
 pub mod Demand3

@@ -1,6 +1,2 @@
 pub mod Writes
 pub mod Stores
-pub mod Entries
-pub mod Values
-pub mod Items
-pub mod Lists

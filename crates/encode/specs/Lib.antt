@@ -1,4 +1,3 @@
 pub mod Put
 pub mod Groups
 pub mod Text
-pub mod Value

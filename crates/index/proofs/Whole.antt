@@ -5,19 +5,18 @@
 --     index-written        the second pass has written the index
 -- Assumes nothing.
 use mathlib.Core.Path.{_≡_, refl, sym, _∙_, ap}
-use mathlib.Core.Bool.{Bool, true, false, _&&_}
+use mathlib.Core.Bool.{Bool, true, false}
 use mathlib.Core.List.{List, [], _∷_, _++_}
 use Prim.Native.Nat.{ℕ, _+_, _*_, _/_, _≤_, _<_}
 use native.Mathlib.Nat.{zero-add}
 use native.Mathlib.Omega.{arith}
-use borrow.Author.Tests.{leb-true, le-leb, lt-leb}
+use borrow.Author.Tests.{le-leb, lt-leb}
 use lib.Dec.{leb}
 use lib.ListN.{length, drop, length-append}
 use Rattle.format.specs.Pick.{pick}
 use Rattle.format.specs.declared.limits.ResourceLimits.{ResourceLimits}
 use Rattle.format.specs.declared.refusal.Refusal.{Refusal}
 use Rattle.format.specs.declared.refusal.Refusal.the-variants.{LentSpace}
-use Rattle.format.specs.Limits.{withinCeilings}
 use Rattle.format.specs.Form.{Bytes}
 use Rattle.format.specs.Reading.{Prototype, Reading}
 use Rattle.format.specs.GrammarChunk.{outermost, Loaded, Chunk}
@@ -41,7 +40,7 @@ use Rattle.chunk.proofs.Functions.{by-parts}
 use Rattle.decode.specs.declared.summary.Decoded.{Decoded}
 use Rattle.decode.specs.declared.summary.DecodedResult.the-variants as decoded
 use Rattle.decode.specs.Decoded.{shownOutcome, shownReading}
-use Rattle.decode.proofs.Summaries.{in-ceilings}
+use Rattle.decode.proofs.Summaries.{in-ceilings, input-ceiling}
 use Rattle.decode.proofs.MainAt.{WasShown, was-shown, First, first-of, MainAt, main-at}
 use Rattle.index.specs.declared.IndexAnswer.the-variants as answer
 use Rattle.index.specs.Index.{index, shownIndex, indexWritten}
@@ -100,17 +99,6 @@ module _ (old : List ℕ) (o : Outcome) (d : Decoded) (e : decoded.Ok d ≡ show
         (ap answer.Ok count ∙ sym (both .0), e ∙ sym (both .1))
 
 -- ## The second pass
-both : (b c : Bool) → b && c ≡ true → (b ≡ true) × (c ≡ true)
-both true true e = (refl, refl)
-both true false e = absurd (let z : _≡_ {A = ℕ} 0 1 = cc in omega arith)
-both false c e = absurd (let z : _≡_ {A = ℕ} 0 1 = cc in omega arith)
-
-first-limit : (a b c d e f g h i : Bool) → a && b && c && d && e && f && g && h && i ≡ true → a ≡ true
-first-limit a b c d e f g h i t = both a b (both _ c (both _ d (both _ e (both _ f (both _ g (both _ h (both _ i t .0) .0) .0) .0) .0) .0) .0) .0
-
-input-ceiling : (L : ResourceLimits) → withinCeilings L ≡ true → L .«max_input_bytes» ≤ 16777216
-input-ceiling L e = leb-true (L .«max_input_bytes») 16777216 (first-limit _ _ _ _ _ _ _ _ _ e)
-
 module _ (old : List ℕ) (L : ResourceLimits) (s : Bytes) (d : Decoded) (e : decoded.Ok d ≡ shownOutcome 0 (read L s)) where
   abbrev all-functions : List Prototype
   all-functions = functions old (read L s) d e

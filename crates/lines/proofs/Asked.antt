@@ -3,7 +3,7 @@
 --     line-shown       the line of its row is its line
 -- Assumes nothing.
 use mathlib.Core.Path.{_≡_, refl, sym, _∙_, ap}
-use mathlib.Core.Bool.{Bool, true, false, true≢false}
+use mathlib.Core.Bool.{Bool, true, false}
 use Prim.Native.Nat.{ℕ, _≤_}
 use native.Mathlib.Omega.{arith}
 use borrow.Author.Tests.{leb-true}
@@ -21,6 +21,7 @@ use Rattle.format.proofs.Located.{Located}
 use Rattle.format.proofs.Steps.{run-was}
 use Rattle.chunk.specs.declared.row.FunctionRow.{FunctionRow}
 use Rattle.chunk.specs.Row.{rowOf}
+use Rattle.decode.proofs.Summaries.{input-ceiling}
 use Rattle.access.specs.declared.row.RowAnswer.the-variants as row
 use Rattle.access.specs.Asked.{Asked, found, refused, functionOf}
 use Rattle.access.specs.Places.{shownRowAnswer}
@@ -30,13 +31,6 @@ use Rattle.lines.specs.Lines.{answerOf, shownLine}
 use Rattle.lines.specs.Scan.{answered, shownRowLine}
 
 -- ## The input limit
-ceiling : (L : ResourceLimits) → withinCeilings L ≡ true → L .«max_input_bytes» ≤ 16777216
-ceiling L e = by (leb (L .«max_input_bytes») 16777216) refl
-  where
-    by : (t : Bool) → leb (L .«max_input_bytes») 16777216 ≡ t → L .«max_input_bytes» ≤ 16777216
-    by true h = leb-true (L .«max_input_bytes») 16777216 h
-    by false h = absurd (true≢false (sym (rw h at e)))
-
 module _ (L : ResourceLimits) (s : Bytes) (f : ℕ) (x : FunctionRow) where
   pub input-low : row.Ok x ≡ shownRowAnswer (functionOf f (read L s)) → length s ≤ 16777216
   unfolding read
@@ -44,7 +38,7 @@ module _ (L : ResourceLimits) (s : Bytes) (f : ℕ) (x : FunctionRow) where
     where
       by : (t : Bool) → withinCeilings L ≡ t → (u : Bool) → leb (length s) (L .«max_input_bytes») ≡ u
           → row.Ok x ≡ shownRowAnswer (functionOf f (pick t (pick u (outcome L (main L 0 s)) (refusal InputBytes)) (refusal LimitAboveCeiling))) → length s ≤ 16777216
-      by true p true q e = omega (arith, ceiling L p, leb-true (length s) (L .«max_input_bytes») q)
+      by true p true q e = omega (arith, input-ceiling L p, leb-true (length s) (L .«max_input_bytes») q)
       by true p false q e = absurd (let z : _≡_ {A = ℕ} 0 1 = cc in omega arith)
       by false p u q e = absurd (let z : _≡_ {A = ℕ} 0 1 = cc in omega arith)
 

@@ -3,8 +3,8 @@ use borrow.Author.Needs.{needs}
 use mathlib.Core.Path.{sym, _∙_}
 use native.Mathlib.Omega.{arith}
 use borrow.Author.Tests.{not-true, not-false}
-use Rattle.decode.proofs.Summaries.{in-ceilings}
-use Rattle.copy.proofs.Outcomes.{above, too-long, chunk-copied, input-ceiling, all-bytes}
+use Rattle.decode.proofs.Summaries.{in-ceilings, input-ceiling}
+use Rattle.copy.proofs.Outcomes.{above, too-long, chunk-copied, all-bytes}
 use Rattle.copy.proofs.whole.copy_chunk.Statement.{statement}
 use Rattle.copy.proofs.whole.copy_chunk.Tie as tie
 

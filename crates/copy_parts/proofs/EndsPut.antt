@@ -1,0 +1,37 @@
+-- The end of a function, in the code's terms: by what the calls showed and put.
+-- Assumes nothing.
+use mathlib.Core.Path.{_≡_, sym, _∙_, ap}
+use Prim.Native.Nat.{ℕ}
+use lib.ListN.{drop}
+use Rattle.format.specs.declared.refusal.Refusal.{Refusal}
+use Rattle.format.specs.Form.{Bytes}
+use Rattle.format.specs.Read.{Read, ok}
+use Rattle.format.proofs.Exact.{never}
+use Rattle.reader.specs.declared.cursor.Cursor.{Cursor}
+use Rattle.chunk.specs.declared.parts.Head as declared-head
+use Rattle.chunk.specs.declared.parts.Tail as declared-tail
+use Rattle.chunk.specs.declared.parts.TailResult.the-variants as tail-answer
+use Rattle.chunk.specs.declared.walk.Where.{Where}
+use Rattle.chunk.specs.declared.walk.Walked.{Walked}
+use Rattle.chunk.specs.declared.walk.WalkResult.{WalkResult}
+use Rattle.chunk.specs.declared.walk.WalkResult.the-variants as answer
+use Rattle.chunk.specs.Parts.{Tail, tail}
+use Rattle.chunk.specs.PartsShown.{tailOf, shownTail}
+use Rattle.chunk.specs.Walk.{finishedShown}
+use Rattle.chunk.proofs.Functions.{tail-err, tail-ok}
+use Rattle.encode.specs.Put.{Put}
+use Rattle.copy_parts.specs.Parts.{tailBytes}
+use Rattle.copy_parts.specs.Ends.{PutsTail, endShown}
+
+module _ (place : Where) (start : ℕ) (h : declared-head.Head) (nested : Walked) {at : ℕ} {l : Bytes} {len : ℕ} {l′ : Bytes} where
+  pub end-stops : (o : Read Tail) (q : Refusal) (r : WalkResult) → tail-answer.Err q ≡ shownTail o → r ≡ answer.Err q → (r ≡ endShown place start h nested o) × PutsTail o at l len l′
+  end-stops o q r e is = (is ∙ sym (ap (endShown place start h nested) (tail-err o q e)), record { put = λ t to rest f. absurd (never (sym (tail-err o q e) ∙ f)) })
+
+  pub end-read : (s : Bytes) (limit from : ℕ) (t : declared-tail.Tail) (c : Cursor) (x : Walked) → tail-answer.Ok t c ≡ shownTail (tail limit from (drop from s)) → x ≡ finishedShown place start h t c nested 0
+      → ((from to : ℕ) (v : Tail) (rest : Bytes) → tail limit from (drop from s) ≡ ok v to rest → t ≡ tailOf v → Put (tailBytes v) at l len l′)
+      → (answer.Ok x ≡ endShown place start h nested (tail limit from (drop from s))) × PutsTail (tail limit from (drop from s)) at l len l′
+  end-read s limit from t c x e is p =
+      let o = tail-ok (tail limit from (drop from s)) t c e in (
+        ap answer.Ok (is ∙ ap (λ t. finishedShown place start h t c nested 0) (o .shows)) ∙ sym (ap (endShown place start h nested) (o .was .is)),
+        record { put = λ v to rest f. let same : o .value ≡ v = (let both = sym (o .was .is) ∙ f in cc) in p from to v rest f (o .shows ∙ ap tailOf same) },
+      )

@@ -1,0 +1,14 @@
+-- `copy_parts::parts::put_lines` meets its contract. Assumes nothing.
+use borrow.Author.Needs.{needs}
+use Rattle.encode.proofs.Writes.{put-then}
+use Rattle.copy_parts.proofs.parts.put_lines.Statement.{statement}
+use Rattle.copy_parts.proofs.parts.put_lines.Tie as tie
+
+pub put-lines-spec : {M : Type 1} → statement M
+put-lines-spec =
+    tie.close
+    (tie.spec
+    (λ c κs. search needs)
+    (λ c κs. search needs)
+    (λ c. search needs)
+    (λ c. put-then (c .before .before .before .before .before .before .put-varint .ensures) (c .before .before .put-varint2 .ensures)))

@@ -1,0 +1,152 @@
+// The entries of a function's lists, read at a place of the chunk and put at a place of the copy.
+ghost use mathlib.Core.Path.{_≡_};
+ghost use lib.ListN.{drop};
+ghost use Rattle.format.specs.Form.{Below};
+ghost use Rattle.format.specs.ReadFields.{string};
+ghost use Rattle.format.specs.ReadChunk.{constant, anchor, local};
+ghost use Rattle.format.specs.Copy.{constantBytes, anchorBytes, localBytes, optionBytes};
+ghost use Rattle.encode.specs.Put.{Put, Puts};
+ghost use Rattle.copy_parts.specs.Value.{Stood, valueBytes};
+use encode::number::put_varint;
+use encode::raw::Spot;
+use encode::raw::put_between;
+use encode::text::put_name;
+use encode::text::put_string;
+use encode::text::put_tagged;
+use lists::constant::ConstantResult;
+use lists::constant::ConstantValue;
+use lists::constant::read_constant;
+use lists::debug::AnchorResult;
+use lists::debug::LocalResult;
+use lists::debug::read_anchor;
+use lists::debug::read_local;
+use reader::cursor::Cursor;
+use reader::string::StringResult;
+use reader::string::read_string_lua54;
+
+// The name of an upvalue. Ruled out: an absent name written as empty, a padded size kept.
+pub fn copy_name(
+    s: &[u8],
+    cursor: Cursor,
+    max_string_bytes: usize,
+    out: &mut [u8],
+    at: usize,
+) -> Spot
+    ensures { λ r. ⌜ Puts optionBytes (string «max_string_bytes» (cursor .at) (drop (cursor .at) (now (s .entry)))) at (now (out .entry)) (r .next .at) (r .behind) (now (out .exit)) ⌝ }
+{
+    let read = read_string_lua54(s, cursor, max_string_bytes);
+    match read {
+        StringResult::Err(_) => Spot {
+            next: cursor,
+            behind: at,
+        },
+        StringResult::Ok { string, next } => {
+            let behind = put_string(s, string, out, at);
+            Spot {
+                next: next,
+                behind: behind,
+            }
+        }
+    }
+}
+
+// An anchor. Ruled out: pc and line exchanged, a padded number kept.
+pub fn copy_anchor(s: &[u8], cursor: Cursor, out: &mut [u8], at: usize) -> Spot
+    ensures { λ r. ⌜ Puts anchorBytes (anchor (cursor .at) (drop (cursor .at) (now (s .entry)))) at (now (out .entry)) (r .next .at) (r .behind) (now (out .exit)) ⌝ }
+{
+    let read = read_anchor(s, cursor);
+    match read {
+        AnchorResult::Err(_) => Spot {
+            next: cursor,
+            behind: at,
+        },
+        AnchorResult::Ok { value, next } => {
+            let first = put_varint(out, at, value.pc as u64);
+            let behind = put_varint(out, first, value.line as u64);
+            Spot {
+                next: next,
+                behind: behind,
+            }
+        }
+    }
+}
+
+// A local variable. Ruled out: an absent name written as absent, startpc and endpc exchanged.
+pub fn copy_local(
+    s: &[u8],
+    cursor: Cursor,
+    max_string_bytes: usize,
+    out: &mut [u8],
+    at: usize,
+) -> Spot
+    ensures { λ r. ⌜ Puts localBytes (local «max_string_bytes» (cursor .at) (drop (cursor .at) (now (s .entry)))) at (now (out .entry)) (r .next .at) (r .behind) (now (out .exit)) ⌝ }
+{
+    let read = read_local(s, cursor, max_string_bytes);
+    match read {
+        LocalResult::Err(_) => Spot {
+            next: cursor,
+            behind: at,
+        },
+        LocalResult::Ok {
+            name,
+            startpc,
+            endpc,
+            next,
+        } => {
+            let named = put_name(s, name, out, at);
+            let first = put_varint(out, named, startpc as u64);
+            let behind = put_varint(out, first, endpc as u64);
+            Spot {
+                next: next,
+                behind: behind,
+            }
+        }
+    }
+}
+
+// A constant that stands between two places. A string's size is written anew; any other constant stays as it is.
+fn put_value(
+    s: &[u8],
+    first: usize,
+    end: usize,
+    value: ConstantValue,
+    out: &mut [u8],
+    at: usize,
+) -> usize
+    ensures { λ r. ⌜ (Stood (now (s .entry)) first end value → Put (valueBytes (now (s .entry)) first end value) at (now (out .entry)) r (now (out .exit))) ⌝ }
+{
+    match value {
+        ConstantValue::ShortString(string) => put_tagged(s, 4, string, out, at),
+        ConstantValue::LongString(string) => put_tagged(s, 20, string, out, at),
+        ConstantValue::Nil => put_between(s, first, end, out, at),
+        ConstantValue::Boolean(_) => put_between(s, first, end, out, at),
+        ConstantValue::Integer(_) => put_between(s, first, end, out, at),
+        ConstantValue::Float(_) => put_between(s, first, end, out, at),
+    }
+}
+
+// A constant. Ruled out: a short string written as a long one, a string of size 0 written as absent.
+pub fn copy_constant(
+    s: &[u8],
+    cursor: Cursor,
+    max_string_bytes: usize,
+    out: &mut [u8],
+    at: usize,
+) -> Spot
+    ensures { λ r. ⌜ (Below 256 (now (s .entry)) → Puts constantBytes (constant «max_string_bytes» (cursor .at) (drop (cursor .at) (now (s .entry)))) at (now (out .entry)) (r .next .at) (r .behind) (now (out .exit))) ⌝ }
+{
+    let read = read_constant(s, cursor, max_string_bytes);
+    match read {
+        ConstantResult::Err(_) => Spot {
+            next: cursor,
+            behind: at,
+        },
+        ConstantResult::Ok { value, next } => {
+            let behind = put_value(s, cursor.at, next.at, value, out, at);
+            Spot {
+                next: next,
+                behind: behind,
+            }
+        }
+    }
+}

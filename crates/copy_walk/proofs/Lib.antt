@@ -1,0 +1,4 @@
+pub mod Nests
+pub mod Tails
+pub mod Loops
+pub mod Functions
