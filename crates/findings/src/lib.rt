@@ -2,13 +2,10 @@
 ghost use mathlib.Core.Path.{_≡_};
 ghost use lib.ListN.{length};
 ghost use Rattle.format.specs.ReadChunk as format;
-ghost use Rattle.findings.specs.Listed.{shownFindings, findingsWritten};
-
-pub mod plan;
-
-use crate::plan::FindingsAnswer;
-use crate::plan::forward;
-use crate::plan::prepare;
+ghost use Rattle.finding_plan.specs.Listed.{shownFindings, findingsWritten};
+use finding_plan::FindingsAnswer;
+use finding_plan::forward;
+use finding_plan::prepare;
 use format::limits::ResourceLimits;
 use validator::finding::Finding;
 

@@ -60,8 +60,8 @@ use Rattle.validator.specs.declared.search.Position.{Position}
 use Rattle.validator.specs.declared.search.Step.{Step}
 use Rattle.validator.specs.Findings.{MAX-DIAGNOSTICS, Listing}
 use Rattle.validator.specs.Position.{outOf, stepped}
-use Rattle.findings.specs.declared.plan.Plan.{Plan}
-use Rattle.findings.specs.Plan.{written, Planned}
+use Rattle.finding_plan.specs.declared.Plan.{Plan}
+use Rattle.finding_plan.specs.Plan.{written, Planned}
 use Rattle.findings.proofs.Rest.{rest}
 use Rattle.findings.proofs.Steps.{After, at-first, step-found}
 use Rattle.findings.proofs.Filled.{written-zero, written-length, written-next}
@@ -73,18 +73,18 @@ use Rattle.validator.proofs.search.Position as K
 use Rattle.validator.proofs.search.Position.Laws as K′
 use Rattle.validator.proofs.search.Step as S
 use Rattle.validator.proofs.search.Step.Laws as S′
-use Rattle.findings.proofs.plan.Plan as P
-use Rattle.findings.proofs.plan.Plan.Laws as P′
-use Rattle.findings.proofs.plan.FindingsAnswer as R
-use Rattle.findings.proofs.plan.FindingsAnswer.Laws as R′
-use Rattle.findings.proofs.plan.forward as forward
-use Rattle.findings.proofs.plan.forward.Symbol as forward-def
-use Rattle.findings.proofs.plan.forward.Symbol.{name as #forward}
-use Rattle.findings.proofs.plan.forward.Met as forward-thm
-use Rattle.findings.proofs.plan.prepare as prepare
-use Rattle.findings.proofs.plan.prepare.Symbol as prepare-def
-use Rattle.findings.proofs.plan.prepare.Symbol.{name as #prepare}
-use Rattle.findings.proofs.plan.prepare.Met as prepare-thm
+use Rattle.finding_plan.proofs.Plan as P
+use Rattle.finding_plan.proofs.Plan.Laws as P′
+use Rattle.finding_plan.proofs.FindingsAnswer as R
+use Rattle.finding_plan.proofs.FindingsAnswer.Laws as R′
+use Rattle.finding_plan.proofs.forward as forward
+use Rattle.finding_plan.proofs.forward.Symbol as forward-def
+use Rattle.finding_plan.proofs.forward.Symbol.{name as #forward}
+use Rattle.finding_plan.proofs.forward.Met as forward-thm
+use Rattle.finding_plan.proofs.prepare as prepare
+use Rattle.finding_plan.proofs.prepare.Symbol as prepare-def
+use Rattle.finding_plan.proofs.prepare.Symbol.{name as #prepare}
+use Rattle.finding_plan.proofs.prepare.Met as prepare-thm
 use Rattle.findings.proofs.validate_chunk_lua54.Key.{name as #validate}
 use Rattle.findings.proofs.validate_chunk_lua54 as f
 use Rattle.findings.proofs.validate_chunk_lua54.Statement as stated
@@ -391,5 +391,5 @@ validate-chunk-lua54-spec 𝓤 H 𝓜 𝓖 𝓡 =
     entered 𝓤 H (tripleOf 𝓤 H (𝓖 .A) f.signature (f.spec 𝓤 H (𝓖 .A) (𝓜 .mem) (𝓡 .run)))
     (tables 𝓤 H 𝓜 𝓡 code.env .C) (tables 𝓤 H 𝓜 𝓡 code.env .Λ) #validate code.function (code.unfolded 𝓤 H 𝓜 𝓡)
     (validate-meets 𝓤 H (𝓖 .A) (givenOf 𝓤 H 𝓜 𝓖) (𝓜 .mem) (𝓡 .run) (tablesOf 𝓤 H 𝓜 (tables 𝓤 H 𝓜 𝓡 code.env))
-    (cited 𝓤 H (Prepare 𝓤 H (𝓖 .A) (𝓜 .mem) (𝓡 .run)) 𝓜 𝓡 code.env #prepare prepare-def.routine code.calls-findings·plan·prepare (prepare-thm.met 𝓤 H 𝓜 𝓖 𝓡))
-    (cited 𝓤 H (Forward 𝓤 H (𝓖 .A) (𝓜 .mem) (𝓡 .run)) 𝓜 𝓡 code.env #forward forward-def.routine code.calls-findings·plan·forward (forward-thm.met 𝓤 H 𝓜 𝓖 𝓡)))
+    (cited 𝓤 H (Prepare 𝓤 H (𝓖 .A) (𝓜 .mem) (𝓡 .run)) 𝓜 𝓡 code.env #prepare prepare-def.routine code.calls-finding-plan·prepare (prepare-thm.met 𝓤 H 𝓜 𝓖 𝓡))
+    (cited 𝓤 H (Forward 𝓤 H (𝓖 .A) (𝓜 .mem) (𝓡 .run)) 𝓜 𝓡 code.env #forward forward-def.routine code.calls-finding-plan·forward (forward-thm.met 𝓤 H 𝓜 𝓖 𝓡)))

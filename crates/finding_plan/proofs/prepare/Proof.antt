@@ -1,14 +1,14 @@
--- `findings::plan::prepare` meets its contract: by what the first pass showed (`Started.antt`). Assumes nothing.
+-- `finding_plan::prepare` meets its contract: by what the first pass showed (`Started.antt`). Assumes nothing.
 use mathlib.Core.Path.{sym, ap, subst, _∙_}
 use borrow.Author.Needs.{needs}
 use Rattle.format.specs.ReadChunk.{read}
 use Rattle.validator.specs.Findings.{MAX-DIAGNOSTICS}
 use Rattle.validator.specs.Position.{outOf, startPosition}
-use Rattle.findings.specs.Plan.{Planned}
-use Rattle.findings.proofs.Started.{was-refused, was, few-instructions, main-there, all-findings}
-use Rattle.findings.proofs.Planning.{plan-refused, plan-made}
-use Rattle.findings.proofs.plan.prepare.Statement.{statement}
-use Rattle.findings.proofs.plan.prepare.Tie as tie
+use Rattle.finding_plan.specs.Plan.{Planned}
+use Rattle.finding_plan.proofs.Started.{was-refused, was, few-instructions, main-there, all-findings}
+use Rattle.finding_plan.proofs.Planning.{plan-refused, plan-made}
+use Rattle.finding_plan.proofs.prepare.Statement.{statement}
+use Rattle.finding_plan.proofs.prepare.Tie as tie
 
 returns-3 : tie.Need-returns-3
 returns-3 c =

@@ -10,8 +10,8 @@ use Rattle.format.specs.Pick.{pick}
 use Rattle.format.specs.ReadChunk.{Outcome, shown, refusal}
 use Rattle.validator.specs.declared.finding.Finding.{Finding}
 use Rattle.validator.specs.Findings.{Listing, chunkFindings, verdict}
-use Rattle.findings.specs.declared.plan.FindingsAnswer.{FindingsAnswer}
-use Rattle.findings.specs.declared.plan.FindingsAnswer.the-variants as answer
+use Rattle.finding_plan.specs.declared.FindingsAnswer.{FindingsAnswer}
+use Rattle.finding_plan.specs.declared.FindingsAnswer.the-variants as answer
 
 -- of a listing of findings
 abbrev pub listingAnswer : ℕ → Listing → FindingsAnswer

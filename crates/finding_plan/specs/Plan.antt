@@ -14,9 +14,9 @@ use Rattle.validator.specs.declared.finding.Finding.{Finding}
 use Rattle.validator.specs.declared.search.Position.{Position}
 use Rattle.validator.specs.Findings.{MAX-DIAGNOSTICS, Listing, verdict}
 use Rattle.validator.specs.Position.{outOf}
-use Rattle.findings.specs.declared.plan.FindingsAnswer.the-variants as answer
-use Rattle.findings.specs.declared.plan.Plan.{Plan}
-use Rattle.findings.specs.Listed.{shownFindings, findingsWritten}
+use Rattle.finding_plan.specs.declared.FindingsAnswer.the-variants as answer
+use Rattle.finding_plan.specs.declared.Plan.{Plan}
+use Rattle.finding_plan.specs.Listed.{shownFindings, findingsWritten}
 
 abbrev pub refusedPlan : Refusal → Position → Plan
 refusedPlan q start = record { answer = answer.Err q; count = 0; start = start }

@@ -23,9 +23,9 @@ use Rattle.validator.specs.declared.finding.Finding.{Finding}
 use Rattle.validator.specs.declared.finding.Verdict.{Verdict}
 use Rattle.validator.specs.declared.search.Position.{Position}
 use Rattle.validator.specs.declared.tally.Totals.{Totals}
-use Rattle.findings.specs.declared.plan.FindingsAnswer.the-variants as answer
-use Rattle.findings.specs.Listed.{listingAnswer, listingWritten, shownFindings, findingsWritten}
-use Rattle.findings.specs.Plan.{refusedPlan, planOf, written, Planned}
+use Rattle.finding_plan.specs.declared.FindingsAnswer.the-variants as answer
+use Rattle.finding_plan.specs.Listed.{listingAnswer, listingWritten, shownFindings, findingsWritten}
+use Rattle.finding_plan.specs.Plan.{refusedPlan, planOf, written, Planned}
 
 module _ (L : ResourceLimits) (s : Bytes) (room : ℕ) (start : Position) where
   pub plan-refused : (q : Refusal) → read L s ≡ refusal q → Planned L s room (refusedPlan q start)

@@ -5,7 +5,7 @@ ghost use Rattle.format.specs.ReadChunk as format;
 ghost use Rattle.validator.specs.Answers.{keptCount};
 ghost use Rattle.validator.specs.Findings.{MAX-DIAGNOSTICS};
 ghost use Rattle.validator.specs.Position.{outOf, stepped, startPosition};
-ghost use Rattle.findings.specs.Plan.{planOf, refusedPlan, Planned};
+ghost use Rattle.finding_plan.specs.Plan.{planOf, refusedPlan, Planned};
 use chunk::row::OptionRow;
 use decode::summary::DecodedResult;
 use decode::summary::Summary;

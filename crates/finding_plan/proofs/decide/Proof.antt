@@ -1,13 +1,13 @@
--- `findings::plan::decide` meets its contract: by what was counted (`Planning.antt`). Assumes nothing.
+-- `finding_plan::decide` meets its contract: by what was counted (`Planning.antt`). Assumes nothing.
 use Prim.Native.Nat.{ℕ}
 use borrow.Author.Needs.{needs}
 use Rattle.format.specs.declared.limits.ResourceLimits.{ResourceLimits}
 use Rattle.format.specs.Form.{Bytes}
 use Rattle.validator.specs.Findings.{MAX-DIAGNOSTICS, Listing}
 use Rattle.validator.specs.Position.{outOf, startPosition}
-use Rattle.findings.proofs.Planning.{too-many, all-fit}
-use Rattle.findings.proofs.plan.decide.Statement.{statement}
-use Rattle.findings.proofs.plan.decide.Tie as tie
+use Rattle.finding_plan.proofs.Planning.{too-many, all-fit}
+use Rattle.finding_plan.proofs.decide.Statement.{statement}
+use Rattle.finding_plan.proofs.decide.Tie as tie
 
 abbrev found : ResourceLimits → Bytes → ℕ → ℕ → Listing
 found L s place kept = outOf L s MAX-DIAGNOSTICS (startPosition place kept)

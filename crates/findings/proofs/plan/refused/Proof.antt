@@ -1,9 +1,0 @@
--- `findings::plan::refused` meets its contract. Assumes nothing.
-use mathlib.Core.Path.{ap}
-use borrow.Author.Needs.{needs}
-use Rattle.findings.specs.Plan.{refusedPlan}
-use Rattle.findings.proofs.plan.refused.Statement.{statement}
-use Rattle.findings.proofs.plan.refused.Tie as tie
-
-pub refused-spec : {M : Type 1} → statement M
-refused-spec = tie.close (tie.spec (λ c κs. search needs) (λ c. ap (refusedPlan (c .before .args .refusal)) (c .start .ensures)))
