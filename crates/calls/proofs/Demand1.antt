@@ -1,0 +1,319 @@
+-- Demand 1. Only what 01 lists is refused, and of several conditions the first in 01's order is the one that is reported; lent memory is then as it was.
+-- One theorem for each call: the refusal in its answer is the first of its conditions (Refused.antt), in the order 21, 22, 1 to 20, 23, 24, 25, 26, for words 28, 27.
+-- Each call's contract says that its answer is the definition that stands here on the left. (That every call ends and that nothing wraps is proved with each function.)
+--     numbers          each refusal has one of 01's numbers
+--     bytes-first      what the reader refuses is 1 to 20, and no byte behind it matters: a file's refusals come in the order of its bytes
+--     ..-kept          a call that refuses leaves lent memory as it was
+-- Assumes nothing.
+use mathlib.Core.Path.{_≡_, refl, sym, _∙_, ap}
+use mathlib.Core.Bool.{Bool, true, false}
+use mathlib.Core.List.{List, [], _∷_, _++_}
+use mathlib.Core.Option.{Option, none, some}
+use Prim.Native.Nat.{ℕ, _≤_, _<_, _^_}
+use native.Mathlib.Omega.{arith}
+use lib.Dec.{leb, ltb}
+use lib.IntN.{ℤ, pos, negsuc, _+ℤ_}
+use lib.ListN.{length, drop}
+use Rattle.format.specs.declared.limits.ResourceLimits.{ResourceLimits}
+use Rattle.format.specs.declared.refusal.Refusal.{Refusal}
+use Rattle.format.specs.declared.refusal.Refusal.the-variants as refusals
+use Rattle.format.specs.Pick.{pick}
+use Rattle.format.specs.Form.{Bytes}
+use Rattle.format.specs.Limits.{withinCeilings}
+use Rattle.format.specs.Refusals.{reported}
+use Rattle.format.specs.Reading.{Reading, Prototype, LocalVar}
+use Rattle.format.specs.GrammarChunk.{Loaded}
+use Rattle.format.specs.Read.{Read, ok, refused}
+use Rattle.format.specs.ReadChunk.{Outcome, shown, refusal, main, outcome, read}
+use Rattle.format.specs.Copy.{copy}
+use Rattle.entries.specs.Nth.{nth}
+use Rattle.access.specs.Asked.{Asked, found, orRefuse, functionOf, entryIn, entryOf}
+use Rattle.access.specs.Asked as asked
+use Rattle.index.specs.Index.{index, shownIndex, indexWritten}
+use Rattle.lines.specs.declared.line.LineAnswer.the-variants as line-answer
+use Rattle.lines.specs.Lines.{large, shownLine}
+use Rattle.copy.specs.Copied.{shownLength, shownCopy, copyWritten}
+use Rattle.lafzimdo.specs.Summaries.{shownSummary}
+use Rattle.lafzimdo.specs.Fields.{shownFields}
+use Rattle.lafzimdo.specs.Entries.{shownWord, shownConstant, shownUpvalue, shownDelta, shownAnchor, shownName}
+use Rattle.lafzimdo.specs.Locals.{shownLocal, nameWritten}
+use Rattle.validator.specs.declared.finding.Finding.{Finding}
+use Rattle.validator.specs.Findings.{chunkFindings}
+use Rattle.validator.specs.Answers.{shownVerdict, shownCount}
+use Rattle.finding_plan.specs.Listed.{shownFindings, findingsWritten}
+use Rattle.opcodes.specs.declared.opcode.OpMode54.{OpMode54}
+use Rattle.opcodes.specs.declared.opcode.OpMode54.the-variants.{IABC, IABx, IAsBx, IAx, IsJ}
+use Rattle.opcodes.specs.declared.opcode.Opcode54.{Opcode54}
+use Rattle.opcodes.specs.declared.opcode.OptionOpcode54.{OptionOpcode54}
+use Rattle.opcodes.specs.declared.opcode.OptionOpcode54.the-variants as option
+use Rattle.opcodes.specs.Table.{modeOf}
+use Rattle.instructions.specs.declared.instruction.RawInstruction54.{RawInstruction54}
+use Rattle.instructions.specs.declared.instruction.Encoded.{Encoded}
+use Rattle.instructions.specs.declared.instruction.Encoded.the-variants as word
+use Rattle.instructions.specs.Word.{unbiased, withUnbiased, encodedIABx, encodedIAx, byMode, byOpcode, encoded}
+use Rattle.instructions.proofs.Ranges.{inRange, isWord, ranges}
+use Rattle.calls.proofs.InOrder.{ByFile, Refuses, steady-main}
+use Rattle.calls.proofs.Refused.{unless, missing, first, byReader, ofChunk, andThen, noFunction, ofFunction, noEntry, largeLine, ofLocal, longName, tooLong, noOpcode, outOfRange}
+use Rattle.calls.proofs.Refused.{inSummary, inFields, inWord, inConstant, inUpvalue, inDelta, inAnchor, inName, inLocal, inLine, inIndex, inCopy, inVerdict, inCount, inFindings, inEncoded}
+
+-- ## Numbers
+-- each refusal has one of 01's numbers (its number and place: `reported`)
+pub numbers : (q : Refusal) → (1 ≤ reported q .number) × (reported q .number ≤ 28)
+numbers (refusals.Truncated at) = (omega arith, omega arith)
+numbers refusals.Overflow = (omega arith, omega arith)
+numbers refusals.VarintOverflow = (omega arith, omega arith)
+numbers (refusals.Signature at) = (omega arith, omega arith)
+numbers (refusals.Version at) = (omega arith, omega arith)
+numbers (refusals.LuacData at) = (omega arith, omega arith)
+numbers (refusals.InstructionSize at) = (omega arith, omega arith)
+numbers (refusals.LuaIntegerSize at) = (omega arith, omega arith)
+numbers (refusals.LuaNumberSize at) = (omega arith, omega arith)
+numbers (refusals.LuacInt at) = (omega arith, omega arith)
+numbers (refusals.LuacNum at) = (omega arith, omega arith)
+numbers (refusals.ConstantTag at) = (omega arith, omega arith)
+numbers (refusals.StringBytes at) = (omega arith, omega arith)
+numbers (refusals.Instructions at) = (omega arith, omega arith)
+numbers (refusals.TotalInstructions at) = (omega arith, omega arith)
+numbers (refusals.Constants at) = (omega arith, omega arith)
+numbers (refusals.Upvalues at) = (omega arith, omega arith)
+numbers (refusals.Prototypes at) = (omega arith, omega arith)
+numbers (refusals.NestingDepth at) = (omega arith, omega arith)
+numbers (refusals.TotalPrototypes at) = (omega arith, omega arith)
+numbers refusals.LimitAboveCeiling = (omega arith, omega arith)
+numbers refusals.InputBytes = (omega arith, omega arith)
+numbers refusals.NoFunction = (omega arith, omega arith)
+numbers refusals.NoEntry = (omega arith, omega arith)
+numbers refusals.LineTooLarge = (omega arith, omega arith)
+numbers refusals.LentSpace = (omega arith, omega arith)
+numbers refusals.FieldRange = (omega arith, omega arith)
+numbers refusals.NoOpcode = (omega arith, omega arith)
+
+-- ## The bytes
+-- the reader refuses by 1 to 20 alone; and where it is not for missing bytes (1, 2), whatever stands behind changes nothing
+pub bytes-first : (L : ResourceLimits) (s t : Bytes) (q : Refusal) → main L 0 s ≡ refused q → ByFile q × (2 < reported q .number → main L 0 (s ++ t) ≡ refused q)
+bytes-first L s t q e = let all = steady-main L .more 0 s t in let this : Refuses q (main L 0 (s ++ t)) = rw e at all in (this .by-file, this .stays)
+
+-- ## The order, in general
+-- what comes of conditions behind the chunk's
+abbrev after : Outcome → (Reading → List (Option Refusal)) → Option Refusal
+after (shown r) later = first (later r)
+after (refusal q) later = some q
+
+nothing-later : (o : Outcome) → andThen o (λ r. []) ≡ []
+nothing-later (shown r) = refl
+nothing-later (refusal q) = refl
+
+never : {A : Type 0} {q : Refusal} → none ≡ some q → A
+never e = absurd (let z : _≡_ {A = ℕ} 0 1 = cc in omega arith)
+
+-- 26 is tested last, and where it is met nothing is written
+module _ {B : Type 0} (inside : B → Option Refusal) (x y : B) (fine : inside x ≡ none) where
+  by-room : (b : Bool) → inside y ≡ some refusals.LentSpace → inside (pick b x y) ≡ first (unless b refusals.LentSpace ∷ [])
+  by-room true e = fine
+  by-room false e = e
+
+  room-kept : {A : Type 0} (b : Bool) (new old : List A) (q : Refusal) → inside (pick b x y) ≡ some q → pick b new old ≡ old
+  room-kept true new old q e = never (sym fine ∙ e)
+  room-kept false new old q e = refl
+
+module _ (L : ResourceLimits) (s : Bytes) where
+  module _ (later : Reading → List (Option Refusal)) where
+    by-tests : (within short : Bool) (m : Read Loaded) → let o = pick within (pick short (outcome L m) (refusal refusals.InputBytes)) (refusal refusals.LimitAboveCeiling) in
+        after o later ≡ first (unless within refusals.LimitAboveCeiling ∷ unless short refusals.InputBytes ∷ byReader m ∷ andThen o later)
+    by-tests true true (ok m to rest) = refl
+    by-tests true true (refused q) = refl
+    by-tests true false m = refl
+    by-tests false short m = refl
+
+    order : after (read L s) later ≡ first (ofChunk L s (andThen (read L s) later))
+    unfolding read
+    order = by-tests (withinCeilings L) (leb (length s) (L .«max_input_bytes»)) (main L 0 s)
+
+  -- calls that show a part of every chunk that is read
+  module _ {B : Type 0} (answer : Outcome → B) (inside : B → Option Refusal) (fine : (r : Reading) → inside (answer (shown r)) ≡ none) (bad : (q : Refusal) → inside (answer (refusal q)) ≡ some q) where
+    of-all : (o : Outcome) → inside (answer o) ≡ after o (λ r. [])
+    of-all (shown r) = fine r
+    of-all (refusal q) = bad q
+
+    whole-chunk : inside (answer (read L s)) ≡ first (ofChunk L s [])
+    whole-chunk = of-all (read L s) ∙ order (λ r. []) ∙ ap (λ ls. first (ofChunk L s ls)) (nothing-later (read L s))
+
+  -- calls that write so many numbers, bytes or records
+  module _ {A B : Type 0} (answer : ℕ → Outcome → B) (result : Reading → List A) (inside : B → Option Refusal) (space : ℕ)
+      (room : (r : Reading) → inside (answer space (shown r)) ≡ first (tooLong (result r) space ∷ [])) (bad : (q : Refusal) → inside (answer space (refusal q)) ≡ some q) where
+    of-room : (o : Outcome) → inside (answer space o) ≡ after o (λ r. tooLong (result r) space ∷ [])
+    of-room (shown r) = room r
+    of-room (refusal q) = bad q
+
+    into-space : inside (answer space (read L s)) ≡ first (ofChunk L s (andThen (read L s) (λ r. tooLong (result r) space ∷ [])))
+    into-space = of-room (read L s) ∙ order _
+
+  -- calls on an entry of a function's list
+  module _ {A B : Type 0} (list : Prototype → List A) (answer : Asked A → B) (inside : B → Option Refusal) (fine : (x : A) → inside (answer (found x)) ≡ none) (bad : (q : Refusal) → inside (answer (asked.refused q)) ≡ some q) (f i : ℕ) where
+    of-entry : (e : Option A) → inside (answer (orRefuse refusals.NoEntry e)) ≡ first (missing e refusals.NoEntry ∷ [])
+    of-entry none = bad refusals.NoEntry
+    of-entry (some x) = fine x
+
+    of-list : (p : Option Prototype) → inside (answer (entryIn list i (orRefuse refusals.NoFunction p))) ≡ first (missing p refusals.NoFunction ∷ ofFunction p (λ p. missing (nth i (list p)) refusals.NoEntry) ∷ [])
+    of-list none = bad refusals.NoFunction
+    of-list (some p) = of-entry (nth i (list p))
+
+    of-function : (o : Outcome) → inside (answer (entryOf list f i o)) ≡ after o (λ r. noFunction f r ∷ noEntry list f i r ∷ [])
+    of-function (shown r) = of-list (nth f (r .functions))
+    of-function (refusal q) = bad q
+
+    entry : inside (answer (entryOf list f i (read L s))) ≡ first (ofChunk L s (andThen (read L s) (λ r. noFunction f r ∷ noEntry list f i r ∷ [])))
+    entry = of-function (read L s) ∙ order _
+
+  -- ## The calls
+  -- chunk_summary, chunk_verdict, finding_count, copy_length: 21, 22, 1 to 20
+  pub summary : inSummary (shownSummary (read L s)) ≡ first (ofChunk L s [])
+  summary = whole-chunk shownSummary inSummary (λ r. refl) (λ q. refl)
+
+  pub verdict : inVerdict (shownVerdict (read L s)) ≡ first (ofChunk L s [])
+  verdict = whole-chunk shownVerdict inVerdict (λ r. refl) (λ q. refl)
+
+  pub count : inCount (shownCount (read L s)) ≡ first (ofChunk L s [])
+  count = whole-chunk shownCount inCount (λ r. refl) (λ q. refl)
+
+  pub copy-length : inCopy (shownLength (read L s)) ≡ first (ofChunk L s [])
+  copy-length = whole-chunk shownLength inCopy (λ r. refl) (λ q. refl)
+
+  -- function_index, encode_chunk_lua54, validate_chunk_lua54: then 26
+  pub index-rows : (space : ℕ) → inIndex (shownIndex space (read L s)) ≡ first (ofChunk L s (andThen (read L s) (λ r. tooLong (index (r .functions)) space ∷ [])))
+  index-rows space = into-space shownIndex (λ r. index (r .functions)) inIndex space (λ r. by-room inIndex _ _ refl (leb (length (index (r .functions))) space) refl) (λ q. refl)
+
+  pub copied : (space : ℕ) → inCopy (shownCopy space (read L s)) ≡ first (ofChunk L s (andThen (read L s) (λ r. tooLong (copy r) space ∷ [])))
+  copied space = into-space shownCopy copy inCopy space (λ r. by-room inCopy _ _ refl (leb (length (copy r)) space) refl) (λ q. refl)
+
+  pub findings : (space : ℕ) → inFindings (shownFindings space (read L s)) ≡ first (ofChunk L s (andThen (read L s) (λ r. tooLong (chunkFindings r .findings) space ∷ [])))
+  findings space = into-space shownFindings (λ r. chunkFindings r .findings) inFindings space (λ r. by-room inFindings _ _ refl (leb (length (chunkFindings r .findings)) space) refl) (λ q. refl)
+
+  -- function_fields: then 23
+  pub fields : (f : ℕ) → inFields (shownFields (functionOf f (read L s))) ≡ first (ofChunk L s (andThen (read L s) (λ r. noFunction f r ∷ [])))
+  fields f = go (read L s) ∙ order _
+    where
+      there : (p : Option Prototype) → inFields (shownFields (orRefuse refusals.NoFunction p)) ≡ first (missing p refusals.NoFunction ∷ [])
+      there none = refl
+      there (some p) = refl
+
+      go : (o : Outcome) → inFields (shownFields (functionOf f o)) ≡ after o (λ r. noFunction f r ∷ [])
+      go (shown r) = there (nth f (r .functions))
+      go (refusal q) = refl
+
+  -- get_line_for_pc: then 23, 25
+  pub line : (f pc : ℕ) → inLine (shownLine pc (functionOf f (read L s))) ≡ first (ofChunk L s (andThen (read L s) (λ r. noFunction f r ∷ largeLine f r ∷ [])))
+  line f pc = go (read L s) ∙ order _
+    where
+      of-lines : (b : Bool) (n : ℕ) → inLine (pick b (line-answer.Err refusals.LineTooLarge) (line-answer.Ok n)) ≡ first (pick b (some refusals.LineTooLarge) none ∷ [])
+      of-lines true n = refl
+      of-lines false n = refl
+
+      there : (p : Option Prototype) → inLine (shownLine pc (orRefuse refusals.NoFunction p)) ≡ first (missing p refusals.NoFunction ∷ ofFunction p (λ p. pick (large (p .line-defined) (p .abs-line-info)) (some refusals.LineTooLarge) none) ∷ [])
+      there none = refl
+      there (some p) = of-lines (large (p .line-defined) (p .abs-line-info)) _
+
+      go : (o : Outcome) → inLine (shownLine pc (functionOf f o)) ≡ after o (λ r. noFunction f r ∷ largeLine f r ∷ [])
+      go (shown r) = there (nth f (r .functions))
+      go (refusal q) = refl
+
+  -- instruction, constant, upvalue, delta, anchor, upvalue_name: then 23, 24
+  module _ (f i : ℕ) where
+    pub instruction : inWord (shownWord (entryOf (λ p. p .instructions) f i (read L s))) ≡ first (ofChunk L s (andThen (read L s) (λ r. noFunction f r ∷ noEntry (λ p. p .instructions) f i r ∷ [])))
+    instruction = entry (λ p. p .instructions) shownWord inWord (λ x. refl) (λ q. refl) f i
+
+    pub constant : inConstant (shownConstant (entryOf (λ p. p .constants) f i (read L s))) ≡ first (ofChunk L s (andThen (read L s) (λ r. noFunction f r ∷ noEntry (λ p. p .constants) f i r ∷ [])))
+    constant = entry (λ p. p .constants) shownConstant inConstant (λ x. refl) (λ q. refl) f i
+
+    pub upvalue : inUpvalue (shownUpvalue (entryOf (λ p. p .upvalues) f i (read L s))) ≡ first (ofChunk L s (andThen (read L s) (λ r. noFunction f r ∷ noEntry (λ p. p .upvalues) f i r ∷ [])))
+    upvalue = entry (λ p. p .upvalues) shownUpvalue inUpvalue (λ x. refl) (λ q. refl) f i
+
+    pub delta : inDelta (shownDelta (entryOf (λ p. p .line-info) f i (read L s))) ≡ first (ofChunk L s (andThen (read L s) (λ r. noFunction f r ∷ noEntry (λ p. p .line-info) f i r ∷ [])))
+    delta = entry (λ p. p .line-info) shownDelta inDelta (λ x. refl) (λ q. refl) f i
+
+    pub anchor : inAnchor (shownAnchor (entryOf (λ p. p .abs-line-info) f i (read L s))) ≡ first (ofChunk L s (andThen (read L s) (λ r. noFunction f r ∷ noEntry (λ p. p .abs-line-info) f i r ∷ [])))
+    anchor = entry (λ p. p .abs-line-info) shownAnchor inAnchor (λ x. refl) (λ q. refl) f i
+
+    pub upvalue-name : inName (shownName (entryOf (λ p. p .upvalue-names) f i (read L s))) ≡ first (ofChunk L s (andThen (read L s) (λ r. noFunction f r ∷ noEntry (λ p. p .upvalue-names) f i r ∷ [])))
+    upvalue-name = entry (λ p. p .upvalue-names) shownName inName (λ x. refl) (λ q. refl) f i
+
+    -- local: then 23, 24, 26
+    pub local : (space : ℕ) → inLocal (shownLocal space (entryOf (λ p. p .loc-vars) f i (read L s))) ≡ first (ofChunk L s (andThen (read L s) (λ r. noFunction f r ∷ noEntry (λ p. p .loc-vars) f i r ∷ longName space f i r ∷ [])))
+    local space = go (read L s) ∙ order _
+      where
+        named : (l : Option LocalVar) → inLocal (shownLocal space (orRefuse refusals.NoEntry l)) ≡ first (missing l refusals.NoEntry ∷ ofLocal l (λ l. tooLong (l .name .bytes) space) ∷ [])
+        named none = refl
+        named (some l) = by-room inLocal _ _ refl (leb (length (l .name .bytes)) space) refl
+
+        there : (p : Option Prototype) → inLocal (shownLocal space (entryIn (λ p. p .loc-vars) i (orRefuse refusals.NoFunction p)))
+            ≡ first (missing p refusals.NoFunction ∷ ofFunction p (λ p. missing (nth i (p .loc-vars)) refusals.NoEntry) ∷ ofFunction p (λ p. ofLocal (nth i (p .loc-vars)) (λ l. tooLong (l .name .bytes) space)) ∷ [])
+        there none = refl
+        there (some p) = named (nth i (p .loc-vars))
+
+        go : (o : Outcome) → inLocal (shownLocal space (entryOf (λ p. p .loc-vars) f i o)) ≡ after o (λ r. noFunction f r ∷ noEntry (λ p. p .loc-vars) f i r ∷ longName space f i r ∷ [])
+        go (shown r) = there (nth f (r .functions))
+        go (refusal q) = refl
+
+-- ## Lent memory
+-- a call that refuses leaves it as it was
+pub local-kept : (old : Bytes) (a : Asked LocalVar) (q : Refusal) → inLocal (shownLocal (length old) a) ≡ some q → nameWritten old a ≡ old
+local-kept old (found l) q e = room-kept inLocal _ _ refl (leb (length (l .name .bytes)) (length old)) (l .name .bytes ++ drop (length (l .name .bytes)) old) old q e
+local-kept old (asked.refused p) q e = refl
+
+pub index-kept : (old : List ℕ) (o : Outcome) (q : Refusal) → inIndex (shownIndex (length old) o) ≡ some q → indexWritten old o ≡ old
+index-kept old (shown r) q e = room-kept inIndex _ _ refl (leb (length (index (r .functions))) (length old)) (index (r .functions) ++ drop (length (index (r .functions))) old) old q e
+index-kept old (refusal p) q e = refl
+
+pub copy-kept : (old : Bytes) (o : Outcome) (q : Refusal) → inCopy (shownCopy (length old) o) ≡ some q → copyWritten old o ≡ old
+copy-kept old (shown r) q e = room-kept inCopy _ _ refl (leb (length (copy r)) (length old)) (copy r ++ drop (length (copy r)) old) old q e
+copy-kept old (refusal p) q e = refl
+
+pub findings-kept : (old : List Finding) (o : Outcome) (q : Refusal) → inFindings (shownFindings (length old) o) ≡ some q → findingsWritten old o ≡ old
+findings-kept old (shown r) q e =
+    room-kept inFindings _ _ refl (leb (length (chunkFindings r .findings)) (length old)) (chunkFindings r .findings ++ drop (length (chunkFindings r .findings)) old) old q e
+findings-kept old (refusal p) q e = refl
+
+-- ## Words
+-- decoding refuses nothing; encoding: 28, then 27
+range-only : (b : Bool) (w : ℕ) → inEncoded (pick b (word.Word w) (word.Refused refusals.FieldRange)) ≡ unless (isWord (pick b (word.Word w) (word.Refused refusals.FieldRange))) refusals.FieldRange
+range-only true w = refl
+range-only false w = refl
+
+handed : (z : ℤ) (limit : ℕ) (f : ℕ → Encoded) → ((n : ℕ) → inEncoded (f n) ≡ unless (isWord (f n)) refusals.FieldRange)
+    → inEncoded (withUnbiased (unbiased z limit) f) ≡ unless (isWord (withUnbiased (unbiased z limit) f)) refusals.FieldRange
+handed (pos n) limit f h = go (ltb n limit) refl
+  where
+    go : (t : Bool) → ltb n limit ≡ t → inEncoded (withUnbiased (unbiased (pos n) limit) f) ≡ unless (isWord (withUnbiased (unbiased (pos n) limit) f)) refusals.FieldRange
+    go true e = rw e (h n)
+    go false e = rw e
+handed (negsuc n) limit f h = refl
+
+by-mode : (m : OpMode54) (o : Opcode54) (r : RawInstruction54) → inEncoded (byMode m o r) ≡ unless (isWord (byMode m o r)) refusals.FieldRange
+by-mode IABC o r = range-only (ltb (r .k) 2) _
+by-mode IABx o r = range-only (ltb (r .bx) 131072) _
+by-mode IAsBx o r = handed (r .sbx +ℤ pos 65535) 131072 (encodedIABx o (r .a)) (λ n. range-only (ltb n 131072) _)
+by-mode IAx o r = range-only (ltb (r .ax) (2 ^ 25)) _
+by-mode IsJ o r = handed (r .sj +ℤ pos 16777215) (2 ^ 25) (encodedIAx o) (λ n. range-only (ltb n (2 ^ 25)) _)
+
+alone : (q : Option Refusal) → q ≡ first (q ∷ [])
+alone none = refl
+alone (some q) = refl
+
+module _ (r : RawInstruction54) where
+  -- the word of an opcode's mode
+  module _ (o : Opcode54) (e : r .opcode ≡ option.Some o) where
+    chosen : encoded r ≡ byMode (modeOf o) o r
+    unfolding encoded
+    chosen = ap (λ k. byOpcode k r) e
+
+    in-mode : inEncoded (encoded r) ≡ unless (inRange (modeOf o) r) refusals.FieldRange
+    in-mode =
+        ap inEncoded chosen ∙ by-mode (modeOf o) o r ∙ ap (λ w. unless (isWord w) refusals.FieldRange) (sym chosen) ∙ ap (λ b. unless b refusals.FieldRange) (ranges r o e)
+
+  by-opcode : (o : OptionOpcode54) → r .opcode ≡ o → inEncoded (encoded r) ≡ first (noOpcode o ∷ outOfRange o r ∷ [])
+  unfolding encoded
+  by-opcode option.None e = rw e
+  by-opcode (option.Some o) e = in-mode o e ∙ alone (unless (inRange (modeOf o) r) refusals.FieldRange)
+
+  pub encode : inEncoded (encoded r) ≡ first (noOpcode (r .opcode) ∷ outOfRange (r .opcode) r ∷ [])
+  encode = by-opcode (r .opcode) refl

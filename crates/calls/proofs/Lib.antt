@@ -1,0 +1,4 @@
+pub mod InOrder
+pub mod Refused
+pub mod Demand1
+pub mod Demand2

@@ -1,0 +1,84 @@
+-- A plan is good for what its contract says: on a refusal, and where the findings are all there and there is room for them or not.
+-- Assumes nothing.
+use mathlib.Core.Path.{_≡_, refl, sym, ap, _∙_}
+use mathlib.Core.Bool.{Bool, true, false}
+use mathlib.Core.List.{List}
+use Prim.Native.Nat.{ℕ, _≤_, _<_}
+use native.Mathlib.Omega.{arith}
+use lib.Dec.{leb}
+use lib.ListN.{length}
+use lib.Seq.{take-length}
+use borrow.Author.Tests.{leb-true, lt-leb, le-leb}
+use Rattle.format.specs.Pick.{pick}
+use Rattle.format.specs.declared.limits.ResourceLimits.{ResourceLimits}
+use Rattle.format.specs.declared.refusal.Refusal.{Refusal}
+use Rattle.format.specs.declared.refusal.Refusal.the-variants.{LentSpace}
+use Rattle.format.specs.Form.{Bytes}
+use Rattle.format.specs.Reading.{Reading}
+use Rattle.format.specs.ReadChunk.{shown, refusal, read}
+use Rattle.validator.specs.Findings.{MAX-DIAGNOSTICS, Listing, chunkFindings, verdict}
+use Rattle.validator.specs.Position.{outOf}
+use Rattle.validator.specs.Totals.{tallied, verdictShown}
+use Rattle.validator.specs.declared.finding.Finding.{Finding}
+use Rattle.validator.specs.declared.finding.Verdict.{Verdict}
+use Rattle.validator.specs.declared.search.Position.{Position}
+use Rattle.validator.specs.declared.tally.Totals.{Totals}
+use Rattle.finding_plan.specs.declared.FindingsAnswer.the-variants as answer
+use Rattle.finding_plan.specs.Listed.{listingAnswer, listingWritten, shownFindings, findingsWritten}
+use Rattle.finding_plan.specs.Plan.{refusedPlan, planOf, written, Planned}
+
+module _ (L : ResourceLimits) (s : Bytes) (room : ℕ) (start : Position) where
+  pub plan-refused : (q : Refusal) → read L s ≡ refusal q → Planned L s room (refusedPlan q start)
+  unfolding written
+  plan-refused q is = record {
+    answers = ap (shownFindings room) (sym is);
+    leaves = λ old e. ap (findingsWritten old) (sym is);
+    within = omega arith;
+    there = omega arith;
+    limited = λ h. absurd (omega arith);
+  }
+
+  abbrev all : Listing
+  all = outOf L s MAX-DIAGNOSTICS start
+
+  module _ (r : Reading) (is : read L s ≡ shown r) (same : all ≡ chunkFindings r) (few : L .«max_total_instructions» ≤ 16777216) where
+    answer-is : shownFindings room (read L s) ≡ listingAnswer room all
+    answer-is = ap (shownFindings room) is ∙ ap (listingAnswer room) (sym same)
+
+    list-is : (old : List Finding) → findingsWritten old (read L s) ≡ listingWritten old (all .findings)
+    list-is old = ap (findingsWritten old) is ∙ ap (λ l. listingWritten old (l .findings)) (sym same)
+
+    by-room : (b : Bool) → leb (length (all .findings)) room ≡ b
+        → Planned L s room (pick b (record { answer = answer.Ok (verdict all) (length (all .findings)); count = length (all .findings); start = start }) (refusedPlan LentSpace start))
+    unfolding written
+    by-room true e = record {
+      answers = sym (answer-is ∙ rw e);
+      leaves = λ old z. rw (take-length) (sym (list-is old ∙ rw (z, e)));
+      within = leb-true (length (all .findings)) room e;
+      there = omega arith;
+      limited = λ h. few;
+    }
+    by-room false e = record {
+      answers = sym (answer-is ∙ rw e);
+      leaves = λ old z. sym (list-is old ∙ rw (z, e));
+      within = omega arith;
+      there = omega arith;
+      limited = λ h. few;
+    }
+
+    pub plan-made : Planned L s room (planOf all room start)
+    plan-made = by-room (leb (length (all .findings)) room) refl
+
+-- ## The plan, of what was counted
+module _ (l : Listing) (room : ℕ) (start first : Position) (begins : first ≡ start) (t : Totals) (counted : t ≡ tallied l) where
+  count-is : t .count ≡ length (l .findings)
+  count-is = ap (λ t. t .count) counted
+
+  pub too-many : room < t .count → refusedPlan LentSpace first ≡ planOf l room start
+  too-many h = let z : room < length (l .findings) = omega (arith, count-is) in ap (refusedPlan LentSpace) begins ∙ rw (lt-leb (length (l .findings)) room z)
+
+  pub all-fit : t .count ≤ room → (v : Verdict) → v ≡ verdictShown t → record { answer = answer.Ok v (t .count); count = t .count; start = first } ≡ planOf l room start
+  all-fit h v is-v =
+      let z : length (l .findings) ≤ room = omega (arith, count-is) in
+      let judged : v ≡ verdict l = is-v ∙ ap verdictShown counted in
+      (λ i. record { answer = answer.Ok (judged i) (count-is i); count = count-is i; start = begins i }) ∙ rw (le-leb (length (l .findings)) room z)

@@ -1,0 +1,31 @@
+-- What `validate_chunk_lua54` answers, and what it leaves of the lent list.
+--     shownFindings room o         the verdict and the number of findings, where o was read; 26 where there is room for fewer, after every other refusal
+--     findingsWritten old o        what then stands in the list that held `old`
+use mathlib.Core.List.{List, _++_}
+use Prim.Native.Nat.{ℕ}
+use lib.Dec.{leb}
+use lib.ListN.{length, drop}
+use Rattle.format.specs.declared.refusal.Refusal.the-variants.{LentSpace}
+use Rattle.format.specs.Pick.{pick}
+use Rattle.format.specs.ReadChunk.{Outcome, shown, refusal}
+use Rattle.validator.specs.declared.finding.Finding.{Finding}
+use Rattle.validator.specs.Findings.{Listing, chunkFindings, verdict}
+use Rattle.finding_plan.specs.declared.FindingsAnswer.{FindingsAnswer}
+use Rattle.finding_plan.specs.declared.FindingsAnswer.the-variants as answer
+
+-- of a listing of findings
+abbrev pub listingAnswer : ℕ → Listing → FindingsAnswer
+listingAnswer room l = pick (leb (length (l .findings)) room) (answer.Ok (verdict l) (length (l .findings))) (answer.Err LentSpace)
+
+-- the findings, and behind them what stood there; where there is no room for them, all that stood there
+abbrev pub listingWritten : List Finding → List Finding → List Finding
+listingWritten old new = pick (leb (length new) (length old)) (new ++ drop (length new) old) old
+
+abbrev pub shownFindings : ℕ → Outcome → FindingsAnswer
+shownFindings room (shown r) = listingAnswer room (chunkFindings r)
+shownFindings room (refusal q) = answer.Err q
+
+-- on any refusal all that stood there
+abbrev pub findingsWritten : List Finding → Outcome → List Finding
+findingsWritten old (shown r) = listingWritten old (chunkFindings r .findings)
+findingsWritten old (refusal q) = old

@@ -1,0 +1,119 @@
+// What the writer goes by: every decision before it writes, and one step.
+ghost use mathlib.Core.Path.{_≡_};
+ghost use Prim.Native.Nat.{_<_, _≤_};
+ghost use Rattle.format.specs.ReadChunk as format;
+ghost use Rattle.validator.specs.Answers.{keptCount};
+ghost use Rattle.validator.specs.Findings.{MAX-DIAGNOSTICS};
+ghost use Rattle.validator.specs.Position.{outOf, stepped, startPosition};
+ghost use Rattle.finding_plan.specs.Plan.{planOf, refusedPlan, Planned};
+use chunk::row::OptionRow;
+use decode::summary::DecodedResult;
+use decode::summary::Summary;
+use decode::summary::decode_chunk_lua54;
+use format::limits::ResourceLimits;
+use format::refusal::Refusal;
+use header::OptionWarning;
+use reader::cursor::Cursor;
+use validator::finding::Verdict;
+use validator::search::Position;
+use validator::search::Step;
+use validator::search::advance;
+use validator::search::start;
+use validator::tally::tally;
+use validator::tally::verdict_of;
+
+pub enum FindingsAnswer {
+    // The verdict, and how many findings there are.
+    Ok { verdict: Verdict, count: usize },
+    Err(Refusal),
+}
+
+// The answer, how many findings are to be written, and the position before the first.
+pub struct Plan {
+    pub answer: FindingsAnswer,
+    pub count: usize,
+    pub start: Position,
+}
+
+// How many of a reading's warnings were kept; and that its number of functions is one of 64 bits.
+fn kept_count(summary: Summary) -> u64
+    ensures { λ r. ⌜ (r ≡ keptCount (summary .warnings)) × (summary .functions < 18446744073709551616) ⌝ }
+{
+    let warnings = summary.warnings;
+    let second = warnings.second;
+    match second {
+        OptionWarning::Some(_) => 2,
+        OptionWarning::None => {
+            let first = warnings.first;
+            match first {
+                OptionWarning::Some(_) => 1,
+                OptionWarning::None => 0,
+            }
+        }
+    }
+}
+
+// On a refusal nothing is written.
+fn refused(refusal: Refusal) -> Plan
+    ensures { λ r. ⌜ r ≡ refusedPlan refusal (startPosition 0 0) ⌝ }
+{
+    Plan {
+        answer: FindingsAnswer::Err(refusal),
+        count: 0,
+        start: start(Cursor { at: 0 }, 0),
+    }
+}
+
+// All findings where there is room for them, and else none.
+fn decide(s: &[u8], limits: ResourceLimits, room: usize, place: Cursor, kept: u64) -> Plan
+    requires { ⌜ limits .«max_total_instructions» ≤ 16777216 ⌝ }
+    ensures { λ r. ⌜ r ≡ planOf (outOf limits (now (s .entry)) MAX-DIAGNOSTICS (startPosition (place .at) kept)) room (startPosition (place .at) kept) ⌝ }
+{
+    let first = start(place, kept);
+    let totals = tally(s, limits, 10000, place, kept);
+    let count = totals.count as usize;
+    if room < count {
+        return Plan {
+            answer: FindingsAnswer::Err(Refusal::LentSpace),
+            count: 0,
+            start: first,
+        };
+    }
+    let verdict = verdict_of(totals);
+    Plan {
+        answer: FindingsAnswer::Ok { verdict, count },
+        count,
+        start: first,
+    }
+}
+
+// The first pass judges, the second counts; the writer's is the third.
+pub fn prepare(s: &[u8], limits: ResourceLimits, room: usize) -> Plan
+    ensures { λ r. ⌜ Planned limits (now (s .entry)) room r ⌝ }
+{
+    let decoded = decode_chunk_lua54(s, limits, 0);
+    match decoded {
+        DecodedResult::Err(refusal) => refused(refusal),
+        DecodedResult::Ok(chunk) => {
+            let summary = chunk.summary;
+            let kept = kept_count(summary);
+            let main = chunk.row;
+            match main {
+                // Never: a chunk that is read has main.
+                OptionRow::None => refused(Refusal::NoFunction),
+                OptionRow::Some(row) => {
+                    let place = Cursor { at: row.start };
+                    decide(s, limits, room, place, kept)
+                }
+            }
+        }
+    }
+}
+
+// One step of the search, up to the maximum of the Rust.
+pub fn forward(s: &[u8], limits: ResourceLimits, p: Position) -> Step
+    requires { ⌜ limits .«max_total_instructions» ≤ 16777216 ⌝ }
+    ensures { λ r. ⌜ outOf limits (now (s .entry)) 10000 p ≡ stepped limits (now (s .entry)) 10000 r ⌝ }
+{
+    advance(s, limits, 10000, p)
+}
