@@ -9,6 +9,7 @@
 --        refused-by-all                   of the calls: where one refuses the chunk, all do, and lent memory stays as it was (`Refuses`)
 --     3  reading-unique
 --     4  copy-is-read                     written-is-read: what `encode_chunk_lua54` writes (`Writes`, `Written.antt`) is read again
+--        shortest-spelling                no spelling of a number is shorter than the copy's
 --     5  copy-of-copy                     written-again, written-once-more: on what it wrote, it writes the same
 --     6  equal-copies                     equal-written: what it writes of two scripts
 -- `Below 256` says of a list that its numbers are bytes. Every slice's are; lists of the definitions may hold any number.
@@ -22,11 +23,14 @@ use lib.ListN.{length}
 use Rattle.format.specs.declared.limits.ResourceLimits.{ResourceLimits}
 use Rattle.format.specs.declared.refusal.Refusal.{Refusal}
 use Rattle.format.specs.Form.{Bytes, Below}
+use Rattle.format.specs.GrammarFields.{Number}
 use Rattle.format.specs.Limits.{withinCeilings}
 use Rattle.format.specs.Reading.{Reading}
 use Rattle.format.specs.GrammarChunk.{Chunk}
 use Rattle.format.specs.ReadChunk.{Outcome, shown, refusal, read}
+use Rattle.format.specs.Shortest.{shortest}
 use Rattle.format.specs.Copy.{copy, kept}
+use Rattle.format.proofs.ShortestLaws.{shortest-least}
 use Rattle.format.proofs.CopyChunk.{copy-belongs, copy-same}
 use Rattle.format.proofs.CopyChunk as copies
 use Rattle.format.proofs.ReadChunkLaws.{read-sound, read-within, read-complete, chunk-unique}
@@ -96,6 +100,10 @@ pub copy-is-read : (L : ResourceLimits) (chunk : Bytes) (r : Reading) → Below 
 copy-is-read L chunk r bytes e string input =
     let c = copy-belongs L chunk r (read-sound L chunk r e) bytes string in
     record { reading = c .0; is = read-complete L (copy r) (c .0) (read-within L chunk r e .0) input (c .1); keeps = c .2 }
+
+-- The copy spells each number by `shortest`, and no spelling that the grammar allows is shorter.
+pub shortest-spelling : (at n : ℕ) (bytes : Bytes) → Number at bytes n → length (shortest n) ≤ length bytes
+shortest-spelling = shortest-least
 
 -- the chunk was read, and so are the bytes that were written; both readings keep the same; and it is this reading of them that every call shows
 pub record ReadAgain (L : ResourceLimits) (chunk written : Bytes) : Type 0 where
