@@ -90,7 +90,7 @@ module _ (L : ResourceLimits) (s : Bytes) (d : Decoded) (e : decoded.Ok d ≡ sh
       let count : d .summary .functions ≡ length (r .functions) = ap (λ k. k .summary .functions) (was-shown (read L s) d e .shows) in
       let kept : keptCount (d .summary .warnings) ≡ length (r .warnings) = ap (λ k. keptCount (k .summary .warnings)) (was-shown (read L s) d e .shows) ∙ kept-all (r .warnings) (known .warnings) in
       (λ i. totals.Ok (tallied (outOf L s MAX-DIAGNOSTICS (startPosition (begins i) (kept i)))))
-      ∙ ap (λ l. totals.Ok (tallied l)) (whole L s r (known .located) (omega arith) (L .«max_nesting_depth») (limits .0) outermost (known .main .at) (known .main .reads))
+      ∙ ap (λ l. totals.Ok (tallied l)) (whole L s r (known .located) (omega arith) (L .«max_nesting_depth») (limits .0) outermost refl (known .main .at) (known .main .reads))
       ∙ sym (ap shownTotals was)
 
 -- ## The verdict and the number, of what was counted
