@@ -7,3 +7,4 @@ pub mod line;
 pub mod local;
 pub mod rows;
 pub mod summary;
+pub mod verdict;

@@ -17,14 +17,15 @@ use Rattle.decode.specs.declared.summary.DecodedResult.the-variants as decoded
 use Rattle.decode.specs.Decoded.{shownOutcome}
 use Rattle.functions.specs.Rows.{chunkRows}
 use Rattle.functions.proofs.Agreement.{rowsFor}
-use Rattle.validator.specs.declared.finding.Verdict.{Verdict}
+use Rattle.rules.specs.declared.finding.Verdict.{Verdict}
 use Rattle.validator.specs.declared.verdict.VerdictAnswer.the-variants as verdicts
-use Rattle.validator.specs.Findings.{chunkFindings, verdict}
+use Rattle.rules.specs.Findings.{chunkFindings, verdict}
 use Rattle.validator.specs.Answers.{shownVerdict}
 use Rattle.validator.proofs.Chunk.{r, shows, was, rows-shown}
 use Rattle.text.specs.Output.{Waiting, puts}
-use Rattle.listing.specs.Listing.{functionLine, functionLines, firstLine, refusalLine, chunkLines, listed, linesOf, rowLine, rowLines}
-use Rattle.listing.proofs.Laws.{then}
+use Rattle.listing_text.specs.Lines.{firstLine, refusalLine, rowLine}
+use Rattle.listing.specs.Listing.{functionLine, functionLines, chunkLines, listed, linesOf, rowLines}
+use Rattle.listing_text.proofs.Laws.{then}
 
 -- ## By the verdict
 pub refused-listed : (bytes : ℕ) (o : Outcome) (q : Refusal) → verdicts.Err q ≡ shownVerdict o → refusalLine q ≡ listed bytes o

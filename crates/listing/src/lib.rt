@@ -1,6 +1,4 @@
 // What `chunklist` prints of a file: a line for the chunk and one for each of its functions, or a refusal.
-pub mod line;
-
 ghost use mathlib.Core.Path.{_≡_};
 ghost use Prim.Native.Nat.{_≤_, _<_};
 ghost use lib.ListN.{length};
@@ -8,18 +6,18 @@ ghost use Rattle.text.specs.Output.{waiting, puts};
 ghost use Rattle.format.specs.ReadChunk.{read};
 ghost use Rattle.functions.specs.Rows.{chunkRows};
 ghost use Rattle.listing.specs.Listing as listings;
-use crate::line::first_line;
-use crate::line::function_line;
-use crate::line::refusal_line;
 use chunk::row::OptionRow;
 use decode::summary::DecodedResult;
 use decode::summary::decode_chunk_lua54;
 use format::limits::ResourceLimits;
 use functions::Met;
 use functions::next_function;
+use listing_text::first_line;
+use listing_text::function_line;
+use listing_text::refusal_line;
 use reader::cursor::Cursor;
+use rules::finding::Verdict;
 use text::print::Out;
-use validator::finding::Verdict;
 use validator::verdict::VerdictAnswer;
 use validator::verdict::chunk_verdict;
 

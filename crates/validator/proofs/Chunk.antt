@@ -25,13 +25,15 @@ use Rattle.decode.specs.Decoded.{shownWarnings, shownOutcome, shownReading}
 use Rattle.decode.proofs.Summaries.{in-ceilings}
 use Rattle.decode.proofs.MainAt.{WasShown, was-shown, First, first-of, MainAt, main-at, two-warnings}
 use Rattle.validator.specs.declared.verdict.TotalsResult.the-variants as totals
-use Rattle.validator.specs.Findings.{MAX-DIAGNOSTICS, chunkFindings}
+use Rattle.rules.specs.Findings.{MAX-DIAGNOSTICS, chunkFindings}
 use Rattle.validator.specs.Position.{outOf, startPosition}
 use Rattle.validator.specs.declared.tally.Totals.{Totals}
 use Rattle.validator.specs.declared.verdict.VerdictAnswer.the-variants as verdicts
 use Rattle.validator.specs.declared.verdict.CountAnswer.the-variants as counts
 use Rattle.validator.specs.Totals.{tallied, verdictShown}
 use Rattle.validator.specs.Answers.{keptCount, shownTotals, shownVerdict, shownCount}
+use Rattle.rules.specs.Rust.{validate}
+use Rattle.rules.proofs.RustLaws.{validate-is}
 use Rattle.functions.specs.Rows.{chunkRows}
 use Rattle.functions.proofs.Agreement.{rowsFor, all-rows}
 use Rattle.validator.proofs.Whole.{whole}
@@ -58,6 +60,19 @@ known-from L s r (ok m to rest) e p =
     rw (← shows) (record { located = all-located L s e; main = main-at L s e; warnings = two-warnings L s e (L .«max_diagnostics») })
 known-from L s r (refused q) e p = absurd (let z : _≡_ {A = ℕ} 0 1 = cc in omega arith)
 
+known-of : (L : ResourceLimits) (s : Bytes) (r : Reading) → read L s ≡ shown r → Known L s r
+known-of L s r was = known-from L s r (main L 0 s) refl (main-complete L s r (read-sound L s r was))
+
+-- main is among the functions of every chunk that is read
+pub main-first : (L : ResourceLimits) (s : Bytes) (r : Reading) → read L s ≡ shown r → 0 < length (r .functions)
+main-first L s r was =
+    let k = known-of L s r was in
+    rw (first-of L (L .«max_nesting_depth») (k .main .at) s (k .main .reads) .all) (omega arith)
+
+-- THE FINDINGS ARE THE RUST'S, of every chunk that is read: its list and its flag
+pub findings-are : (L : ResourceLimits) (s : Bytes) (r : Reading) → read L s ≡ shown r → validate r ≡ chunkFindings r
+findings-are L s r was = validate-is r (main-first L s r was)
+
 module _ (L : ResourceLimits) (s : Bytes) (d : Decoded) (e : decoded.Ok d ≡ shownOutcome 0 (read L s)) where
   -- the reading
   abbrev pub r : Reading
@@ -70,7 +85,7 @@ module _ (L : ResourceLimits) (s : Bytes) (d : Decoded) (e : decoded.Ok d ≡ sh
   was = was-shown (read L s) d e .is
 
   known : Known L s r
-  known = known-from L s r (main L 0 s) refl (main-complete L s r (read-sound L s r was))
+  known = known-of L s r was
 
   limits : (L .«max_nesting_depth» ≤ 200) × (L .«max_total_prototypes» ≤ 16777216) × (L .«max_total_instructions» ≤ 16777216)
   limits = in-ceilings L (read-within L s r was .0)

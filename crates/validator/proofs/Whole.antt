@@ -22,9 +22,9 @@ use Rattle.reader.specs.Shown.{shownU32}
 use Rattle.functions.specs.Rows.{chunkRows}
 use Rattle.functions.proofs.RowLaws.{at-start}
 use Rattle.functions.proofs.Agreement.{rowsFor, all-rows}
-use Rattle.validator.specs.Findings.{boundsOf, codeGroups, groups, Listing, limited, MAX-DIAGNOSTICS, chunkFindings}
+use Rattle.rules.specs.Findings.{boundsOf, codeGroups, groups, Listing, limited, MAX-DIAGNOSTICS, chunkFindings}
 use Rattle.validator.specs.Position.{onWord, wordsAt, codeLeft, nextNumber, rowGroups, outOf, startPosition}
-use Rattle.validator.specs.declared.finding.Finding.{Finding}
+use Rattle.rules.specs.declared.finding.Finding.{Finding}
 
 -- ## The words of a list that was read
 module _ (s : Bytes) where

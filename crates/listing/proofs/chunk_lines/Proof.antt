@@ -5,7 +5,7 @@ use lib.ListN as lists
 use Rattle.format.specs.ReadChunk.{read}
 use Rattle.text.specs.Output.{waiting, puts}
 use Rattle.validator.proofs.Chunk.{few-instructions, main-there}
-use Rattle.listing.proofs.Laws.{nothing}
+use Rattle.listing_text.proofs.Laws.{nothing}
 use Rattle.listing.proofs.Chunks.{refused-lines, all-counted, chunk-put}
 use Rattle.listing.proofs.chunk_lines.Statement.{statement}
 use Rattle.listing.proofs.chunk_lines.Tie as tie

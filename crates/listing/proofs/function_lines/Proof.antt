@@ -9,8 +9,9 @@ use lib.ListN as lists
 use Rattle.functions.specs.Rows.{rowsFrom, chunkRows}
 use Rattle.functions.proofs.RowLaws.{at-start}
 use Rattle.text.specs.Output.{waiting, puts}
-use Rattle.listing.specs.Listing.{rowLine, rowLines}
-use Rattle.listing.proofs.Laws.{puts-append, nothing}
+use Rattle.listing_text.specs.Lines.{rowLine}
+use Rattle.listing.specs.Listing.{rowLines}
+use Rattle.listing_text.proofs.Laws.{puts-append, nothing}
 use Rattle.listing.proofs.function_lines.Statement.{statement}
 use Rattle.listing.proofs.function_lines.Tie as tie
 
