@@ -37,8 +37,8 @@ use Rattle.lafzimdo.specs.Summaries.{shownSummary}
 use Rattle.lafzimdo.specs.Fields.{shownFields}
 use Rattle.lafzimdo.specs.Entries.{shownWord, shownConstant, shownUpvalue, shownDelta, shownAnchor, shownName}
 use Rattle.lafzimdo.specs.Locals.{shownLocal, nameWritten}
-use Rattle.validator.specs.declared.finding.Finding.{Finding}
-use Rattle.validator.specs.Findings.{chunkFindings}
+use Rattle.rules.specs.declared.finding.Finding.{Finding}
+use Rattle.rules.specs.Findings.{chunkFindings}
 use Rattle.validator.specs.Answers.{shownVerdict, shownCount}
 use Rattle.finding_plan.specs.Listed.{shownFindings, findingsWritten}
 use Rattle.opcodes.specs.declared.opcode.OpMode54.{OpMode54}

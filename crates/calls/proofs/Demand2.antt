@@ -40,13 +40,13 @@ use Rattle.lafzimdo.specs.Entries.{shownWord, shownConstant, shownUpvalue, show
 use Rattle.lafzimdo.specs.Locals.{shownLocal, nameWritten}
 use Rattle.copy.specs.declared.whole.CopyAnswer.{CopyAnswer}
 use Rattle.copy.specs.Copied.{shownLength, shownCopy, copyWritten}
-use Rattle.validator.specs.declared.finding.Finding.{Finding}
+use Rattle.rules.specs.declared.finding.Finding.{Finding}
 use Rattle.validator.specs.declared.verdict.VerdictAnswer.{VerdictAnswer}
 use Rattle.validator.specs.declared.verdict.CountAnswer.{CountAnswer}
 use Rattle.validator.specs.Answers.{shownVerdict, shownCount}
-use Rattle.validator.specs.Findings.{chunkFindings}
-use Rattle.validator.specs.Rust as rust
-use Rattle.validator.proofs.RustLaws.{validate-is}
+use Rattle.rules.specs.Findings.{chunkFindings}
+use Rattle.rules.specs.Rust as rust
+use Rattle.rules.proofs.RustLaws.{validate-is}
 use Rattle.finding_plan.specs.declared.FindingsAnswer.{FindingsAnswer}
 use Rattle.finding_plan.specs.Listed.{shownFindings, findingsWritten}
 use Rattle.instructions.specs.declared.instruction.RawInstruction54.{RawInstruction54}

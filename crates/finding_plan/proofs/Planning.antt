@@ -16,11 +16,11 @@ use Rattle.format.specs.declared.refusal.Refusal.the-variants.{LentSpace}
 use Rattle.format.specs.Form.{Bytes}
 use Rattle.format.specs.Reading.{Reading}
 use Rattle.format.specs.ReadChunk.{shown, refusal, read}
-use Rattle.validator.specs.Findings.{MAX-DIAGNOSTICS, Listing, chunkFindings, verdict}
+use Rattle.rules.specs.Findings.{MAX-DIAGNOSTICS, Listing, chunkFindings, verdict}
 use Rattle.validator.specs.Position.{outOf}
 use Rattle.validator.specs.Totals.{tallied, verdictShown}
-use Rattle.validator.specs.declared.finding.Finding.{Finding}
-use Rattle.validator.specs.declared.finding.Verdict.{Verdict}
+use Rattle.rules.specs.declared.finding.Finding.{Finding}
+use Rattle.rules.specs.declared.finding.Verdict.{Verdict}
 use Rattle.validator.specs.declared.search.Position.{Position}
 use Rattle.validator.specs.declared.tally.Totals.{Totals}
 use Rattle.finding_plan.specs.declared.FindingsAnswer.the-variants as answer

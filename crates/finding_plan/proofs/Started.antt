@@ -24,7 +24,7 @@ use Rattle.decode.specs.declared.summary.DecodedResult.the-variants as decoded
 use Rattle.decode.specs.Decoded.{shownWarnings, shownOutcome}
 use Rattle.decode.proofs.Summaries.{in-ceilings}
 use Rattle.decode.proofs.MainAt.{was-shown, First, first-of, MainAt, main-at, two-warnings}
-use Rattle.validator.specs.Findings.{MAX-DIAGNOSTICS, chunkFindings}
+use Rattle.rules.specs.Findings.{MAX-DIAGNOSTICS, chunkFindings}
 use Rattle.validator.specs.Position.{outOf, startPosition}
 use Rattle.validator.specs.Answers.{keptCount}
 use Rattle.validator.proofs.Whole.{whole}

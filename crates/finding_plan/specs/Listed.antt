@@ -8,8 +8,8 @@ use lib.ListN.{length, drop}
 use Rattle.format.specs.declared.refusal.Refusal.the-variants.{LentSpace}
 use Rattle.format.specs.Pick.{pick}
 use Rattle.format.specs.ReadChunk.{Outcome, shown, refusal}
-use Rattle.validator.specs.declared.finding.Finding.{Finding}
-use Rattle.validator.specs.Findings.{Listing, chunkFindings, verdict}
+use Rattle.rules.specs.declared.finding.Finding.{Finding}
+use Rattle.rules.specs.Findings.{Listing, chunkFindings, verdict}
 use Rattle.finding_plan.specs.declared.FindingsAnswer.{FindingsAnswer}
 use Rattle.finding_plan.specs.declared.FindingsAnswer.the-variants as answer
 

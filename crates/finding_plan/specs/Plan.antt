@@ -10,9 +10,9 @@ use Rattle.format.specs.declared.refusal.Refusal.the-variants.{LentSpace}
 use Rattle.format.specs.Form.{Bytes}
 use Rattle.format.specs.Pick.{pick}
 use Rattle.format.specs.ReadChunk.{read}
-use Rattle.validator.specs.declared.finding.Finding.{Finding}
+use Rattle.rules.specs.declared.finding.Finding.{Finding}
 use Rattle.validator.specs.declared.search.Position.{Position}
-use Rattle.validator.specs.Findings.{MAX-DIAGNOSTICS, Listing, verdict}
+use Rattle.rules.specs.Findings.{MAX-DIAGNOSTICS, Listing, verdict}
 use Rattle.validator.specs.Position.{outOf}
 use Rattle.finding_plan.specs.declared.FindingsAnswer.the-variants as answer
 use Rattle.finding_plan.specs.declared.Plan.{Plan}

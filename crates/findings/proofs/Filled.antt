@@ -7,8 +7,8 @@ use native.Mathlib.Numerals.{add-one}
 use native.Mathlib.Omega.{arith}
 use lib.ListN.{length, getD, set, take, drop, length-append, length-drop}
 use lib.Seq.{take-suc, drop-cons, set-at, length-take-le}
-use Rattle.validator.specs.Findings.{Listing}
-use Rattle.validator.specs.declared.finding.Finding.{Finding}
+use Rattle.rules.specs.Findings.{Listing}
+use Rattle.rules.specs.declared.finding.Finding.{Finding}
 use Rattle.finding_plan.specs.Plan.{written}
 
 module _ (l : Listing) (ys : List Finding) where

@@ -12,9 +12,9 @@ use lib.ListN.{length, getD, drop, length-drop}
 use lib.Seq.{drop-cons}
 use Rattle.format.specs.declared.limits.ResourceLimits.{ResourceLimits}
 use Rattle.format.specs.Form.{Bytes}
-use Rattle.validator.specs.Findings.{Listing, ended, prepend}
+use Rattle.rules.specs.Findings.{Listing, ended, prepend}
 use Rattle.validator.specs.Position.{outOf, stepIs, stepped}
-use Rattle.validator.specs.declared.finding.Finding.{Finding}
+use Rattle.rules.specs.declared.finding.Finding.{Finding}
 use Rattle.validator.specs.declared.search.Position.{Position}
 use Rattle.validator.specs.declared.search.State.{State}
 use Rattle.validator.specs.declared.search.State.the-variants as state

@@ -7,7 +7,7 @@ use finding_plan::FindingsAnswer;
 use finding_plan::forward;
 use finding_plan::prepare;
 use format::limits::ResourceLimits;
-use validator::finding::Finding;
+use rules::finding::Finding;
 
 // The findings in the order found, in the first places of the list, and the verdict with their number. Every decision is taken before the loop, and the loop has no branch.
 // Ruled out: success that writes nothing, a refusal that writes.

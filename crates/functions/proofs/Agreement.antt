@@ -3,7 +3,7 @@
 use mathlib.Core.Path.{_≡_, refl, sym, ap, subst, _∙_}
 use mathlib.Core.Bool.{Bool, true, false}
 use mathlib.Core.List.{List, [], _∷_, _++_, append-nil}
-use Prim.Native.Nat.{ℕ, zero, suc, _<_, _≤_}
+use Prim.Native.Nat.{ℕ, zero, suc, _+_, _-_, _<_, _≤_}
 use native.Mathlib.Omega.{arith}
 use lib.Dec.{leb}
 use lib.ListN.{drop}
@@ -53,47 +53,49 @@ module _ (L : ResourceLimits) (s : Bytes) where
   joined ps (ok more to rest) w a = rw (a, rows-append)
   joined ps (refused q) w a = tt
 
-  module _ (left-over : ℕ) (one : ℕ → Walked) (agree : (w : Where) (at : ℕ) → Agree (walk.entered L left-over w at (drop at s)) (one at)) where
-    agree-more : (n : ℕ) → ((w : Where) (at : ℕ) → Agree (forest n (walk.entered L left-over) w at (drop at s)) (times one n at)) → (w : Where) (at : ℕ)
-        (o : Read (List Prototype)) → walk.entered L left-over w at (drop at s) ≡ o → Agree o (one at)
+  -- those that nest in a function of this level
+  module _ (depth left-over : ℕ) (one : ℕ → Walked) (agree : (w : Where) (at : ℕ) → w .depth ≡ depth + 1 → Agree (walk.entered L left-over w at (drop at s)) (one at)) where
+    agree-more : (n : ℕ) → ((w : Where) (at : ℕ) → w .depth ≡ depth + 1 → Agree (forest n (walk.entered L left-over) w at (drop at s)) (times one n at)) → (w : Where) (at : ℕ) → w .depth ≡ depth + 1
+        → (o : Read (List Prototype)) → walk.entered L left-over w at (drop at s) ≡ o → Agree o (one at)
         → Agree (next o (λ ps to rest. next (forest n (walk.entered L left-over) (after ps w) to rest) (λ more. give (ps ++ more)))) (andThen (one at) (times one n))
-    agree-more n others w at (ok ps to rest) e a =
-        rw (a, left (exact-entered L left-over w) s at e) (joined ps (forest n (walk.entered L left-over) (after ps w) to (drop to s)) (times one n to) (others (after ps w) to))
-    agree-more n others w at (refused q) e a = tt
+    agree-more n others w at deep (ok ps to rest) e a =
+        rw (a, left (exact-entered L left-over w) s at e) (joined ps (forest n (walk.entered L left-over) (after ps w) to (drop to s)) (times one n to) (others (after ps w) to deep))
+    agree-more n others w at deep (refused q) e a = tt
 
-    agree-forest : (n : ℕ) (w : Where) (at : ℕ) → Agree (forest n (walk.entered L left-over) w at (drop at s)) (times one n at)
+    agree-forest : (n : ℕ) (w : Where) (at : ℕ) → w .depth ≡ depth + 1 → Agree (forest n (walk.entered L left-over) w at (drop at s)) (times one n at)
     unfolding times
-    agree-forest zero w at = refl
-    agree-forest (suc n) w at = agree-more n (agree-forest n) w at (walk.entered L left-over w at (drop at s)) refl (agree w at)
+    agree-forest zero w at deep = refl
+    agree-forest (suc n) w at deep = agree-more n (agree-forest n) w at deep (walk.entered L left-over w at (drop at s)) refl (agree w at deep)
 
     -- ## A function
     agree-tail : (w : Where) (at : ℕ) (h : Head) (ps : List Prototype) (o : Read Tail)
-        → Agree (next o (λ t end rest. ok (prototypeOf w at h t end ∷ ps) end rest)) (before (rowShown (headOf h) ∷ []) (before (rowsFor ps) (onTail (shownTail o) (cut []) (through []))))
+        → Agree (next o (λ t end rest. ok (prototypeOf w at h t end ∷ ps) end rest)) (before (rowShown (w .depth) (headOf h) ∷ []) (before (rowsFor ps) (onTail (shownTail o) (cut []) (through []))))
     agree-tail w at h ps (ok t end rest) = simp append-nil
     agree-tail w at h ps (refused q) = tt
 
     agree-nested : (w : Where) (at : ℕ) (h : Head) (first : ℕ) (o : Read (List Prototype)) → forest (h .protos .count) (walk.entered L left-over) (inside w h) first (drop first s) ≡ o
         → Agree o (times one (h .protos .count) first)
         → Agree (next o (λ ps behind rest. next (tail (L .«max_string_bytes») behind rest) (λ t end rest. ok (prototypeOf w at h t end ∷ ps) end rest)))
-        (before (rowShown (headOf h) ∷ []) (andThen (times one (h .protos .count) first) (λ behind. onTail (tailAt L s behind) (cut []) (through []))))
+        (before (rowShown (w .depth) (headOf h) ∷ []) (andThen (times one (h .protos .count) first) (λ behind. onTail (tailAt L s behind) (cut []) (through []))))
     unfolding tailAt
     agree-nested w at h first (ok ps behind rest) e a =
         rw (a, left (exact-forest (h .protos .count) (inside w h) (exact-entered L left-over)) s first e) (agree-tail w at h ps (tail (L .«max_string_bytes») behind (drop behind s)))
     agree-nested w at h first (refused q) e a = tt
 
-    agree-head : (w : Where) (at : ℕ) (o p : Read Head) → head L (w .instructions) at (drop at s) ≡ o → Fewer o p
+    agree-head : (w : Where) → w .depth ≡ depth → (at : ℕ) (o p : Read Head) → head L (w .instructions) at (drop at s) ≡ o → Fewer o p
         → Agree (next o (λ h first rest. next (forest (h .protos .count) (walk.entered L left-over) (inside w h) first rest) (λ ps behind rest. next (tail (L .«max_string_bytes») behind rest) (λ t end rest. ok (prototypeOf w at h t end ∷ ps) end rest))))
-        (onHead (shownHead p) (cut []) (λ row first. before (row ∷ []) (andThen (times one (row .protos .count) first) (λ behind. onTail (tailAt L s behind) (cut []) (through [])))))
-    agree-head w at (ok h first rest) p e f =
+        (onHead (w .depth) (shownHead p) (cut []) (λ row first. before (row ∷ []) (andThen (times one (row .protos .count) first) (λ behind. onTail (tailAt L s behind) (cut []) (through [])))))
+    agree-head w deep at (ok h first rest) p e f =
         rw (f .holds h first rest refl, left (exact-head L (w .instructions)) s at e)
-        (agree-nested w at h first (forest (h .protos .count) (walk.entered L left-over) (inside w h) first (drop first s)) refl (agree-forest (h .protos .count) (inside w h) first))
-    agree-head w at (refused q) p e f = tt
+        (agree-nested w at h first (forest (h .protos .count) (walk.entered L left-over) (inside w h) first (drop first s)) refl (agree-forest (h .protos .count) (inside w h) first (ap (λ d. d + 1) deep)))
+    agree-head w deep at (refused q) p e f = tt
 
-    agree-body : (w : Where) (at : ℕ) → Agree (function L left-over w at (drop at s)) (bodyAt L s (times one) at)
+    agree-body : (w : Where) → w .depth ≡ depth → (at : ℕ) → Agree (function L left-over w at (drop at s)) (bodyAt L s depth (times one) at)
     unfolding bodyAt headAt
-    agree-body w at =
-        subst (λ (o : Read (List Prototype)). Agree o (bodyAt L s (times one) at)) (sym (function-body L left-over w at (drop at s) ∙ in-parts L (walk.entered L left-over) w at (drop at s)))
-        (agree-head w at (head L (w .instructions) at (drop at s)) (head L 0 at (drop at s)) refl (fewer-head L (w .instructions) at (drop at s)))
+    agree-body w deep at =
+        rw (← deep)
+        (subst (λ (o : Read (List Prototype)). Agree o (bodyAt L s (w .depth) (times one) at)) (sym (function-body L left-over w at (drop at s) ∙ in-parts L (walk.entered L left-over) w at (drop at s)))
+        (agree-head w deep at (head L (w .instructions) at (drop at s)) (head L 0 at (drop at s)) refl (fewer-head L (w .instructions) at (drop at s))))
 
   -- the test on entering
   agree-enter : (t : Bool) (w : Where) (n at : ℕ) (walked : Walked) → Agree (function L n w at (drop at s)) walked
@@ -101,13 +103,13 @@ module _ (L : ResourceLimits) (s : Bytes) where
   agree-enter true w n at walked a = a
   agree-enter false w n at walked a = tt
 
-  pub agree : (n levels : ℕ) → n < levels → (w : Where) (at : ℕ) → Agree (function L n w at (drop at s)) (functionAt L s levels at)
+  pub agree : (n levels : ℕ) → n < levels → (w : Where) → w .depth + levels ≡ 201 → (at : ℕ) → Agree (function L n w at (drop at s)) (functionAt L s levels at)
   unfolding functionAt
-  agree n zero h w at = absurd (omega arith)
-  agree zero (suc levels) h w at = agree-body zero (functionAt L s levels) (λ w at. tt) w at
-  agree (suc n) (suc levels) h w at =
-      agree-body (suc n) (functionAt L s levels) (λ w at. agree-enter (leb (w .number) (L .«max_total_prototypes»)) w n at _ (agree n levels (omega arith) w at)) w at
+  agree n zero h w deep at = absurd (omega arith)
+  agree zero (suc levels) h w deep at = agree-body (200 - levels) zero (functionAt L s levels) (λ w at d. tt) w (omega arith) at
+  agree (suc n) (suc levels) h w deep at =
+      agree-body (200 - levels) (suc n) (functionAt L s levels) (λ w at d. agree-enter (leb (w .number) (L .«max_total_prototypes»)) w n at _ (agree n levels (omega arith) w (omega arith) at)) w (omega arith) at
 
-  pub all-rows : (n : ℕ) → n ≤ 200 → (w : Where) (at : ℕ) {ps : List Prototype} {to : ℕ} {rest : Bytes} → function L n w at (drop at s) ≡ ok ps to rest → chunkRows L s at ≡ rowsFor ps
+  pub all-rows : (n : ℕ) → n ≤ 200 → (w : Where) → w .depth ≡ 0 → (at : ℕ) {ps : List Prototype} {to : ℕ} {rest : Bytes} → function L n w at (drop at s) ≡ ok ps to rest → chunkRows L s at ≡ rowsFor ps
   unfolding chunkRows
-  all-rows n h w at e = rw (subst (λ (o : Read (List Prototype)). Agree o (functionAt L s 201 at)) e (agree n 201 (omega arith) w at))
+  all-rows n h w top at e = rw (subst (λ (o : Read (List Prototype)). Agree o (functionAt L s 201 at)) e (agree n 201 (omega arith) w (omega arith) at))

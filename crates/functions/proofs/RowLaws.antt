@@ -38,10 +38,10 @@ onward-tail : (x : TailResult) (k : ℕ → List Row) → onward (onTail x (cut 
 onward-tail (tail-answer.Ok t next) k = refl
 onward-tail (tail-answer.Err q) k = refl
 
-onward-head : (h : HeadResult) (f : Row → ℕ → Walked) (g : Row → ℕ → List Row) (k : ℕ → List Row)
-    → ((row : Row) (first : ℕ) → onward (f row first) k ≡ g row first) → onward (onHead h (cut []) f) k ≡ onHead h [] g
-onward-head (head-answer.Ok h next) f g k e = e (rowShown h) (next .at)
-onward-head (head-answer.Err q) f g k e = refl
+onward-head : (d : ℕ) (h : HeadResult) (f : Row → ℕ → Walked) (g : Row → ℕ → List Row) (k : ℕ → List Row)
+    → ((row : Row) (first : ℕ) → onward (f row first) k ≡ g row first) → onward (onHead d h (cut []) f) k ≡ onHead d h [] g
+onward-head d (head-answer.Ok h next) f g k e = e (rowShown d h) (next .at)
+onward-head d (head-answer.Err q) f g k e = refl
 
 times-none : (one : ℕ → Walked) (n at : ℕ) → n ≤ 0 → times one n at ≡ through [] at
 unfolding times
@@ -93,19 +93,19 @@ module _ (L : ResourceLimits) (s : Bytes) where
 
   -- one function of a level, by what comes behind the level
   level-more : (levels n at : ℕ) (k : ℕ → List Row) → 0 < n → onward (times (functionAt L s (suc levels)) n at) k
-      ≡ onHead (headAt L s at) [] (λ row first. row ∷ onward (times (functionAt L s levels) (row .protos .count) first) (λ behind.
+      ≡ onHead (200 - levels) (headAt L s at) [] (λ row first. row ∷ onward (times (functionAt L s levels) (row .protos .count) first) (λ behind.
       onTail (tailAt L s behind) [] (λ p. onward (times (functionAt L s (suc levels)) (n - 1) p) k)))
   unfolding functionAt bodyAt
   level-more levels n at k h =
       rw (times-more _ n at h, onward-then)
-      (onward-head (headAt L s at) _ _ _ (λ row first.
+      (onward-head (200 - levels) (headAt L s at) _ _ _ (λ row first.
       onward-before (row ∷ []) (andThen (times (functionAt L s levels) (row .protos .count) first) (λ behind. onTail (tailAt L s behind) (cut []) (through []))) _
       ∙ ap (λ (l : List Row). row ∷ l)
       (onward-then (times (functionAt L s levels) (row .protos .count) first) _ _ ∙ onward-same (times (functionAt L s levels) (row .protos .count) first) _ _ (λ behind. onward-tail (tailAt L s behind) _))))
 
-  head-same : (h : HeadResult) (f g : Row → ℕ → List Row) → ((row : Row) (first : ℕ) → f row first ≡ g row first) → onHead h [] f ≡ onHead h [] g
-  head-same (head-answer.Ok h next) f g e = e (rowShown h) (next .at)
-  head-same (head-answer.Err q) f g e = refl
+  head-same : (d : ℕ) (h : HeadResult) (f g : Row → ℕ → List Row) → ((row : Row) (first : ℕ) → f row first ≡ g row first) → onHead d h [] f ≡ onHead d h [] g
+  head-same d (head-answer.Ok h next) f g e = e (rowShown d h) (next .at)
+  head-same d (head-answer.Err q) f g e = refl
 
   -- the rows at a level of which one function was taken
   one-fewer : (left : List ℕ) (d n p : ℕ) → d + 1 < length left
@@ -124,12 +124,13 @@ module _ (L : ResourceLimits) (s : Bytes) where
       above-next (entered left d n) d behind ∙ tail-same (tailAt L s behind) _ _ (λ p. one-fewer left d n p fits)))
 
   pub one-more : (left : List ℕ) (d at : ℕ) → 0 < getD left d 0 → d < 201 → length left ≡ 202
-      → rowsFrom L s left d at ≡ onHead (headAt L s at) [] (λ row first. row ∷ rowsFrom L s (entered left d (row .protos .count)) (d + 1) first)
+      → rowsFrom L s left d at ≡ onHead d (headAt L s at) [] (λ row first. row ∷ rowsFrom L s (entered left d (row .protos .count)) (d + 1) first)
   one-more left d at h low long =
       let fits : d + 1 < length left = omega arith in
       let z : 201 - d ≡ suc (200 - d) = omega arith in
-      rw (rows-are left d at, z, level-more (200 - d) _ at _ h)
-      (head-same (headAt L s at) _ _ (λ row first. rw (entered-rows left d (row .protos .count) first low fits, z)))
+      let here : 200 - (200 - d) ≡ d = omega arith in
+      rw (rows-are left d at, z, level-more (200 - d) _ at _ h, here)
+      (head-same d (headAt L s at) _ _ (λ row first. rw (entered-rows left d (row .protos .count) first low fits, z)))
 
   -- the whole chunk: one function, at the top
   pub at-start : (left : List ℕ) (at : ℕ) → getD left 0 0 ≡ 1 → rowsFrom L s left 0 at ≡ chunkRows L s at

@@ -21,8 +21,9 @@ use Rattle.functions.specs.declared.Up.the-variants as up
 use Rattle.functions.specs.declared.Met.{Met}
 use Rattle.functions.specs.declared.Met.the-variants as met-is
 
-abbrev pub rowShown : Head → Row
-rowShown h = record {
+abbrev pub rowShown : ℕ → Head → Row
+rowShown depth h = record {
+  depth = depth;
   lines = h .front .lines;
   sizes = h .front .sizes;
   instructions = h .lists .instructions;
@@ -38,9 +39,9 @@ headAt L s at = shownHead (head L 0 at (drop at s))
 unfoldable pub tailAt : ResourceLimits → Bytes → ℕ → TailResult
 tailAt L s at = shownTail (tail (L .«max_string_bytes») at (drop at s))
 
-abbrev pub onHead : {R : Type 0} → HeadResult → R → (Row → ℕ → R) → R
-onHead (head-answer.Ok h next) bad good = good (rowShown h) (next .at)
-onHead (head-answer.Err q) bad good = bad
+abbrev pub onHead : {R : Type 0} → ℕ → HeadResult → R → (Row → ℕ → R) → R
+onHead depth (head-answer.Ok h next) bad good = good (rowShown depth h) (next .at)
+onHead depth (head-answer.Err q) bad good = bad
 
 abbrev pub onTail : {R : Type 0} → TailResult → R → (ℕ → R) → R
 onTail (tail-answer.Ok t next) bad good = good (next .at)
@@ -64,17 +65,17 @@ unfoldable pub times : (ℕ → Walked) → ℕ → ℕ → Walked
 times one zero at = through [] at
 times one (suc n) at = andThen (one at) (times one n)
 
--- a function, where `nested` reads so many nested functions
-unfoldable pub bodyAt : ResourceLimits → Bytes → (ℕ → ℕ → Walked) → ℕ → Walked
-bodyAt L s nested at =
-    onHead (headAt L s at) (cut []) (λ row first.
+-- a function of a level, where `nested` reads so many nested functions
+unfoldable pub bodyAt : ResourceLimits → Bytes → ℕ → (ℕ → ℕ → Walked) → ℕ → Walked
+bodyAt L s depth nested at =
+    onHead depth (headAt L s at) (cut []) (λ row first.
     before (row ∷ []) (andThen (nested (row .protos .count) first) (λ behind.
     onTail (tailAt L s behind) (cut []) (through []))))
 
--- a function, at most so many levels deep
+-- a function, at most so many levels deep: of 201 levels those that are left
 unfoldable pub functionAt : ResourceLimits → Bytes → ℕ → ℕ → Walked
 functionAt L s zero at = cut []
-functionAt L s (suc levels) at = bodyAt L s (times (functionAt L s levels)) at
+functionAt L s (suc levels) at = bodyAt L s (200 - levels) (times (functionAt L s levels)) at
 
 abbrev pub rowsOf : Walked → List Row
 rowsOf (through rows place) = rows
@@ -121,6 +122,7 @@ Within left met-is.End = Unit {0}
 -- ## What a function of a reading shows
 abbrev pub prototypeRow : Prototype → Row
 prototypeRow p = record {
+  depth = p .depth;
   lines = record { «line_defined» = p .line-defined; «last_line_defined» = p .last-line-defined };
   sizes = record { numparams = p .numparams; «is_vararg» = p .is-vararg; maxstacksize = p .maxstacksize };
   instructions = listAt (p .instructions) (p .places .instructions);

@@ -15,8 +15,9 @@ ghost use Prim.Native.Nat.{_≤_};
 ghost use lib.ListN.{length, getD};
 ghost use Rattle.functions.specs.Rows.{rowShown, rowsFrom, met, upTo, Within, Ready};
 
-// What stands before a function's nested functions, without its source.
+// A function's level, main's being 0, and what stands before its nested functions, without its source.
 pub struct Row {
+    pub depth: usize,
     pub lines: Lines,
     pub sizes: Sizes,
     pub instructions: ListAt,
@@ -25,8 +26,8 @@ pub struct Row {
     pub protos: ListAt,
 }
 
-fn row_of(head: Head) -> Row
-    ensures { λ r. ⌜ r ≡ rowShown head ⌝ }
+fn row_of(depth: usize, head: Head) -> Row
+    ensures { λ r. ⌜ r ≡ rowShown depth head ⌝ }
 {
     let lines = head.front.lines;
     let sizes = head.front.sizes;
@@ -35,6 +36,7 @@ fn row_of(head: Head) -> Row
     let upvalues = head.lists.upvalues;
     let protos = head.protos;
     Row {
+        depth: depth,
         lines: lines,
         sizes: sizes,
         instructions: instructions,
@@ -115,6 +117,6 @@ pub fn next_function(
     let HeadResult::Ok { head, next } = read_head(s, limits, 0, place) else {
         return Met::End;
     };
-    let row = row_of(head);
+    let row = row_of(d, head);
     Met::Function(row, d, next)
 }

@@ -8,3 +8,4 @@ pub mod line;
 pub mod local;
 pub mod rows;
 pub mod summary;
+pub mod verdict;

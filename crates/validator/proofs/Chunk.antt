@@ -25,13 +25,17 @@ use Rattle.decode.specs.Decoded.{shownWarnings, shownOutcome, shownReading}
 use Rattle.decode.proofs.Summaries.{in-ceilings}
 use Rattle.decode.proofs.MainAt.{WasShown, was-shown, First, first-of, MainAt, main-at, two-warnings}
 use Rattle.validator.specs.declared.verdict.TotalsResult.the-variants as totals
-use Rattle.validator.specs.Findings.{MAX-DIAGNOSTICS, chunkFindings}
+use Rattle.rules.specs.Findings.{MAX-DIAGNOSTICS, chunkFindings}
 use Rattle.validator.specs.Position.{outOf, startPosition}
 use Rattle.validator.specs.declared.tally.Totals.{Totals}
 use Rattle.validator.specs.declared.verdict.VerdictAnswer.the-variants as verdicts
 use Rattle.validator.specs.declared.verdict.CountAnswer.the-variants as counts
 use Rattle.validator.specs.Totals.{tallied, verdictShown}
 use Rattle.validator.specs.Answers.{keptCount, shownTotals, shownVerdict, shownCount}
+use Rattle.rules.specs.Rust.{validate}
+use Rattle.rules.proofs.RustLaws.{validate-is}
+use Rattle.functions.specs.Rows.{chunkRows}
+use Rattle.functions.proofs.Agreement.{rowsFor, all-rows}
 use Rattle.validator.proofs.Whole.{whole}
 
 pub totals-refused : (o : Outcome) (q : Refusal) → decoded.Err q ≡ shownOutcome 0 o → totals.Err q ≡ shownTotals o
@@ -56,15 +60,32 @@ known-from L s r (ok m to rest) e p =
     rw (← shows) (record { located = all-located L s e; main = main-at L s e; warnings = two-warnings L s e (L .«max_diagnostics») })
 known-from L s r (refused q) e p = absurd (let z : _≡_ {A = ℕ} 0 1 = cc in omega arith)
 
+known-of : (L : ResourceLimits) (s : Bytes) (r : Reading) → read L s ≡ shown r → Known L s r
+known-of L s r was = known-from L s r (main L 0 s) refl (main-complete L s r (read-sound L s r was))
+
+-- main is among the functions of every chunk that is read
+pub main-first : (L : ResourceLimits) (s : Bytes) (r : Reading) → read L s ≡ shown r → 0 < length (r .functions)
+main-first L s r was =
+    let k = known-of L s r was in
+    rw (first-of L (L .«max_nesting_depth») (k .main .at) s (k .main .reads) .all) (omega arith)
+
+-- THE FINDINGS ARE THE RUST'S, of every chunk that is read: its list and its flag
+pub findings-are : (L : ResourceLimits) (s : Bytes) (r : Reading) → read L s ≡ shown r → validate r ≡ chunkFindings r
+findings-are L s r was = validate-is r (main-first L s r was)
+
 module _ (L : ResourceLimits) (s : Bytes) (d : Decoded) (e : decoded.Ok d ≡ shownOutcome 0 (read L s)) where
-  abbrev r : Reading
+  -- the reading
+  abbrev pub r : Reading
   r = was-shown (read L s) d e .value
 
-  was : read L s ≡ shown r
+  pub shows : d ≡ shownReading 0 r
+  shows = was-shown (read L s) d e .shows
+
+  pub was : read L s ≡ shown r
   was = was-shown (read L s) d e .is
 
   known : Known L s r
-  known = known-from L s r (main L 0 s) refl (main-complete L s r (read-sound L s r was))
+  known = known-of L s r was
 
   limits : (L .«max_nesting_depth» ≤ 200) × (L .«max_total_prototypes» ≤ 16777216) × (L .«max_total_instructions» ≤ 16777216)
   limits = in-ceilings L (read-within L s r was .0)
@@ -76,21 +97,26 @@ module _ (L : ResourceLimits) (s : Bytes) (d : Decoded) (e : decoded.Ok d ≡ sh
   first = first-of L (L .«max_nesting_depth») (known .main .at) s (known .main .reads)
 
   main-row : d .row ≡ option.Some (rowOf (first .this))
-  main-row = ap (λ k. k .row) (was-shown (read L s) d e .shows) ∙ ap (λ ps. shownRow (lookup 0 0 ps)) (first .all)
+  main-row = ap (λ k. k .row) shows ∙ ap (λ ps. shownRow (lookup 0 0 ps)) (first .all)
 
   pub main-there : {A : Type 0} → d .row ≡ option.None → A
   main-there e = absurd (let r = main-row in let z : _≡_ {A = ℕ} 0 1 = cc in omega arith)
 
+  starts : (row : FunctionRow) → d .row ≡ option.Some row → row .start ≡ known .main .at
+  starts row found = let m = main-row in let same : row ≡ rowOf (first .this) = cc in ap (λ k. k .start) same ∙ first .begins
+
+  -- the rows from where main begins are those of all functions
+  pub rows-shown : (row : FunctionRow) → d .row ≡ option.Some row → chunkRows L s (row .start) ≡ rowsFor (r .functions)
+  rows-shown row found = ap (chunkRows L s) (starts row found) ∙ all-rows L s (L .«max_nesting_depth») (limits .0) outermost refl (known .main .at) (known .main .reads)
+
   pub totals-shown : d .summary .functions < 18446744073709551616 → (row : FunctionRow) → d .row ≡ option.Some row
       → totals.Ok (tallied (outOf L s MAX-DIAGNOSTICS (startPosition (row .start) (keptCount (d .summary .warnings))))) ≡ shownTotals (read L s)
   totals-shown few row found =
-      let m = main-row in
-      let same : row ≡ rowOf (first .this) = cc in
-      let begins : row .start ≡ known .main .at = ap (λ k. k .start) same ∙ first .begins in
-      let count : d .summary .functions ≡ length (r .functions) = ap (λ k. k .summary .functions) (was-shown (read L s) d e .shows) in
-      let kept : keptCount (d .summary .warnings) ≡ length (r .warnings) = ap (λ k. keptCount (k .summary .warnings)) (was-shown (read L s) d e .shows) ∙ kept-all (r .warnings) (known .warnings) in
+      let begins = starts row found in
+      let count : d .summary .functions ≡ length (r .functions) = ap (λ k. k .summary .functions) shows in
+      let kept : keptCount (d .summary .warnings) ≡ length (r .warnings) = ap (λ k. keptCount (k .summary .warnings)) shows ∙ kept-all (r .warnings) (known .warnings) in
       (λ i. totals.Ok (tallied (outOf L s MAX-DIAGNOSTICS (startPosition (begins i) (kept i)))))
-      ∙ ap (λ l. totals.Ok (tallied l)) (whole L s r (known .located) (omega arith) (L .«max_nesting_depth») (limits .0) outermost (known .main .at) (known .main .reads))
+      ∙ ap (λ l. totals.Ok (tallied l)) (whole L s r (known .located) (omega arith) (L .«max_nesting_depth») (limits .0) outermost refl (known .main .at) (known .main .reads))
       ∙ sym (ap shownTotals was)
 
 -- ## The verdict and the number, of what was counted

@@ -6,10 +6,10 @@ use mathlib.Core.List.{List, [], _∷_}
 use Prim.Native.Nat.{ℕ, _+_, _≤_, _<_}
 use native.Mathlib.Omega.{arith}
 use lib.ListN.{length}
-use Rattle.validator.specs.declared.finding.Finding.{Finding}
+use Rattle.rules.specs.declared.finding.Finding.{Finding}
 use Rattle.validator.specs.declared.tally.Totals.{Totals}
-use Rattle.validator.specs.Rules.{severity}
-use Rattle.validator.specs.Findings.{Listing, ended, prepend, isError, anyError}
+use Rattle.rules.specs.Rules.{severity}
+use Rattle.rules.specs.Findings.{Listing, ended, prepend, isError, anyError}
 use Rattle.validator.specs.Totals.{andTally, tallied}
 
 or-false : (b : Bool) → b || false ≡ b

@@ -1,9 +1,8 @@
--- There are at most as many findings as the maximum and one more: an instruction has at most two.
+-- There are at most as many findings as the maximum and one more.
 -- Assumes nothing.
 use mathlib.Core.Path.{_≡_, refl}
 use mathlib.Core.Bool.{Bool, true, false}
 use mathlib.Core.List.{List, [], _∷_, _++_}
-use mathlib.Core.Option.{Option, none, some}
 use Prim.Native.Nat.{ℕ, zero, suc, _+_, _-_, _≤_, _<_}
 use native.Mathlib.Omega.{arith}
 use lib.ListN.{length, length-append}
@@ -13,49 +12,17 @@ use Rattle.format.specs.Pick.{pick}
 use Rattle.format.specs.declared.limits.ResourceLimits.{ResourceLimits}
 use Rattle.format.specs.Form.{Bytes}
 use Rattle.format.proofs.Every.{All, all-append}
-use Rattle.opcodes.specs.declared.opcode.OptionOpcode54.{OptionOpcode54}
-use Rattle.opcodes.specs.declared.opcode.OptionOpcode54.the-variants as option
-use Rattle.instructions.specs.declared.instruction.RawInstruction54.{RawInstruction54}
-use Rattle.instructions.specs.Word.{decoded}
 use Rattle.functions.specs.declared.Row.{Row}
 use Rattle.functions.specs.Rows.{rowsFrom}
-use Rattle.validator.specs.declared.finding.Rule.{Rule}
-use Rattle.validator.specs.declared.finding.Finding.{Finding}
-use Rattle.validator.specs.declared.finding.Bounds.{Bounds}
+use Rattle.rules.specs.declared.finding.Finding.{Finding}
 use Rattle.validator.specs.declared.scan.Code.{Code}
-use Rattle.validator.specs.Rules.{registerRule, operandRule, checkOf, ifAny, rules, at, instruction}
-use Rattle.validator.specs.Findings.{codeGroups, Listing, ended, prepend, limited}
-use Rattle.validator.specs.declared.finding.OptionFinding.{OptionFinding}
-use Rattle.validator.specs.declared.finding.OptionFinding.the-variants as finding
+use Rattle.rules.proofs.FewFindings.{Few, few-code}
+use Rattle.rules.specs.Findings.{codeGroups, Listing, ended, prepend, limited}
+use Rattle.rules.specs.declared.finding.OptionFinding.{OptionFinding}
+use Rattle.rules.specs.declared.finding.OptionFinding.the-variants as finding
 use Rattle.validator.specs.declared.search.Position.{Position}
-use Rattle.validator.specs.Judged.{listed}
+use Rattle.rules.specs.Judged.{listed}
 use Rattle.validator.specs.Position.{wordsAt, codeLeft, rowBounds, nextNumber, rowGroups, groupsLeft, goesOn, outOf}
-
-abbrev pub Few : List Finding → Type 0
-Few g = length g ≤ 2
-
-as-many : (k pc : ℕ) (rs : List Rule) → length (at k pc rs) ≡ length rs
-as-many k pc [] = refl
-as-many k pc (r ∷ rs) = rw (as-many k pc rs)
-
-two : (a b : Option Rule) → length (ifAny a ++ ifAny b) ≤ 2
-two none none = omega arith
-two none (some y) = omega arith
-two (some x) none = omega arith
-two (some x) (some y) = omega arith
-
-few-rules : (o : OptionOpcode54) (r : RawInstruction54) (b : Bounds) (pc : ℕ) → length (rules o r b pc) ≤ 2
-few-rules option.None r b pc = omega arith
-few-rules (option.Some o) r b pc = two (registerRule o (r .a) (b .maxstacksize)) (operandRule (checkOf o) r b pc)
-
-few-findings : (k : ℕ) (b : Bounds) (pc word : ℕ) → Few (instruction k b pc word)
-unfolding instruction
-few-findings k b pc word = rw (as-many k pc (rules (decoded word .opcode) (decoded word) b pc)) (few-rules (decoded word .opcode) (decoded word) b pc)
-
-few-code : (k : ℕ) (b : Bounds) (words : List ℕ) (pc : ℕ) → All Few (codeGroups k b words pc)
-unfolding codeGroups
-few-code k b [] pc = tt
-few-code k b (word ∷ words) pc = (few-findings k b pc word, few-code k b words (pc + 1))
 
 few-rows : (s : Bytes) (k : ℕ) (rows : List Row) → All Few (rowGroups s k rows)
 unfolding rowGroups

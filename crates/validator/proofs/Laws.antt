@@ -14,13 +14,13 @@ use Rattle.reader.specs.declared.field.U32Result.{U32Result}
 use Rattle.reader.specs.declared.field.U32Result.the-variants as u32
 use Rattle.reader.specs.Shown.{shownU32}
 use Rattle.functions.specs.declared.Row.{Row}
-use Rattle.validator.specs.Rules.{instruction}
-use Rattle.validator.specs.Judged.{listed}
-use Rattle.validator.specs.Findings.{codeGroups, Listing, ended, prepend, limited}
+use Rattle.rules.specs.Rules.{instruction}
+use Rattle.rules.specs.Judged.{listed}
+use Rattle.rules.specs.Findings.{codeGroups, Listing, ended, prepend, limited}
 use Rattle.validator.specs.Position.{onWord, wordsAt, codeLeft, codeAt, skip, rowBounds, nextNumber, rowGroups, anyLeft}
-use Rattle.validator.specs.declared.finding.Finding.{Finding}
-use Rattle.validator.specs.declared.finding.OptionFinding.{OptionFinding}
-use Rattle.validator.specs.declared.finding.Bounds.{Bounds}
+use Rattle.rules.specs.declared.finding.Finding.{Finding}
+use Rattle.rules.specs.declared.finding.OptionFinding.{OptionFinding}
+use Rattle.rules.specs.declared.finding.Bounds.{Bounds}
 
 module _ (s : Bytes) (b : Bounds) (k : ℕ) where
   -- behind the last instruction

@@ -1,6 +1,3 @@
-pub mod Targets
-pub mod Judging
-pub mod RustLaws
 pub mod Laws
 pub mod Few
 pub mod Counting

@@ -22,9 +22,9 @@ use Rattle.reader.specs.Shown.{shownU32}
 use Rattle.functions.specs.Rows.{chunkRows}
 use Rattle.functions.proofs.RowLaws.{at-start}
 use Rattle.functions.proofs.Agreement.{rowsFor, all-rows}
-use Rattle.validator.specs.Findings.{boundsOf, codeGroups, groups, Listing, limited, MAX-DIAGNOSTICS, chunkFindings}
+use Rattle.rules.specs.Findings.{boundsOf, codeGroups, groups, Listing, limited, MAX-DIAGNOSTICS, chunkFindings}
 use Rattle.validator.specs.Position.{onWord, wordsAt, codeLeft, nextNumber, rowGroups, outOf, startPosition}
-use Rattle.validator.specs.declared.finding.Finding.{Finding}
+use Rattle.rules.specs.declared.finding.Finding.{Finding}
 
 -- ## The words of a list that was read
 module _ (s : Bytes) where
@@ -59,8 +59,8 @@ module _ (L : ResourceLimits) (s : Bytes) where
 
   -- at the place where main begins
   pub whole : (r : Reading) → All (Located L s) (r .functions) → length (r .functions) ≤ 18446744073709551615
-      → (n : ℕ) → n ≤ 200 → (w : Where) (at : ℕ) {to : ℕ} {rest : Bytes} → function L n w at (drop at s) ≡ ok (r .functions) to rest
+      → (n : ℕ) → n ≤ 200 → (w : Where) → w .depth ≡ 0 → (at : ℕ) {to : ℕ} {rest : Bytes} → function L n w at (drop at s) ≡ ok (r .functions) to rest
       → outOf L s MAX-DIAGNOSTICS (startPosition at (length (r .warnings))) ≡ chunkFindings r
   unfolding outOf startPosition chunkFindings codeLeft codeGroups wordsAt
-  whole r located few n deep w at e =
-      rw (at-start L s _ at refl, all-rows L s n deep w at e, groups-are 0 (r .functions) located (omega arith))
+  whole r located few n deep w top at e =
+      rw (at-start L s _ at refl, all-rows L s n deep w top at e, groups-are 0 (r .functions) located (omega arith))

@@ -11,7 +11,7 @@ use Rattle.validator.specs.declared.verdict.VerdictAnswer.{VerdictAnswer
 use Rattle.validator.specs.declared.verdict.VerdictAnswer.the-variants as verdicts
 use Rattle.validator.specs.declared.verdict.CountAnswer.{CountAnswer}
 use Rattle.validator.specs.declared.verdict.CountAnswer.the-variants as counts
-use Rattle.validator.specs.Findings.{chunkFindings, verdict}
+use Rattle.rules.specs.Findings.{chunkFindings, verdict}
 use Rattle.validator.specs.Totals.{tallied}
 
 abbrev pub shownVerdict : Outcome → VerdictAnswer

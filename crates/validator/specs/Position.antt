@@ -13,9 +13,9 @@ use Rattle.reader.specs.declared.field.U32Result.the-variants as u32
 use Rattle.reader.specs.Shown.{shownU32}
 use Rattle.functions.specs.declared.Row.{Row}
 use Rattle.functions.specs.Rows.{rowsFrom}
-use Rattle.validator.specs.declared.finding.Finding.{Finding}
-use Rattle.validator.specs.declared.finding.OptionFinding.the-variants as finding
-use Rattle.validator.specs.declared.finding.Bounds.{Bounds}
+use Rattle.rules.specs.declared.finding.Finding.{Finding}
+use Rattle.rules.specs.declared.finding.OptionFinding.the-variants as finding
+use Rattle.rules.specs.declared.finding.Bounds.{Bounds}
 use Rattle.validator.specs.declared.scan.Code.{Code}
 use Rattle.validator.specs.declared.scan.Scanned.{Scanned}
 use Rattle.validator.specs.declared.scan.Scanned.the-variants as scan
@@ -23,8 +23,8 @@ use Rattle.validator.specs.declared.search.Position.{Position}
 use Rattle.validator.specs.declared.search.State.{State}
 use Rattle.validator.specs.declared.search.State.the-variants as state
 use Rattle.validator.specs.declared.search.Step.{Step}
-use Rattle.validator.specs.Judged.{listed}
-use Rattle.validator.specs.Findings.{codeGroups, Listing, ended, prepend, limited}
+use Rattle.rules.specs.Judged.{listed}
+use Rattle.rules.specs.Findings.{codeGroups, Listing, ended, prepend, limited}
 
 -- ## Instructions
 abbrev pub onWord : {R : Type 0} → U32Result → R → (ℕ → ℕ → R) → R

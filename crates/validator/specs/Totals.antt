@@ -3,10 +3,10 @@ use mathlib.Core.Bool.{Bool, true, false, _||_}
 use Prim.Native.Nat.{ℕ, _+_}
 use lib.ListN.{length}
 use Rattle.format.specs.Pick.{pick}
-use Rattle.validator.specs.declared.finding.Verdict.{Verdict}
-use Rattle.validator.specs.declared.finding.Verdict.the-variants.{ValidForAnalysis, Invalid, Incomplete}
+use Rattle.rules.specs.declared.finding.Verdict.{Verdict}
+use Rattle.rules.specs.declared.finding.Verdict.the-variants.{ValidForAnalysis, Invalid, Incomplete}
 use Rattle.validator.specs.declared.tally.Totals.{Totals}
-use Rattle.validator.specs.Findings.{Listing, anyError}
+use Rattle.rules.specs.Findings.{Listing, anyError}
 
 -- behind so many findings, and an error or none
 abbrev pub andTally : ℕ → Bool → Listing → Totals

@@ -1,6 +1,4 @@
 // validator.rs: what is wrong with a chunk's instructions, and the verdict.
-pub mod finding;
-pub mod judge;
 pub mod scan;
 pub mod search;
 pub mod tally;

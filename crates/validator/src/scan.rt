@@ -1,14 +1,14 @@
 // The instructions of one function, up to the next that is not fine.
 ghost use mathlib.Core.Path.{_≡_};
 ghost use Rattle.validator.specs.Position.{codeLeft, skip, scanned};
-use crate::finding::Bounds;
-use crate::finding::Finding;
-use crate::finding::OptionFinding;
-use crate::judge::Judged;
-use crate::judge::judge;
 use reader::cursor::Cursor;
 use reader::field::U32Result;
 use reader::field::read_u32_le;
+use rules::finding::Bounds;
+use rules::finding::Finding;
+use rules::finding::OptionFinding;
+use rules::judge::Judged;
+use rules::judge::judge;
 
 // Where in a function's instructions a search stands: at the instruction `pc`.
 pub struct Code {

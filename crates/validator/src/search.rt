@@ -5,12 +5,8 @@ ghost use mathlib.Core.List.{List};
 ghost use mathlib.Core.Bool.{_||_};
 ghost use lib.Dec.{ltb};
 ghost use lib.ListN.{length};
-ghost use Rattle.validator.specs.Judged.{listed};
+ghost use Rattle.rules.specs.Judged.{listed};
 ghost use Rattle.validator.specs.Position.{codeAt, nextNumber, rowBounds, groupsLeft, anyLeft, ofRows, outOf, goesOn, stepped, startPosition};
-use crate::finding::Bounds;
-use crate::finding::Finding;
-use crate::finding::OptionFinding;
-use crate::finding::Rule;
 use crate::scan::Code;
 use crate::scan::Scanned;
 use crate::scan::scan;
@@ -21,6 +17,10 @@ use functions::next_function;
 use reader::cursor::Cursor;
 use reader::field::U32Result;
 use reader::field::read_u32_le;
+use rules::finding::Bounds;
+use rules::finding::Finding;
+use rules::finding::OptionFinding;
+use rules::finding::Rule;
 
 // The state of a search.
 pub struct Position {

@@ -2,19 +2,19 @@
 ghost use mathlib.Core.Path.{_≡_};
 ghost use mathlib.Core.Bool.{_||_};
 ghost use Prim.Native.Nat.{_≤_};
-ghost use Rattle.validator.specs.Rules as rules;
-ghost use Rattle.validator.specs.Findings as findings;
+ghost use Rattle.rules.specs.Rules as rules;
+ghost use Rattle.rules.specs.Findings as findings;
 ghost use Rattle.validator.specs.Position.{outOf, startPosition};
 ghost use Rattle.validator.specs.Totals.{tallied, verdictShown};
-use crate::finding::Rule;
-use crate::finding::Severity;
-use crate::finding::Verdict;
 use crate::search::Position;
 use crate::search::State;
 use crate::search::advance;
 use crate::search::start;
 use format::limits::ResourceLimits;
 use reader::cursor::Cursor;
+use rules::finding::Rule;
+use rules::finding::Severity;
+use rules::finding::Verdict;
 
 pub struct Totals {
     pub count: u64,

@@ -3,7 +3,6 @@ ghost use mathlib.Core.Path.{_≡_};
 ghost use Prim.Native.Nat.{_<_};
 ghost use Rattle.format.specs.ReadChunk as format;
 ghost use Rattle.validator.specs.Answers.{keptCount, shownTotals, shownVerdict, shownCount};
-use crate::finding::Verdict;
 use crate::tally::Totals;
 use crate::tally::tally;
 use crate::tally::verdict_of;
@@ -15,6 +14,7 @@ use format::limits::ResourceLimits;
 use format::refusal::Refusal;
 use header::OptionWarning;
 use reader::cursor::Cursor;
+use rules::finding::Verdict;
 
 pub enum TotalsResult {
     Ok(Totals),

@@ -3,7 +3,7 @@ use Prim.Native.Nat.{ℕ}
 use borrow.Author.Needs.{needs}
 use Rattle.format.specs.declared.limits.ResourceLimits.{ResourceLimits}
 use Rattle.format.specs.Form.{Bytes}
-use Rattle.validator.specs.Findings.{MAX-DIAGNOSTICS, Listing}
+use Rattle.rules.specs.Findings.{MAX-DIAGNOSTICS, Listing}
 use Rattle.validator.specs.Position.{outOf, startPosition}
 use Rattle.finding_plan.proofs.Planning.{too-many, all-fit}
 use Rattle.finding_plan.proofs.decide.Statement.{statement}

@@ -2,7 +2,7 @@
 use mathlib.Core.Path.{sym, ap, subst, _∙_}
 use borrow.Author.Needs.{needs}
 use Rattle.format.specs.ReadChunk.{read}
-use Rattle.validator.specs.Findings.{MAX-DIAGNOSTICS}
+use Rattle.rules.specs.Findings.{MAX-DIAGNOSTICS}
 use Rattle.validator.specs.Position.{outOf, startPosition}
 use Rattle.finding_plan.specs.Plan.{Planned}
 use Rattle.finding_plan.proofs.Started.{was-refused, was, few-instructions, main-there, all-findings}

@@ -55,10 +55,10 @@ use denote.Triple.Walked.{says, Stays, stay-none, stay-slice, stay-none-slice, w
 use denote.Exit.{yes}
 use Rattle.format.specs.declared.limits.ResourceLimits.{ResourceLimits}
 use Rattle.format.specs.ReadChunk.{read}
-use Rattle.validator.specs.declared.finding.Finding.{Finding}
+use Rattle.rules.specs.declared.finding.Finding.{Finding}
 use Rattle.validator.specs.declared.search.Position.{Position}
 use Rattle.validator.specs.declared.search.Step.{Step}
-use Rattle.validator.specs.Findings.{MAX-DIAGNOSTICS, Listing}
+use Rattle.rules.specs.Findings.{MAX-DIAGNOSTICS, Listing}
 use Rattle.validator.specs.Position.{outOf, stepped}
 use Rattle.finding_plan.specs.declared.Plan.{Plan}
 use Rattle.finding_plan.specs.Plan.{written, Planned}
@@ -67,8 +67,8 @@ use Rattle.findings.proofs.Steps.{After, at-first, step-found}
 use Rattle.findings.proofs.Filled.{written-zero, written-length, written-next}
 use Rattle.format.proofs.limits.ResourceLimits as L
 use Rattle.format.proofs.limits.ResourceLimits.Laws as L′
-use Rattle.validator.proofs.finding.Finding as T
-use Rattle.validator.proofs.finding.Finding.Laws as T′
+use Rattle.rules.proofs.finding.Finding as T
+use Rattle.rules.proofs.finding.Finding.Laws as T′
 use Rattle.validator.proofs.search.Position as K
 use Rattle.validator.proofs.search.Position.Laws as K′
 use Rattle.validator.proofs.search.Step as S

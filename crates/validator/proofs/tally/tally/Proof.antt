@@ -7,7 +7,7 @@ use mathlib.Core.Bool.{false}
 use mathlib.Core.List.{[], _∷_}
 use Prim.Native.Nat.{ℕ, _+_, _<_, _≤_, _^_}
 use lib.ListN as lists
-use Rattle.validator.specs.Findings.{prepend}
+use Rattle.rules.specs.Findings.{prepend}
 use Rattle.validator.specs.Position.{outOf, stepIs}
 use Rattle.validator.specs.Totals.{andTally, tallied}
 use Rattle.validator.proofs.Few.{few-out}

@@ -3,7 +3,7 @@ use mathlib.Core.Path.{sym, ap, _∙_}
 use borrow.Author.Needs.{needs}
 use Rattle.format.specs.ReadChunk.{read}
 use Rattle.validator.specs.declared.verdict.TotalsResult.the-variants as totals
-use Rattle.validator.specs.Findings.{MAX-DIAGNOSTICS}
+use Rattle.rules.specs.Findings.{MAX-DIAGNOSTICS}
 use Rattle.validator.specs.Position.{outOf, startPosition}
 use Rattle.validator.specs.Totals.{tallied}
 use Rattle.validator.proofs.Chunk.{totals-refused, few-instructions, main-there, totals-shown}

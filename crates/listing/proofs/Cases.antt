@@ -1,0 +1,33 @@
+-- The output that 01 prints: files and their listings in a list, and one theorem over the list, which antt computes.
+-- Assumes nothing.
+use mathlib.Core.Path.{_≡_, refl}
+use mathlib.Core.List.{List, [], _∷_, _++_, map}
+use Prim.Native.Nat.{ℕ}
+use lib.ListN.{replicate, take}
+use Rattle.format.specs.Form.{Bytes}
+use Rattle.format.specs.ReadChunk.{body, function, read}
+use Rattle.rules.specs.Findings.{codeGroups, groups, limited, chunkFindings}
+use Rattle.listing_text.specs.Lines.{digitsUpTo, firstLine, refusalLine}
+use Rattle.listing.specs.Listing.{listing}
+
+-- 01's 46 bytes
+unfoldable pub small : Bytes
+small =
+    0x1b ∷ 0x4c ∷ 0x75 ∷ 0x61 ∷ 0x54 ∷ 0 ∷ 0x19 ∷ 0x93 ∷ 0x0d ∷ 0x0a ∷ 0x1a ∷ 0x0a ∷ 4 ∷ 8 ∷ 8
+    ∷ 0x78 ∷ 0x56 ∷ 0 ∷ 0 ∷ 0 ∷ 0 ∷ 0 ∷ 0 ∷ 0 ∷ 0 ∷ 0 ∷ 0 ∷ 0 ∷ 0x28 ∷ 0x77 ∷ 0x40
+    ∷ 0 ∷ 0x80 ∷ 0x80 ∷ 0x80 ∷ 0 ∷ 0 ∷ 2 ∷ replicate 8 0x80
+
+-- `chunk 46 functions 1 trailing 0 verdict valid-for-analysis`, `0 0 0 0 0 0 2 0 0 0`; and `refused 1 at 45`
+unfoldable pub cases : List (Bytes × List ℕ)
+unfolding small
+cases = (
+  small,
+  99 ∷ 104 ∷ 117 ∷ 110 ∷ 107 ∷ 32 ∷ 52 ∷ 54 ∷ 32 ∷ 102 ∷ 117 ∷ 110 ∷ 99 ∷ 116 ∷ 105 ∷ 111 ∷ 110 ∷ 115 ∷ 32 ∷ 49 ∷ 32 ∷ 116 ∷ 114 ∷ 97 ∷ 105 ∷ 108 ∷ 105 ∷ 110 ∷ 103 ∷ 32 ∷ 48 ∷ 32 ∷ 118 ∷ 101 ∷ 114 ∷ 100 ∷ 105 ∷ 99 ∷ 116 ∷ 32 ∷ 118 ∷ 97 ∷ 108 ∷ 105 ∷ 100 ∷ 45 ∷ 102 ∷ 111 ∷ 114 ∷ 45 ∷ 97 ∷ 110 ∷ 97 ∷ 108 ∷ 121 ∷ 115 ∷ 105 ∷ 115 ∷ 10
+      ∷ 48 ∷ 32 ∷ 48 ∷ 32 ∷ 48 ∷ 32 ∷ 48 ∷ 32 ∷ 48 ∷ 32 ∷ 48 ∷ 32 ∷ 50 ∷ 32 ∷ 48 ∷ 32 ∷ 48 ∷ 32 ∷ 48 ∷ 10 ∷ [],
+)
+    ∷ (take 45 small, 114 ∷ 101 ∷ 102 ∷ 117 ∷ 115 ∷ 101 ∷ 100 ∷ 32 ∷ 49 ∷ 32 ∷ 97 ∷ 116 ∷ 32 ∷ 52 ∷ 53 ∷ 10 ∷ [])
+    ∷ []
+
+pub all-hold : map (λ c. listing (c .0)) cases ≡ map (λ c. c .1) cases
+unfolding cases small read body function codeGroups groups limited chunkFindings digitsUpTo firstLine refusalLine
+all-hold = refl

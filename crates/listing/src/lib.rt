@@ -1,0 +1,121 @@
+// What `chunklist` prints of a file: a line for the chunk and one for each of its functions, or a refusal.
+ghost use mathlib.Core.Path.{_≡_};
+ghost use Prim.Native.Nat.{_≤_, _<_};
+ghost use lib.ListN.{length};
+ghost use Rattle.text.specs.Output.{waiting, puts};
+ghost use Rattle.format.specs.ReadChunk.{read};
+ghost use Rattle.functions.specs.Rows.{chunkRows};
+ghost use Rattle.listing.specs.Listing as listings;
+use chunk::row::OptionRow;
+use decode::summary::DecodedResult;
+use decode::summary::decode_chunk_lua54;
+use format::limits::ResourceLimits;
+use functions::Met;
+use functions::next_function;
+use listing_text::first_line;
+use listing_text::function_line;
+use listing_text::refusal_line;
+use reader::cursor::Cursor;
+use rules::finding::Verdict;
+use text::print::Out;
+use validator::verdict::VerdictAnswer;
+use validator::verdict::chunk_verdict;
+
+// The longest file that is read.
+pub const LONGEST: usize = 49152;
+
+fn list_limits() -> ResourceLimits
+    ensures { λ r. ⌜ r ≡ listings.listLimits ⌝ }
+{
+    let top = ResourceLimits::ceilings();
+    ResourceLimits {
+        max_input_bytes: LONGEST,
+        max_nesting_depth: top.max_nesting_depth,
+        max_total_prototypes: top.max_total_prototypes,
+        max_instructions_per_proto: top.max_instructions_per_proto,
+        max_total_instructions: top.max_total_instructions,
+        max_constants_per_proto: top.max_constants_per_proto,
+        max_upvalues_per_proto: top.max_upvalues_per_proto,
+        max_string_bytes: top.max_string_bytes,
+        max_diagnostics: top.max_diagnostics,
+    }
+}
+
+// A line for each of the n functions, of which the first begins at a place.
+fn function_lines(
+    s: &[u8],
+    limits: ResourceLimits,
+    start: Cursor,
+    n: usize,
+    out: &mut Out,
+    used: usize,
+) -> usize
+    requires { ⌜ (limits .«max_total_instructions» ≤ 16777216) × (length (chunkRows limits (now s) (start .at)) ≡ n) ⌝ }
+    requires { ⌜ used < 65536 ⌝ }
+    ensures { λ r. ⌜ r < 65536 ⌝ }
+    ensures { λ r. ⌜ waiting (now (out .exit)) r ≡ puts (listings.rowLines 0 (chunkRows limits (now (s .entry)) (start .at))) (waiting (now (out .entry)) used) ⌝ }
+{
+    let mut left = [0; 202];
+    left[0] = 1;
+    let mut depth = 0;
+    let mut at = start;
+    let mut number = 0;
+    let mut used = used;
+    loop {
+        let Met::Function(row, d, first) = next_function(s, limits, &left, depth, at) else {
+            return used;
+        };
+        used = function_line(out, used, number, row);
+        left[d] = left[d] - 1;
+        left[d + 1] = row.protos.count;
+        depth = d + 1;
+        at = first;
+        number += 1;
+    }
+}
+
+// All that is printed of a file. Ruled out: trailing bytes not counted, every function shown at depth 0.
+pub fn listing(s: &[u8], out: &mut Out, used: usize) -> usize
+    requires { ⌜ used < 65536 ⌝ }
+    ensures { λ r. ⌜ r < 65536 ⌝ }
+    ensures { λ r. ⌜ waiting (now (out .exit)) r ≡ puts (listings.listing (now (s .entry))) (waiting (now (out .entry)) used) ⌝ }
+{
+    let limits = list_limits();
+    let answer = chunk_verdict(s, limits);
+    match answer {
+        VerdictAnswer::Err(why) => refusal_line(out, used, why),
+        VerdictAnswer::Ok(verdict) => chunk_lines(s, limits, verdict, out, used),
+    }
+}
+
+// A chunk that is read, and the verdict on it.
+fn chunk_lines(
+    s: &[u8],
+    limits: ResourceLimits,
+    verdict: Verdict,
+    out: &mut Out,
+    used: usize,
+) -> usize
+    requires { ⌜ used < 65536 ⌝ }
+    ensures { λ r. ⌜ r < 65536 ⌝ }
+    ensures { λ r. ⌜ waiting (now (out .exit)) r ≡ puts (listings.linesOf (length (now (s .entry))) verdict (read limits (now (s .entry)))) (waiting (now (out .entry)) used) ⌝ }
+{
+    let decoded = decode_chunk_lua54(s, limits, 0);
+    match decoded {
+        // Never: it was read for the verdict.
+        DecodedResult::Err(_) => used,
+        DecodedResult::Ok(chunk) => {
+            let n = chunk.summary.functions;
+            let used = first_line(out, used, s.len(), n, chunk.summary.trailing_len, verdict);
+            let main = chunk.row;
+            match main {
+                // Never: a chunk that is read has main.
+                OptionRow::None => used,
+                OptionRow::Some(row) => {
+                    let start = Cursor { at: row.start };
+                    function_lines(s, limits, start, n, out, used)
+                }
+            }
+        }
+    }
+}

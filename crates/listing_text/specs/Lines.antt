@@ -1,0 +1,65 @@
+-- The lines of a listing (01, 'Calls', last paragraph), in ASCII.
+--     decimal n            a number's digits
+--     firstLine            a chunk that is read
+--     refusalLine          one that is not
+--     rowLine k row        the function whose number is k
+use Prim.Native.Nat.{ℕ, zero, suc, _/_, _%_}
+use mathlib.Core.List.{List, [], _∷_, _++_}
+use lib.Dec.{ltb}
+use Rattle.io.specs.Digits.{glyph}
+use Rattle.format.specs.Pick.{pick}
+use Rattle.format.specs.declared.refusal.Refusal.{Refusal}
+use Rattle.format.specs.declared.refusal.Place.{Place}
+use Rattle.format.specs.declared.refusal.Place.the-variants as place
+use Rattle.format.specs.Refusals.{reported}
+use Rattle.functions.specs.declared.Row.{Row}
+use Rattle.rules.specs.declared.finding.Verdict.{Verdict}
+use Rattle.rules.specs.Findings.{verdictWord}
+
+-- n in base 10, without zeros in front, in at most `more` digits and one
+unfoldable pub digitsUpTo : ℕ → ℕ → List ℕ
+digitsUpTo zero n = glyph n ∷ []
+digitsUpTo (suc more) n = pick (ltb n 10) (glyph n ∷ []) (digitsUpTo more (n / 10) ++ (glyph (n % 10) ∷ []))
+
+-- (n digits and one are enough)
+abbrev pub decimal : ℕ → List ℕ
+decimal n = digitsUpTo n n
+
+-- a space before each number, and a newline behind the last
+abbrev pub spaced : List ℕ → List ℕ
+spaced [] = 10 ∷ []
+spaced (n ∷ ns) = 32 ∷ (decimal n ++ spaced ns)
+
+-- `chunk `, ` functions `, ` trailing `, ` verdict `
+unfoldable pub firstLine : ℕ → ℕ → ℕ → Verdict → List ℕ
+firstLine bytes functions trailing v =
+    ((99 ∷ 104 ∷ 117 ∷ 110 ∷ 107 ∷ 32 ∷ []) ++ decimal bytes)
+    ++ (((32 ∷ 102 ∷ 117 ∷ 110 ∷ 99 ∷ 116 ∷ 105 ∷ 111 ∷ 110 ∷ 115 ∷ 32 ∷ []) ++ decimal functions)
+    ++ (((32 ∷ 116 ∷ 114 ∷ 97 ∷ 105 ∷ 108 ∷ 105 ∷ 110 ∷ 103 ∷ 32 ∷ []) ++ decimal trailing)
+    ++ ((32 ∷ 118 ∷ 101 ∷ 114 ∷ 100 ∷ 105 ∷ 99 ∷ 116 ∷ 32 ∷ [])
+    ++ (verdictWord v ++ (10 ∷ [])))))
+
+-- ` at ` and the place, where there is one
+abbrev pub atPlace : Place → List ℕ
+atPlace (place.At n) = (32 ∷ 97 ∷ 116 ∷ 32 ∷ []) ++ decimal n
+atPlace place.None = []
+
+-- `refused `
+unfoldable pub refusalLine : Refusal → List ℕ
+refusalLine q = ((114 ∷ 101 ∷ 102 ∷ 117 ∷ 115 ∷ 101 ∷ 100 ∷ 32 ∷ []) ++ decimal (reported q .number)) ++ (atPlace (reported q .place) ++ (10 ∷ []))
+
+-- number, depth, first line, last line, parameters, vararg, stack, instructions, constants, upvalues
+unfoldable pub rowLine : ℕ → Row → List ℕ
+rowLine k row =
+    decimal k ++ spaced (
+    row .depth
+    ∷ row .lines .«line_defined»
+    ∷ row .lines .«last_line_defined»
+    ∷ row .sizes .numparams
+    ∷ row .sizes .«is_vararg»
+    ∷ row .sizes .maxstacksize
+    ∷ row .instructions .count
+    ∷ row .constants .count
+    ∷ row .upvalues .count
+    ∷ []
+    )

@@ -1,0 +1,5 @@
+pub mod Targets
+pub mod Judging
+pub mod RustLaws
+pub mod FewFindings
+pub mod Cases

@@ -1,0 +1,4 @@
+pub mod Rules
+pub mod Judged
+pub mod Findings
+pub mod Rust

@@ -1,0 +1,3 @@
+// validator.rs: findings, and what is wrong with one instruction.
+pub mod finding;
+pub mod judge;
