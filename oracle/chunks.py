@@ -16,7 +16,7 @@ GROUPS = (
     nesting.depths, nesting.totals, nesting.first_of_two, nesting.totals_of_code, overflow.overflow,
     copies.names, copies.sources, copies.header_bytes, copies.lengths,
     lines.worked, lines.anchors, lines.as_many, lines.marks, lines.huge, lines.functions, lines.pcs,
-    validation.stacks, validation.opcodes, validation.indices, validation.both, validation.jumps, validation.families, stops.kept,
+    validation.stacks, validation.opcodes, validation.indices, validation.both, validation.jumps, validation.families, stops.kept, stops.verdicts,
     damage.every_byte,
 )
 

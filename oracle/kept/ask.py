@@ -30,6 +30,10 @@ class Requests:
     def chunk(self, data, **limits):
         self.lines[f"{limited(limits)} {hexed(data)}"] = True
 
+    def verdict(self, data, **limits):
+        """Asks for the verdict and the number of findings alone."""
+        self.lines[f"verdict {limited(limits)} {hexed(data)}"] = True
+
     def lookup(self, data, function, pcs, **limits):
         words = " ".join(map(str, (function, *pcs)))
         self.lines[f"lines {limited(limits)} {hexed(data)} {words}"] = True

@@ -1,4 +1,5 @@
-# Validation that stops at 10,000 findings. Their answers are long, above all those with warnings alone: one word each, and the list of both.
+# Validation that stops at 10,000 findings. Whole answers are long, above all those with warnings alone: one word each, and the list of both. So most of
+# what is kept asks for the verdict and the number of findings alone.
 from .build import Function, chunk
 from .instructions import LOADK, MOVE, iabc, iabx
 
@@ -29,6 +30,31 @@ def kept(requests):
     main.nested.append(Function(words=[WARNED] + [TWICE] * 4 + [FINE, TWICE, TWICE], nested=[Function(words=[TWICE])]))
     for warnings in (0, 1):
         requests.chunk(warned(main, warnings))
+
+
+def verdicts(requests):
+    requests.title("stops: the verdict alone, of what is read and of what is refused")
+    for words in ([], [FINE], [WARNED], [WRONG], [TWICE, FINE]):
+        requests.verdict(chunk(Function(words=words)))
+        requests.verdict(warned(Function(words=words), 2), max_diagnostics=1)
+    requests.verdict(chunk(Function())[:-1])
+    requests.verdict(b"")
+    requests.verdict(chunk(Function()), max_diagnostics=10001)
+    requests.verdict(chunk(Function(words=[FINE])), max_total_instructions=0)
+    requests.title("stops: register warnings, with warnings of reading kept and dropped")
+    # So many warnings of reading, the limit that keeps some of them, and counts of register warnings: up to 10,000 in all is no stop.
+    for warnings, limit, counts in ((0, 0, (MOST - 1, MOST, MOST + 1)), (1, 0, (MOST,)), (1, 1, (MOST - 1, MOST)), (2, 0, (MOST,)),
+                                    (2, 1, (MOST - 1, MOST)), (2, 2, (MOST - 2, MOST - 1))):
+        for count in counts:
+            requests.verdict(warned(Function(words=[WARNED] * count), warnings), max_diagnostics=limit)
+    requests.title("stops: a function without instructions behind the last finding, and before it; several functions")
+    empty = Function()
+    for count in (MOST - 1, MOST):
+        requests.verdict(chunk(Function(words=[WARNED] * count, nested=[Function(nested=[empty])])))
+    requests.verdict(chunk(Function(nested=[Function(words=[WARNED] * MOST), empty])))
+    requests.verdict(chunk(Function(nested=[empty, Function(words=[WARNED] * MOST)])))
+    for count in (MOST, MOST + 1):
+        requests.verdict(chunk(spread(WARNED, count, 100)))
 
 
 def incomplete(requests):

@@ -1,5 +1,5 @@
 // The answer to a chunk: everything that reading shows, then the copy, the verdict, the findings and the lines.
-use crate::findings::put_findings;
+use crate::findings::{put_findings, put_verdict};
 use crate::functions::{functions, Function};
 use crate::limits::read;
 use crate::lines::put_line;
@@ -9,13 +9,8 @@ use luad_core::model::{Chunk, ConstantValue, LuaString, Prototype};
 use luad_dialect_lua54::chunk::encode_chunk_lua54;
 
 pub fn put_chunk(out: &mut String, limits: &ResourceLimits, bytes: &[u8]) {
-    let chunk = match read(limits, bytes) {
-        Ok(chunk) => chunk,
-        Err(refusal) => {
-            refusal.put(out);
-            out.push('\n');
-            return;
-        }
+    let Some(chunk) = read_or_refuse(out, limits, bytes) else {
+        return;
     };
     let functions = functions(&chunk.main_proto);
     put_summary(out, &chunk, &functions);
@@ -29,6 +24,25 @@ pub fn put_chunk(out: &mut String, limits: &ResourceLimits, bytes: &[u8]) {
     put_findings(out, &chunk, &functions);
     for (number, function) in functions.iter().enumerate() {
         put_line(out, number, function.proto);
+    }
+}
+
+/// The answer to `verdict`: the verdict and the number of findings.
+pub fn put_verdict_alone(out: &mut String, limits: &ResourceLimits, bytes: &[u8]) {
+    if let Some(chunk) = read_or_refuse(out, limits, bytes) {
+        put_verdict(out, &chunk);
+    }
+}
+
+/// The chunk, or none where the refusal is the answer.
+fn read_or_refuse(out: &mut String, limits: &ResourceLimits, bytes: &[u8]) -> Option<Chunk> {
+    match read(limits, bytes) {
+        Ok(chunk) => Some(chunk),
+        Err(refusal) => {
+            refusal.put(out);
+            out.push('\n');
+            None
+        }
     }
 }
 

@@ -7,23 +7,26 @@ use luad_core::model::Chunk;
 use luad_dialect_lua54::{validator, validator_untruncated};
 
 pub fn put_findings(out: &mut String, chunk: &Chunk, functions: &[Function]) {
+    let mut number = 0;
+    for finding in put_verdict(out, chunk) {
+        put_finding(out, &finding, functions, &mut number);
+    }
+}
+
+/// The verdict and the number of findings; the findings are what it gives back.
+pub fn put_verdict(out: &mut String, chunk: &Chunk) -> Vec<Diagnostic> {
     let (verdict, _) = validator::validate_chunk_lua54(chunk);
-    let (verdict_of_copy, list) = validator_untruncated::validate_chunk_lua54(chunk);
+    let (verdict_of_copy, mut list) = validator_untruncated::validate_chunk_lua54(chunk);
     assert_eq!(verdict, verdict_of_copy, "the two validators disagree");
     put!(out, "verdict {}\n", name(verdict));
 
     // The list begins with the warnings of reading, and may end with the note that it was stopped: neither is a finding.
-    let mut found = &list[chunk.diagnostics.len()..];
-    if let Some((last, others)) = found.split_last() {
-        if last.code == "CORE-LIMIT-003" {
-            found = others;
-        }
+    list.drain(..chunk.diagnostics.len());
+    if list.last().is_some_and(|last| last.code == "CORE-LIMIT-003") {
+        list.pop();
     }
-    put!(out, "findings {}\n", found.len());
-    let mut number = 0;
-    for finding in found {
-        put_finding(out, finding, functions, &mut number);
-    }
+    put!(out, "findings {}\n", list.len());
+    list
 }
 
 fn name(verdict: Verdict) -> &'static str {

@@ -66,6 +66,7 @@ fn put_answer(out: &mut String, line: &[u8]) {
     match request {
         None => out.push_str("bad request\n"),
         Some(Request::Chunk { limits, chunk }) => chunks::put_chunk(out, &limits, &chunk),
+        Some(Request::Verdict { limits, chunk }) => chunks::put_verdict_alone(out, &limits, &chunk),
         Some(Request::Lines { limits, chunk, function, pcs }) => {
             lines::put_lookups(out, &limits, &chunk, function, &pcs)
         }

@@ -5,6 +5,7 @@ use std::slice::Split;
 
 pub enum Request {
     Chunk { limits: ResourceLimits, chunk: Vec<u8> },
+    Verdict { limits: ResourceLimits, chunk: Vec<u8> },
     Lines { limits: ResourceLimits, chunk: Vec<u8>, function: u64, pcs: Vec<usize> },
     Word(u32),
     Encode(RawInstruction54),
@@ -22,6 +23,11 @@ pub fn parse(line: &[u8]) -> Option<Request> {
             let function = decimal(words.next()?)?;
             let pcs = words.by_ref().map(number).collect::<Option<_>>()?;
             Request::Lines { limits, chunk, function, pcs }
+        }
+        b"verdict" => {
+            words = ahead;
+            let (limits, chunk) = limits_and_chunk(&mut words)?;
+            Request::Verdict { limits, chunk }
         }
         b"word" => {
             words = ahead;

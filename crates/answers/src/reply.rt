@@ -5,6 +5,7 @@ use crate::request;
 use crate::request::Limits;
 use crate::rows as row_lines;
 use crate::summary;
+use copy_text::Copies;
 use entry_text::Name;
 use format::limits::ResourceLimits;
 use index::IndexAnswer;
@@ -18,7 +19,13 @@ use text::token;
 use text::token::NumberAt;
 use text::token::Token;
 
-// `L1 .. L9 HEX`. The chunk's bytes go into `space`, the index into `rows`, a local's name into `name`.
+// What is asked of a chunk: everything, or the verdict and the number of findings.
+pub enum Asked {
+    All,
+    Verdict,
+}
+
+// `L1 .. L9 HEX`. The chunk's bytes go into `space`, the index into `rows`, a local's name into `name`, its copy into `copies`.
 pub fn chunk(
     line: &[u8],
     out: &mut Out,
@@ -26,19 +33,21 @@ pub fn chunk(
     space: &mut [u8],
     rows: &mut Rows,
     name: &mut Name,
+    copies: &mut Copies,
+    asked: Asked,
 ) -> usize
     requires { ⌜ used < 65536 ⌝ }
     ensures { λ r. ⌜ r < 65536 ⌝ }
 {
-    let asked = request::nine(line);
-    let Limits::Values(limits, at) = asked else {
+    let first = request::nine(line);
+    let Limits::Values(limits, at) = first else {
         return print::bad_request(out, used);
     };
     let read = request::chunk(line, at, space);
     let Length::Value(n) = read else {
         return print::bad_request(out, used);
     };
-    let used = answered(out, used, &space[..n], limits, rows, name);
+    let used = answered(out, used, &space[..n], limits, rows, name, copies, asked);
     print::text(out, used, b"end\n")
 }
 
@@ -50,6 +59,26 @@ fn answered(
     limits: ResourceLimits,
     rows: &mut Rows,
     name: &mut Name,
+    copies: &mut Copies,
+    asked: Asked,
+) -> usize
+    requires { ⌜ used < 65536 ⌝ }
+    ensures { λ r. ⌜ r < 65536 ⌝ }
+{
+    match asked {
+        Asked::All => everything(out, used, s, limits, rows, name, copies),
+        Asked::Verdict => finding_text::totals(out, used, s, limits),
+    }
+}
+
+fn everything(
+    out: &mut Out,
+    used: usize,
+    s: &[u8],
+    limits: ResourceLimits,
+    rows: &mut Rows,
+    name: &mut Name,
+    copies: &mut Copies,
 ) -> usize
     requires { ⌜ used < 65536 ⌝ }
     ensures { λ r. ⌜ r < 65536 ⌝ }
@@ -59,12 +88,12 @@ fn answered(
         SummaryAnswer::Err(why) => print::refusal(out, used, why),
         SummaryAnswer::Ok(whole) => {
             let used = summary::lines(out, used, s, limits, whole);
-            functions(out, used, s, limits, rows, name)
+            functions(out, used, s, limits, rows, name, copies)
         }
     }
 }
 
-// The lines of the functions, those of the index, and the lines that instructions stand on.
+// The lines of the functions, those of the index, of the copy and of validation, and the lines that instructions stand on.
 fn functions(
     out: &mut Out,
     used: usize,
@@ -72,6 +101,7 @@ fn functions(
     limits: ResourceLimits,
     rows: &mut Rows,
     name: &mut Name,
+    copies: &mut Copies,
 ) -> usize
     requires { ⌜ used < 65536 ⌝ }
     ensures { λ r. ⌜ r < 65536 ⌝ }
@@ -83,6 +113,8 @@ fn functions(
             let n = row_lines::within(count);
             let used = row_lines::functions(out, used, s, limits, rows, n, name);
             let used = row_lines::lines(out, used, rows, n);
+            let used = copy_text::line(out, used, s, limits, copies);
+            let used = finding_text::lines(out, used, s, limits);
             line_text::functions(out, used, s, limits, n)
         }
     }

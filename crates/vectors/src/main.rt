@@ -4,6 +4,8 @@ ghost use lib.ListN.{length};
 ghost use Rattle.text.specs.Lines.{Within};
 use answers::Rows;
 use answers::reply;
+use answers::reply::Asked;
+use copy_text::Copies;
 use entry_text::Name;
 use text::line;
 use text::line::Found;
@@ -26,6 +28,7 @@ fn answer_line(
     space: &mut Space,
     rows: &mut Rows,
     name: &mut Name,
+    copies: &mut Copies,
 ) -> usize
     requires { ⌜ used < 65536 ⌝ }
     ensures { λ r. ⌜ r < 65536 ⌝ }
@@ -50,7 +53,21 @@ fn answer_line(
             return reply::lines(&line[6..], out, used, space);
         }
     }
-    reply::chunk(line, out, used, space, rows, name)
+    if line.len() > 8 {
+        if token::begins(line, b"verdict ") {
+            return reply::chunk(
+                &line[8..],
+                out,
+                used,
+                space,
+                rows,
+                name,
+                copies,
+                Asked::Verdict,
+            );
+        }
+    }
+    reply::chunk(line, out, used, space, rows, name, copies, Asked::All)
 }
 
 // The answer to what a step along the input found.
@@ -62,6 +79,7 @@ fn respond(
     space: &mut Space,
     rows: &mut Rows,
     name: &mut Name,
+    copies: &mut Copies,
 ) -> usize
     requires { ⌜ Within step (length (now buf)) ⌝ }
     requires { ⌜ used < 65536 ⌝ }
@@ -71,7 +89,7 @@ fn respond(
     let from = step.from;
     let to = step.to;
     match found {
-        Found::Line => answer_line(&buf[from..to], out, used, space, rows, name),
+        Found::Line => answer_line(&buf[from..to], out, used, space, rows, name, copies),
         Found::Nothing => used,
         Found::End => used,
     }
@@ -85,6 +103,7 @@ fn answer_all(
     space: &mut Space,
     rows: &mut Rows,
     name: &mut Name,
+    copies: &mut Copies,
 ) -> usize
     ensures { λ r. ⌜ r < 65536 ⌝ }
 {
@@ -97,15 +116,22 @@ fn answer_all(
         if let Found::End = found {
             return used;
         }
-        used = respond(buf, step, out, used, space, rows, name);
+        used = respond(buf, step, out, used, space, rows, name, copies);
         lines = step.rest;
         turns -= 1;
     }
     used
 }
 
-fn run(buf: &mut [u8], out: &mut Out, space: &mut Space, rows: &mut Rows, name: &mut Name) {
-    let used = answer_all(buf, out, space, rows, name);
+fn run(
+    buf: &mut [u8],
+    out: &mut Out,
+    space: &mut Space,
+    rows: &mut Rows,
+    name: &mut Name,
+    copies: &mut Copies,
+) {
+    let used = answer_all(buf, out, space, rows, name, copies);
     print::flush(out, used);
 }
 
@@ -116,5 +142,13 @@ fn main() {
     let mut space = [0u8; 524288];
     let mut rows = [0u32; 449400];
     let mut name = [0u8; 524288];
-    run(&mut buf, &mut out, &mut space, &mut rows, &mut name);
+    let mut copies = [0u8; 1400000];
+    run(
+        &mut buf,
+        &mut out,
+        &mut space,
+        &mut rows,
+        &mut name,
+        &mut copies,
+    );
 }

@@ -8,16 +8,16 @@ use Rattle.vectors.proofs.answer_all.Statement.{statement}
 use Rattle.vectors.proofs.answer_all.Tie as tie
 
 abbrev Inv-loop : tie.InvT-loop
-Inv-loop buf₀ out₀ space₀ rows₀ name₀ lines₀ used₀ turns₀ buf out space rows name lines used turns =
+Inv-loop buf₀ out₀ space₀ rows₀ name₀ copies₀ lines₀ used₀ turns₀ buf out space rows name copies lines used turns =
     (used < 65536) × (length buf ≡ length buf₀) × Held lines (length buf)
 
 abbrev μ-loop : tie.MeasureT-loop
-μ-loop buf₀ out₀ space₀ rows₀ name₀ lines₀ used₀ turns₀ buf out space rows name lines used turns = turns
+μ-loop buf₀ out₀ space₀ rows₀ name₀ copies₀ lines₀ used₀ turns₀ buf out space rows name copies lines used turns = turns
 
 loop-again : tie.Need-loop-again Inv-loop μ-loop
 loop-again c =
-    let n = c .before .before .before .before .before .before .before .before .before .before .next in
-    (c .before .respond .ensures, n .kept .0 ∙ c .before .before .before .before .before .before .before .before .before .before .before .before .before .loop .inv .1, n .ensures .held)
+    let n = c .before .before .before .before .before .before .before .before .before .before .before .next in
+    (c .before .respond .ensures, n .kept .0 ∙ c .before .before .before .before .before .before .before .before .before .before .before .before .before .before .loop .inv .1, n .ensures .held)
 
 pub answer-all-spec : {M : Type 1} → statement M
 answer-all-spec =
@@ -31,7 +31,7 @@ answer-all-spec =
     (λ c. search needs)
     (λ c. c .before .before .before .before .next .kept .0 ∙ c .before .before .before .before .before .before .before .loop .inv .1)
     (λ c. c .before .before .before .before .before .before .before .loop .inv .0)
-    (λ c κs. (c .before .before .before .before .before .before .before .before .next .ensures, c .before .before .before .before .before .before .before .before .before .before .before .loop .inv .0))
+    (λ c κs. (c .before .before .before .before .before .before .before .before .before .next .ensures, c .before .before .before .before .before .before .before .before .before .before .before .before .loop .inv .0))
     (λ c. search needs)
     (λ c. search needs)
     loop-again

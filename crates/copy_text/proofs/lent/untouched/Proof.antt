@@ -1,0 +1,25 @@
+-- `copy_text::lent::untouched` is safe and ends. The measure is what is left to look at. Assumes nothing.
+use Prim.Native.Nat.{_≤_, _-_}
+use borrow.Author.Needs.{needs}
+use Rattle.copy_text.proofs.lent.untouched.Statement.{statement}
+use Rattle.copy_text.proofs.lent.untouched.Tie as tie
+
+abbrev Inv-loop : tie.InvT-loop
+Inv-loop space from to i₀ i = from ≤ i
+
+abbrev μ-loop : tie.MeasureT-loop
+μ-loop space from to i₀ i = to - i
+
+pub untouched-spec : {M : Type 1} → statement M
+untouched-spec =
+    tie.close
+    (tie.spec
+    Inv-loop
+    μ-loop
+    (λ c. search needs)
+    (λ c. search needs)
+    (λ c. search needs)
+    (λ c. search needs)
+    (λ c. search needs)
+    (λ c. search needs)
+    (λ c. search needs))

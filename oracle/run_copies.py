@@ -1,0 +1,78 @@
+#!/usr/bin/env python3
+# Runs archive copies. Every sample is compiled, as it comes and stripped; `vectors` copies each chunk, and besides the same chunk spelt otherwise: numbers
+# padded, another format, another byte 31, a source in every function, trailing bytes. lua runs each copy, and what it prints must be what it prints of
+# luac's own chunk. The last line says how many ran alike; the status is 1 where one did not. Needs luac5.4 and lua5.4, and target/bin/vectors
+# (rt check vectors); where one of them is missing it says so, and the status is 2.
+import os
+import shutil
+import subprocess
+import sys
+import tempfile
+from pathlib import Path
+
+sys.dont_write_bytecode = True
+
+from kept.ask import hexed, limited
+from kept.build import chunk, family
+from kept.parse import main_of
+
+HERE = Path(__file__).resolve().parent
+SAMPLES = HERE / "samples"
+VECTORS = HERE.parent / "target" / "bin" / "vectors"
+LUAC, LUA = os.environ.get("LUAC", "luac5.4"), os.environ.get("LUA", "lua5.4")
+
+
+def otherwise(data):
+    """The same chunk, spelt so that its copy differs from it: lua refuses it as it is."""
+    main = main_of(data)
+    assert chunk(main) == data
+    for function in family(main):
+        function.source = main.source
+    return chunk(main, pad=lambda: 1, format=b"\x01", byte31=len(main.upvalues) + 1, trailing=b"\x1bLua")
+
+
+def compiled(folder):
+    """What luac makes, by the sample's name and how it was made."""
+    for sample in sorted(SAMPLES.glob("*.lua")):
+        for kind, flags in (("plain", ()), ("stripped", ("-s",))):
+            # The sample's own name is the source in the chunk.
+            subprocess.run([LUAC, *flags, "-o", folder / "chunk", sample.name], cwd=SAMPLES, check=True)
+            yield f"{sample.stem} {kind}", (folder / "chunk").read_bytes()
+
+
+def copies(chunks):
+    """The archive copies, by `vectors`."""
+    asked = "".join(f"{limited({})} {hexed(data)}\n" for data in chunks)
+    answers = subprocess.run([VECTORS], input=asked, capture_output=True, text=True, check=True).stdout.split("end\n")[:-1]
+    assert len(answers) == len(chunks)
+    for answer in answers:
+        (copy,) = (line.split(" ", 1)[1] for line in answer.splitlines() if line.startswith("copy "))
+        yield bytes.fromhex(copy)
+
+
+def run(folder, data):
+    """What lua prints of a chunk, with its errors and its status."""
+    (folder / "chunk").write_bytes(data)
+    done = subprocess.run([LUA, "chunk"], cwd=folder, capture_output=True, timeout=60)
+    return done.returncode, done.stdout, done.stderr
+
+
+def main():
+    for tool in (LUAC, LUA, VECTORS):
+        if not shutil.which(tool):
+            print(f"run_copies.py: no copy was run: {tool} is not there")
+            return 2
+    with tempfile.TemporaryDirectory() as name:
+        folder = Path(name)
+        named = dict(compiled(folder))
+        others = {f"{title}, spelt otherwise": otherwise(data) for title, data in named.items()}
+        both = list(zip([*named, *others], [*named.values()] * 2, copies([*named.values(), *others.values()])))
+        changed = sum(data != copy for data, copy in zip([*named.values(), *others.values()], (copy for _, _, copy in both)))
+        wrong = [title for title, data, copy in both if run(folder, data) != run(folder, copy)]
+    for title in wrong:
+        print(f"{title}: the copy does not run as luac's chunk does")
+    print(f"{len(both) - len(wrong)} copies ran alike, {changed} of them of chunks that are no copies of themselves")
+    return 1 if wrong else 0
+
+
+sys.exit(main())
