@@ -7,11 +7,20 @@ import sys
 sys.dont_write_bytecode = True
 
 from kept import damage, synthetic, validation
-from kept.ask import Requests
+from kept.ask import CEILINGS, Requests
 from kept.real import compiled
 
 REAL = 600
-WAYS = (damage.changed, damage.put_in, damage.taken_out, damage.swapped, damage.twice)
+# The largest number that there is: a size so large reaches beyond 2^64.
+LARGEST = b"\x01" + b"\x7f" * 7 + b"\x7e\xff"
+
+
+def largest(rng, data):
+    place = rng.randrange(31, len(data))
+    return data[:place] + LARGEST + data[place + 1:]
+
+
+WAYS = (damage.changed, damage.put_in, damage.taken_out, damage.swapped, damage.twice, largest)
 
 
 class Gathered(Requests):
@@ -41,6 +50,16 @@ def hurt(rng, data):
     return data
 
 
+def around_ceilings(rng, data):
+    """Now and then the input limit at the chunk's length or just below, or a limit above its ceiling."""
+    if rng.randrange(20) == 0:
+        return {"max_input_bytes": max(0, len(data) - rng.randrange(2))}
+    if rng.randrange(60) == 0:
+        name = rng.choice(list(CEILINGS))
+        return {name: CEILINGS[name] + rng.randrange(2)}
+    return {}
+
+
 def main():
     seed, count = map(int, sys.argv[1:])
     rng = random.Random(seed)
@@ -49,7 +68,8 @@ def main():
     while len(requests.lines) < count:
         turn = rng.randrange(3)
         data, limits = (rng.choice(real), synthetic.limits(rng)) if turn == 0 else made(rng)
-        requests.chunk(data if turn == 1 else hurt(rng, data), **limits)
+        data = data if turn == 1 else hurt(rng, data)
+        requests.chunk(data, **limits, **{name: limit for name, limit in around_ceilings(rng, data).items() if name not in limits})
     requests.show()
 
 

@@ -4,7 +4,6 @@ use crate::Rows;
 use crate::request;
 use crate::request::Limits;
 use crate::rows as row_lines;
-use crate::summary;
 use copy_text::Copies;
 use entry_text::Name;
 use format::limits::ResourceLimits;
@@ -87,7 +86,7 @@ fn everything(
     match found {
         SummaryAnswer::Err(why) => print::refusal(out, used, why),
         SummaryAnswer::Ok(whole) => {
-            let used = summary::lines(out, used, s, limits, whole);
+            let used = summary_text::lines(out, used, s, limits, whole);
             functions(out, used, s, limits, rows, name, copies)
         }
     }

@@ -1,10 +1,9 @@
 // The rows of the index: twelve numbers for each function.
 ghost use Prim.Native.Nat.{_+_, _<_, _≤_};
 use crate::Rows;
-use crate::function;
-use crate::function::Extent;
 use entry_text::Name;
 use format::limits::ResourceLimits;
+use function_text::Extent;
 use text::print;
 use text::print::Out;
 
@@ -35,7 +34,7 @@ pub fn functions(
     let mut f = 0;
     while f < n {
         let extent = extent_of(rows, f);
-        at = function::lines(out, at, s, limits, f, extent, name);
+        at = function_text::lines(out, at, s, limits, f, extent, name);
         f += 1;
     }
     at

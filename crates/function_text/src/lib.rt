@@ -1,4 +1,4 @@
-// The lines of a function: its fields, and its entries behind them.
+// The lines of a function: its fields, and its entries behind them. Each printer answers how many bytes wait in the buffer then (crate text).
 ghost use Prim.Native.Nat.{_<_};
 use entry_text::Name;
 use entry_text::items;

@@ -1,4 +1,4 @@
-// The lines of a chunk as a whole: header, warnings, the number of functions, trailing bytes.
+// The lines of a chunk as a whole: header, warnings, the number of functions, trailing bytes. Each printer answers how many bytes wait in the buffer then (crate text).
 ghost use Prim.Native.Nat.{_<_};
 use decode::summary::Summary;
 use decode::summary::Warnings;
