@@ -1,0 +1,13 @@
+-- The list that is filled: as long as there can be findings, of records that mean nothing.
+use Prim.Native.Nat.{ℕ}
+use mathlib.Core.List.{List}
+use lib.ListN.{replicate}
+use Rattle.rules.specs.declared.finding.Finding.{Finding}
+use Rattle.rules.specs.declared.finding.Rule.the-variants.{Register}
+
+-- there are at most 10,001 findings
+abbrev pub LONGEST : ℕ
+LONGEST = 10001
+
+unfoldable pub blankList : List Finding
+blankList = replicate LONGEST (record { function = 0; pc = 0; rule = Register 0 })
