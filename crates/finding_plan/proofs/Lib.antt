@@ -1,2 +1,1 @@
-pub mod Started
 pub mod Planning

@@ -2,17 +2,14 @@
 ghost use mathlib.Core.Path.{_≡_};
 ghost use Prim.Native.Nat.{_<_, _≤_};
 ghost use Rattle.format.specs.ReadChunk as format;
-ghost use Rattle.validator.specs.Answers.{keptCount};
 ghost use Rattle.rules.specs.Findings.{MAX-DIAGNOSTICS};
 ghost use Rattle.validator.specs.Position.{outOf, stepped, startPosition};
 ghost use Rattle.finding_plan.specs.Plan.{planOf, refusedPlan, Planned};
 use chunk::row::OptionRow;
 use decode::summary::DecodedResult;
-use decode::summary::Summary;
 use decode::summary::decode_chunk_lua54;
 use format::limits::ResourceLimits;
 use format::refusal::Refusal;
-use header::OptionWarning;
 use reader::cursor::Cursor;
 use rules::finding::Verdict;
 use validator::search::Position;
@@ -21,6 +18,7 @@ use validator::search::advance;
 use validator::search::start;
 use validator::tally::tally;
 use validator::tally::verdict_of;
+use validator::verdict::kept_count;
 
 pub enum FindingsAnswer {
     // The verdict, and how many findings there are.
@@ -33,24 +31,6 @@ pub struct Plan {
     pub answer: FindingsAnswer,
     pub count: usize,
     pub start: Position,
-}
-
-// How many of a reading's warnings were kept; and that its number of functions is one of 64 bits.
-fn kept_count(summary: Summary) -> u64
-    ensures { λ r. ⌜ (r ≡ keptCount (summary .warnings)) × (summary .functions < 18446744073709551616) ⌝ }
-{
-    let warnings = summary.warnings;
-    let second = warnings.second;
-    match second {
-        OptionWarning::Some(_) => 2,
-        OptionWarning::None => {
-            let first = warnings.first;
-            match first {
-                OptionWarning::Some(_) => 1,
-                OptionWarning::None => 0,
-            }
-        }
-    }
 }
 
 // On a refusal nothing is written.

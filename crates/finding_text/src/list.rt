@@ -2,10 +2,8 @@
 ghost use Prim.Native.Nat.{_≤_, _<_};
 use chunk::row::OptionRow;
 use decode::summary::DecodedResult;
-use decode::summary::Warnings;
 use decode::summary::decode_chunk_lua54;
 use format::limits::ResourceLimits;
-use header::OptionWarning;
 use reader::cursor::Cursor;
 use rules::finding::Finding;
 use rules::finding::Rule;
@@ -19,6 +17,7 @@ use validator::search::start;
 use validator::tally::severity;
 use validator::verdict::CountAnswer;
 use validator::verdict::finding_count;
+use validator::verdict::kept_count;
 
 // How many diagnostics stop validation.
 const MOST: u32 = 10000;
@@ -43,30 +42,17 @@ fn from_main(out: &mut Out, used: usize, s: &[u8], limits: ResourceLimits, n: u6
     match decoded {
         DecodedResult::Err(why) => print::refusal(out, used, why),
         DecodedResult::Ok(chunk) => {
-            let warnings = chunk.summary.warnings;
+            let summary = chunk.summary;
             let main = chunk.row;
             match main {
                 OptionRow::None => print::text(out, used, b"no main function\n"),
                 OptionRow::Some(row) => {
-                    let first = start(Cursor { at: row.start }, kept(warnings));
+                    let first = start(Cursor { at: row.start }, kept_count(summary));
                     walk(out, used, s, limits, n, first)
                 }
             }
         }
     }
-}
-
-// How many warnings of reading there are. There is no second one without a first.
-fn kept(warnings: Warnings) -> u64 {
-    let first = warnings.first;
-    let OptionWarning::Some(_) = first else {
-        return 0;
-    };
-    let second = warnings.second;
-    let OptionWarning::Some(_) = second else {
-        return 1;
-    };
-    2
 }
 
 // One walk from a position on. It must end behind n findings.

@@ -109,15 +109,19 @@ module _ (L : ResourceLimits) (s : Bytes) (d : Decoded) (e : decoded.Ok d ≡ sh
   pub rows-shown : (row : FunctionRow) → d .row ≡ option.Some row → chunkRows L s (row .start) ≡ rowsFor (r .functions)
   rows-shown row found = ap (chunkRows L s) (starts row found) ∙ all-rows L s (L .«max_nesting_depth») (limits .0) outermost refl (known .main .at) (known .main .reads)
 
-  pub totals-shown : d .summary .functions < 18446744073709551616 → (row : FunctionRow) → d .row ≡ option.Some row
-      → totals.Ok (tallied (outOf L s MAX-DIAGNOSTICS (startPosition (row .start) (keptCount (d .summary .warnings))))) ≡ shownTotals (read L s)
-  totals-shown few row found =
+  -- and the first position stands for all findings
+  pub all-findings : d .summary .functions < 18446744073709551616 → (row : FunctionRow) → d .row ≡ option.Some row
+      → outOf L s MAX-DIAGNOSTICS (startPosition (row .start) (keptCount (d .summary .warnings))) ≡ chunkFindings r
+  all-findings few row found =
       let begins = starts row found in
       let count : d .summary .functions ≡ length (r .functions) = ap (λ k. k .summary .functions) shows in
       let kept : keptCount (d .summary .warnings) ≡ length (r .warnings) = ap (λ k. keptCount (k .summary .warnings)) shows ∙ kept-all (r .warnings) (known .warnings) in
-      (λ i. totals.Ok (tallied (outOf L s MAX-DIAGNOSTICS (startPosition (begins i) (kept i)))))
-      ∙ ap (λ l. totals.Ok (tallied l)) (whole L s r (known .located) (omega arith) (L .«max_nesting_depth») (limits .0) outermost refl (known .main .at) (known .main .reads))
-      ∙ sym (ap shownTotals was)
+      (λ i. outOf L s MAX-DIAGNOSTICS (startPosition (begins i) (kept i)))
+      ∙ whole L s r (known .located) (omega arith) (L .«max_nesting_depth») (limits .0) outermost refl (known .main .at) (known .main .reads)
+
+  pub totals-shown : d .summary .functions < 18446744073709551616 → (row : FunctionRow) → d .row ≡ option.Some row
+      → totals.Ok (tallied (outOf L s MAX-DIAGNOSTICS (startPosition (row .start) (keptCount (d .summary .warnings))))) ≡ shownTotals (read L s)
+  totals-shown few row found = ap (λ l. totals.Ok (tallied l)) (all-findings few row found) ∙ sym (ap shownTotals was)
 
 -- ## The verdict and the number, of what was counted
 pub verdict-refused : (o : Outcome) (q : Refusal) → totals.Err q ≡ shownTotals o → (verdicts.Err q ≡ shownVerdict o) × (counts.Err q ≡ shownCount o)

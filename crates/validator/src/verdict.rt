@@ -8,7 +8,7 @@ use crate::tally::tally;
 use crate::tally::verdict_of;
 use chunk::row::OptionRow;
 use decode::summary::DecodedResult;
-use decode::summary::Warnings;
+use decode::summary::Summary;
 use decode::summary::decode_chunk_lua54;
 use format::limits::ResourceLimits;
 use format::refusal::Refusal;
@@ -31,28 +31,22 @@ pub enum CountAnswer {
     Err(Refusal),
 }
 
-// How many of a reading's warnings were kept.
-fn kept_count(w: Warnings) -> u64
-    ensures { λ r. ⌜ r ≡ keptCount w ⌝ }
+// How many of a reading's warnings were kept; and that its number of functions is one of 64 bits.
+pub fn kept_count(summary: Summary) -> u64
+    ensures { λ r. ⌜ (r ≡ keptCount (summary .warnings)) × (summary .functions < 18446744073709551616) ⌝ }
 {
-    let second = w.second;
+    let warnings = summary.warnings;
+    let second = warnings.second;
     match second {
         OptionWarning::Some(_) => 2,
         OptionWarning::None => {
-            let first = w.first;
+            let first = warnings.first;
             match first {
                 OptionWarning::Some(_) => 1,
                 OptionWarning::None => 0,
             }
         }
     }
-}
-
-// A number of functions, and that it is one of 64 bits.
-fn number(n: usize) -> usize
-    ensures { λ r. ⌜ (r ≡ n) × (n < 18446744073709551616) ⌝ }
-{
-    n
 }
 
 // All findings of a chunk, counted. The first pass judges, the second searches. Ruled out: dropped warnings that count.
@@ -63,9 +57,8 @@ pub fn chunk_totals(s: &[u8], limits: ResourceLimits) -> TotalsResult
     match decoded {
         DecodedResult::Err(refusal) => TotalsResult::Err(refusal),
         DecodedResult::Ok(chunk) => {
-            let warnings = chunk.summary.warnings;
-            let kept = kept_count(warnings);
-            number(chunk.summary.functions);
+            let summary = chunk.summary;
+            let kept = kept_count(summary);
             let main = chunk.row;
             match main {
                 // Never: a chunk that is read has main.

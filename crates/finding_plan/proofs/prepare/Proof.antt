@@ -1,12 +1,12 @@
--- `finding_plan::prepare` meets its contract: by what the first pass showed (`Started.antt`). Assumes nothing.
+-- `finding_plan::prepare` meets its contract: by what the first pass showed (`Chunk.antt` of validator). Assumes nothing.
 use mathlib.Core.Path.{sym, ap, subst, _∙_}
 use borrow.Author.Needs.{needs}
 use Rattle.format.specs.ReadChunk.{read}
 use Rattle.rules.specs.Findings.{MAX-DIAGNOSTICS}
 use Rattle.validator.specs.Position.{outOf, startPosition}
 use Rattle.finding_plan.specs.Plan.{Planned}
-use Rattle.finding_plan.proofs.Started.{was-refused, was, few-instructions, main-there, all-findings}
-use Rattle.finding_plan.proofs.Planning.{plan-refused, plan-made}
+use Rattle.validator.proofs.Chunk.{was, few-instructions, main-there, all-findings}
+use Rattle.finding_plan.proofs.Planning.{was-refused, plan-refused, plan-made}
 use Rattle.finding_plan.proofs.prepare.Statement.{statement}
 use Rattle.finding_plan.proofs.prepare.Tie as tie
 
