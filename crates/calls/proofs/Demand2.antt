@@ -106,6 +106,11 @@ use Rattle.validator.proofs.verdict.finding_count.Met as finding-count-theorem
 use Rattle.findings.proofs.validate_chunk_lua54 as validate-chunk-lua54-call
 use Rattle.findings.proofs.validate_chunk_lua54.Statement as validate-chunk-lua54-statement
 use Rattle.findings.proofs.validate_chunk_lua54.Met as validate-chunk-lua54-theorem
+use Rattle.finding_array.specs.declared.Listed.{Listed}
+use Rattle.finding_array.specs.Blank.{LONGEST, blankList}
+use Rattle.finding_array.proofs.chunk_findings as chunk-findings-call
+use Rattle.finding_array.proofs.chunk_findings.Statement as chunk-findings-statement
+use Rattle.finding_array.proofs.chunk_findings.Met as chunk-findings-theorem
 use Rattle.instructions.proofs.instruction.RawInstruction54.decode as decode-call
 use Rattle.instructions.proofs.instruction.RawInstruction54.decode.Statement as decode-statement
 use Rattle.instructions.proofs.instruction.RawInstruction54.decode.Met as decode-theorem
@@ -190,6 +195,10 @@ module _ {M : Type 1} (𝓤 : URA M) (H : Heap 𝓤) (A : Atoms 𝓤) (mem : Mem
       → validate-chunk-lua54-call.clauses 𝓤 H A mem run κs (s, (L, (list, tt))) .ensures tt r end ≡ fact 𝓤 ((r ≡ shownFindings (length (list .now)) (read L (s .now))) × (end .1 .1 .0 .now ≡ findingsWritten (list .now) (read L (s .now))))
   validate-chunk-lua54 κs s L list r end = refl
 
+  pub chunk-findings : (κs : Lfts 1) (s : RefT (List ℕ)) (L : ResourceLimits) (r : Listed) (end : AtExit chunk-findings-call.ended κs)
+      → chunk-findings-call.clauses 𝓤 H A mem run κs (s, (L, tt)) .ensures tt r end ≡ fact 𝓤 ((r .answer ≡ shownFindings LONGEST (read L (s .now))) × (r .list ≡ findingsWritten blankList (read L (s .now))))
+  chunk-findings κs s L r end = refl
+
   -- ## Instruction words. Compared: 4,704 requests on words (crates/vectors).
   pub decode : (κs : Lfts 0) (w : ℕ) (r : RawInstruction54) (end : AtExit decode-call.ended κs)
       → decode-call.clauses 𝓤 H A mem run κs (w, tt) .ensures tt r end ≡ fact 𝓤 (r ≡ decoded w)
@@ -257,6 +266,9 @@ finding-count-met = finding-count-theorem.met
 
 pub validate-chunk-lua54-met : {M : Type 1} → validate-chunk-lua54-statement.statement M
 validate-chunk-lua54-met = validate-chunk-lua54-theorem.met
+
+pub chunk-findings-met : {M : Type 1} → chunk-findings-statement.statement M
+chunk-findings-met = chunk-findings-theorem.met
 
 pub decode-met : {M : Type 1} → decode-statement.statement M
 decode-met = decode-theorem.met
