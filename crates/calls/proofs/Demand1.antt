@@ -1,6 +1,7 @@
 -- Demand 1. Only what 01 lists is refused, and of several conditions the first in 01's order is the one that is reported; lent memory is then as it was.
 -- One theorem for each call: the refusal in its answer is the first of its conditions (Refused.antt), in the order 21, 22, 1 to 20, 23, 24, 25, 26, for words 28, 27.
 -- Each call's contract says that its answer is the definition that stands here on the left. (That every call ends and that nothing wraps is proved with each function.)
+-- (`trailing_bytes` and `string_bytes` show bytes and hold no refusal; `finding_array::chunk_findings` has `findings` with a space of 10,001.)
 --     numbers          each refusal has one of 01's numbers
 --     bytes-first      what the reader refuses is 1 to 20, and no byte behind it matters: a file's refusals come in the order of its bytes
 --     ..-kept          a call that refuses leaves lent memory as it was

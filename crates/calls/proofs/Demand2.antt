@@ -1,7 +1,7 @@
 -- Demand 2. Every call gives what the Rust gives: here call by call the promise, an equation with a definition that mirrors the Rust, and that the code keeps it.
 --     NAME             what the call's contract says of its answer r (and of lent memory), word for word: antt holds the two to be the same
 --     NAME-met         the call meets that contract, for every input (none has a `requires`)
--- That the definitions are the Rust's was compared by running, since it cannot be proved: crates/vectors replays the kept answers of the unchanged Rust. What is compared there is said with each group.
+-- That the definitions are the Rust's was compared by running, since it cannot be proved: crates/vectors replays the kept answers of the unchanged Rust, oracle/findings asks it. What is compared there is said with each group.
 -- Assumes nothing.
 use mathlib.Core.Path.{_≡_, refl}
 use Prim.Native.Nat.{ℕ, _<_}
@@ -106,6 +106,11 @@ use Rattle.validator.proofs.verdict.finding_count.Met as finding-count-theorem
 use Rattle.findings.proofs.validate_chunk_lua54 as validate-chunk-lua54-call
 use Rattle.findings.proofs.validate_chunk_lua54.Statement as validate-chunk-lua54-statement
 use Rattle.findings.proofs.validate_chunk_lua54.Met as validate-chunk-lua54-theorem
+use Rattle.finding_array.specs.declared.Listed.{Listed}
+use Rattle.finding_array.specs.Blank.{LONGEST, blankList}
+use Rattle.finding_array.proofs.chunk_findings as chunk-findings-call
+use Rattle.finding_array.proofs.chunk_findings.Statement as chunk-findings-statement
+use Rattle.finding_array.proofs.chunk_findings.Met as chunk-findings-theorem
 use Rattle.instructions.proofs.instruction.RawInstruction54.decode as decode-call
 use Rattle.instructions.proofs.instruction.RawInstruction54.decode.Statement as decode-statement
 use Rattle.instructions.proofs.instruction.RawInstruction54.decode.Met as decode-theorem
@@ -114,7 +119,7 @@ use Rattle.instructions.proofs.instruction.RawInstruction54.encode.Statement as
 use Rattle.instructions.proofs.instruction.RawInstruction54.encode.Met as encode-theorem
 
 module _ {M : Type 1} (𝓤 : URA M) (H : Heap 𝓤) (A : Atoms 𝓤) (mem : Memory → SProp 𝓤) (run : Routine → Fun 𝓤) where
-  -- ## Chunks. Compared: 5,389 chunks, each with its summary, every field and entry, lines and index (made by `luac`, damaged, and cut at every place).
+  -- ## Chunks. Compared: 5,389 chunks, each with its summary, every field and entry, lines and index (crates/vectors).
   pub chunk-summary : (κs : Lfts 1) (s : RefT (List ℕ)) (L : ResourceLimits) (r : SummaryAnswer) (end : AtExit chunk-summary-call.ended κs)
       → chunk-summary-call.clauses 𝓤 H A mem run κs (s, (L, tt)) .ensures tt r end ≡ fact 𝓤 (r ≡ shownSummary (read L (s .now)))
   chunk-summary κs s L r end = refl
@@ -163,7 +168,7 @@ module _ {M : Type 1} (𝓤 : URA M) (H : Heap 𝓤) (A : Atoms 𝓤) (mem : Mem
       → function-index-call.clauses 𝓤 H A mem run κs (s, (L, (rows, tt))) .ensures tt r end ≡ sep 𝓤 (fact 𝓤 (r ≡ shownIndex (length (rows .now)) (read L (s .now)))) (fact 𝓤 (end .1 .1 .0 .now ≡ indexWritten (rows .now) (read L (s .now))))
   function-index κs s L rows r end = refl
 
-  -- ## Lines. Compared: 906 requests on lines alone, beside those of the chunks above.
+  -- ## Lines. Compared: 906 requests on lines alone (crates/vectors), beside those of the chunks above.
   pub get-line-for-pc : (κs : Lfts 1) (s : RefT (List ℕ)) (L : ResourceLimits) (f : ℕ) (pc : ℕ) (r : LineAnswer) (end : AtExit get-line-for-pc-call.ended κs)
       → get-line-for-pc-call.clauses 𝓤 H A mem run κs (s, (L, (f, (pc, tt)))) .ensures tt r end ≡ fact 𝓤 (r ≡ shownLine pc (functionOf f (read L (s .now))))
   get-line-for-pc κs s L f pc r end = refl
@@ -177,7 +182,7 @@ module _ {M : Type 1} (𝓤 : URA M) (H : Heap 𝓤) (A : Atoms 𝓤) (mem : Mem
       → encode-chunk-lua54-call.clauses 𝓤 H A mem run κs (s, (L, (out, tt))) .ensures tt r end ≡ sep 𝓤 (fact 𝓤 (r ≡ shownCopy (length (out .now)) (read L (s .now)))) (fact 𝓤 (end .1 .1 .0 .now ≡ copyWritten (out .now) (read L (s .now))))
   encode-chunk-lua54 κs s L out r end = refl
 
-  -- ## Validation: the verdict, the number of findings, and the findings in a lent list.
+  -- ## Validation: the verdict, the number of findings, and the findings in a lent list. Compared: 5,532 chunks (oracle/findings).
   pub chunk-verdict : (κs : Lfts 1) (s : RefT (List ℕ)) (L : ResourceLimits) (r : VerdictAnswer) (end : AtExit chunk-verdict-call.ended κs)
       → chunk-verdict-call.clauses 𝓤 H A mem run κs (s, (L, tt)) .ensures tt r end ≡ fact 𝓤 (r ≡ shownVerdict (read L (s .now)))
   chunk-verdict κs s L r end = refl
@@ -190,7 +195,11 @@ module _ {M : Type 1} (𝓤 : URA M) (H : Heap 𝓤) (A : Atoms 𝓤) (mem : Mem
       → validate-chunk-lua54-call.clauses 𝓤 H A mem run κs (s, (L, (list, tt))) .ensures tt r end ≡ fact 𝓤 ((r ≡ shownFindings (length (list .now)) (read L (s .now))) × (end .1 .1 .0 .now ≡ findingsWritten (list .now) (read L (s .now))))
   validate-chunk-lua54 κs s L list r end = refl
 
-  -- ## Instruction words. Compared: 4,704 words, decoded, and encoded with fields in and out of range.
+  pub chunk-findings : (κs : Lfts 1) (s : RefT (List ℕ)) (L : ResourceLimits) (r : Listed) (end : AtExit chunk-findings-call.ended κs)
+      → chunk-findings-call.clauses 𝓤 H A mem run κs (s, (L, tt)) .ensures tt r end ≡ fact 𝓤 ((r .answer ≡ shownFindings LONGEST (read L (s .now))) × (r .list ≡ findingsWritten blankList (read L (s .now))))
+  chunk-findings κs s L r end = refl
+
+  -- ## Instruction words. Compared: 4,704 requests on words (crates/vectors).
   pub decode : (κs : Lfts 0) (w : ℕ) (r : RawInstruction54) (end : AtExit decode-call.ended κs)
       → decode-call.clauses 𝓤 H A mem run κs (w, tt) .ensures tt r end ≡ fact 𝓤 (r ≡ decoded w)
   decode κs w r end = refl
@@ -257,6 +266,9 @@ finding-count-met = finding-count-theorem.met
 
 pub validate-chunk-lua54-met : {M : Type 1} → validate-chunk-lua54-statement.statement M
 validate-chunk-lua54-met = validate-chunk-lua54-theorem.met
+
+pub chunk-findings-met : {M : Type 1} → chunk-findings-statement.statement M
+chunk-findings-met = chunk-findings-theorem.met
 
 pub decode-met : {M : Type 1} → decode-statement.statement M
 decode-met = decode-theorem.met
