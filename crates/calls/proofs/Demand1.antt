@@ -34,10 +34,10 @@ use Rattle.index.specs.Index.{index, shownIndex, indexWritten}
 use Rattle.lines.specs.declared.line.LineAnswer.the-variants as line-answer
 use Rattle.lines.specs.Lines.{large, shownLine}
 use Rattle.copy.specs.Copied.{shownLength, shownCopy, copyWritten}
-use Rattle.lafzimdo.specs.Summaries.{shownSummary}
-use Rattle.lafzimdo.specs.Fields.{shownFields}
-use Rattle.lafzimdo.specs.Entries.{shownWord, shownConstant, shownUpvalue, shownDelta, shownAnchor, shownName}
-use Rattle.lafzimdo.specs.Locals.{shownLocal, nameWritten}
+use Rattle.show_chunk.specs.Summaries.{shownSummary}
+use Rattle.show_chunk.specs.Fields.{shownFields}
+use Rattle.show_entry.specs.Entries.{shownWord, shownConstant, shownUpvalue, shownDelta, shownAnchor, shownName}
+use Rattle.show_local.specs.Locals.{shownLocal, nameWritten}
 use Rattle.rules.specs.declared.finding.Finding.{Finding}
 use Rattle.rules.specs.Findings.{chunkFindings}
 use Rattle.validator.specs.Answers.{shownVerdict, shownCount}

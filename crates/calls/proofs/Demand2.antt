@@ -25,19 +25,19 @@ use Rattle.index.specs.declared.IndexAnswer.{IndexAnswer}
 use Rattle.index.specs.Index.{shownIndex, indexWritten}
 use Rattle.lines.specs.declared.line.LineAnswer.{LineAnswer}
 use Rattle.lines.specs.Lines.{shownLine}
-use Rattle.lafzimdo.specs.declared.summary.SummaryAnswer.{SummaryAnswer}
-use Rattle.lafzimdo.specs.declared.fields.FieldsAnswer.{FieldsAnswer}
-use Rattle.lafzimdo.specs.declared.entry.WordAnswer.{WordAnswer}
-use Rattle.lafzimdo.specs.declared.entry.ConstantAnswer.{ConstantAnswer}
-use Rattle.lafzimdo.specs.declared.entry.UpvalueAnswer.{UpvalueAnswer}
-use Rattle.lafzimdo.specs.declared.entry.DeltaAnswer.{DeltaAnswer}
-use Rattle.lafzimdo.specs.declared.entry.AnchorAnswer.{AnchorAnswer}
-use Rattle.lafzimdo.specs.declared.entry.NameAnswer.{NameAnswer}
-use Rattle.lafzimdo.specs.declared.local.LocalAnswer.{LocalAnswer}
-use Rattle.lafzimdo.specs.Summaries.{shownSummary, trailingOf}
-use Rattle.lafzimdo.specs.Fields.{shownFields}
-use Rattle.lafzimdo.specs.Entries.{shownWord, shownConstant, shownUpvalue, shownDelta, shownAnchor, shownName}
-use Rattle.lafzimdo.specs.Locals.{shownLocal, nameWritten}
+use Rattle.show_chunk.specs.declared.summary.SummaryAnswer.{SummaryAnswer}
+use Rattle.show_chunk.specs.declared.fields.FieldsAnswer.{FieldsAnswer}
+use Rattle.show_entry.specs.declared.WordAnswer.{WordAnswer}
+use Rattle.show_entry.specs.declared.ConstantAnswer.{ConstantAnswer}
+use Rattle.show_entry.specs.declared.UpvalueAnswer.{UpvalueAnswer}
+use Rattle.show_entry.specs.declared.DeltaAnswer.{DeltaAnswer}
+use Rattle.show_entry.specs.declared.AnchorAnswer.{AnchorAnswer}
+use Rattle.show_entry.specs.declared.NameAnswer.{NameAnswer}
+use Rattle.show_local.specs.declared.LocalAnswer.{LocalAnswer}
+use Rattle.show_chunk.specs.Summaries.{shownSummary, trailingOf}
+use Rattle.show_chunk.specs.Fields.{shownFields}
+use Rattle.show_entry.specs.Entries.{shownWord, shownConstant, shownUpvalue, shownDelta, shownAnchor, shownName}
+use Rattle.show_local.specs.Locals.{shownLocal, nameWritten}
 use Rattle.copy.specs.declared.whole.CopyAnswer.{CopyAnswer}
 use Rattle.copy.specs.Copied.{shownLength, shownCopy, copyWritten}
 use Rattle.rules.specs.declared.finding.Finding.{Finding}
@@ -52,45 +52,45 @@ use Rattle.finding_plan.specs.Listed.{shownFindings, findingsWritten}
 use Rattle.instructions.specs.declared.instruction.RawInstruction54.{RawInstruction54}
 use Rattle.instructions.specs.declared.instruction.Encoded.{Encoded}
 use Rattle.instructions.specs.Word.{decoded, encoded}
-use Rattle.lafzimdo.proofs.summary.chunk_summary as chunk-summary-call
-use Rattle.lafzimdo.proofs.summary.chunk_summary.Statement as chunk-summary-statement
-use Rattle.lafzimdo.proofs.summary.chunk_summary.Met as chunk-summary-theorem
-use Rattle.lafzimdo.proofs.bytes.trailing_bytes as trailing-bytes-call
-use Rattle.lafzimdo.proofs.bytes.trailing_bytes.Statement as trailing-bytes-statement
-use Rattle.lafzimdo.proofs.bytes.trailing_bytes.Met as trailing-bytes-theorem
-use Rattle.lafzimdo.proofs.bytes.string_bytes as string-bytes-call
-use Rattle.lafzimdo.proofs.bytes.string_bytes.Statement as string-bytes-statement
-use Rattle.lafzimdo.proofs.bytes.string_bytes.Met as string-bytes-theorem
-use Rattle.lafzimdo.proofs.fields.function_fields as function-fields-call
-use Rattle.lafzimdo.proofs.fields.function_fields.Statement as function-fields-statement
-use Rattle.lafzimdo.proofs.fields.function_fields.Met as function-fields-theorem
-use Rattle.lafzimdo.proofs.entry.instruction as instruction-call
-use Rattle.lafzimdo.proofs.entry.instruction.Statement as instruction-statement
-use Rattle.lafzimdo.proofs.entry.instruction.Met as instruction-theorem
-use Rattle.lafzimdo.proofs.entry.constant as constant-call
-use Rattle.lafzimdo.proofs.entry.constant.Statement as constant-statement
-use Rattle.lafzimdo.proofs.entry.constant.Met as constant-theorem
-use Rattle.lafzimdo.proofs.entry.upvalue as upvalue-call
-use Rattle.lafzimdo.proofs.entry.upvalue.Statement as upvalue-statement
-use Rattle.lafzimdo.proofs.entry.upvalue.Met as upvalue-theorem
-use Rattle.lafzimdo.proofs.entry.delta as delta-call
-use Rattle.lafzimdo.proofs.entry.delta.Statement as delta-statement
-use Rattle.lafzimdo.proofs.entry.delta.Met as delta-theorem
-use Rattle.lafzimdo.proofs.entry.anchor as anchor-call
-use Rattle.lafzimdo.proofs.entry.anchor.Statement as anchor-statement
-use Rattle.lafzimdo.proofs.entry.anchor.Met as anchor-theorem
-use Rattle.lafzimdo.proofs.entry.upvalue_name as upvalue-name-call
-use Rattle.lafzimdo.proofs.entry.upvalue_name.Statement as upvalue-name-statement
-use Rattle.lafzimdo.proofs.entry.upvalue_name.Met as upvalue-name-theorem
-use Rattle.lafzimdo.proofs.local.local as local-call
-use Rattle.lafzimdo.proofs.local.local.Statement as local-statement
-use Rattle.lafzimdo.proofs.local.local.Met as local-theorem
-use Rattle.lafzimdo.proofs.rows.function_index as function-index-call
-use Rattle.lafzimdo.proofs.rows.function_index.Statement as function-index-statement
-use Rattle.lafzimdo.proofs.rows.function_index.Met as function-index-theorem
-use Rattle.lafzimdo.proofs.line.get_line_for_pc as get-line-for-pc-call
-use Rattle.lafzimdo.proofs.line.get_line_for_pc.Statement as get-line-for-pc-statement
-use Rattle.lafzimdo.proofs.line.get_line_for_pc.Met as get-line-for-pc-theorem
+use Rattle.show_chunk.proofs.summary.chunk_summary as chunk-summary-call
+use Rattle.show_chunk.proofs.summary.chunk_summary.Statement as chunk-summary-statement
+use Rattle.show_chunk.proofs.summary.chunk_summary.Met as chunk-summary-theorem
+use Rattle.show_chunk.proofs.bytes.trailing_bytes as trailing-bytes-call
+use Rattle.show_chunk.proofs.bytes.trailing_bytes.Statement as trailing-bytes-statement
+use Rattle.show_chunk.proofs.bytes.trailing_bytes.Met as trailing-bytes-theorem
+use Rattle.show_chunk.proofs.bytes.string_bytes as string-bytes-call
+use Rattle.show_chunk.proofs.bytes.string_bytes.Statement as string-bytes-statement
+use Rattle.show_chunk.proofs.bytes.string_bytes.Met as string-bytes-theorem
+use Rattle.show_chunk.proofs.fields.function_fields as function-fields-call
+use Rattle.show_chunk.proofs.fields.function_fields.Statement as function-fields-statement
+use Rattle.show_chunk.proofs.fields.function_fields.Met as function-fields-theorem
+use Rattle.show_entry.proofs.instruction as instruction-call
+use Rattle.show_entry.proofs.instruction.Statement as instruction-statement
+use Rattle.show_entry.proofs.instruction.Met as instruction-theorem
+use Rattle.show_entry.proofs.constant as constant-call
+use Rattle.show_entry.proofs.constant.Statement as constant-statement
+use Rattle.show_entry.proofs.constant.Met as constant-theorem
+use Rattle.show_entry.proofs.upvalue as upvalue-call
+use Rattle.show_entry.proofs.upvalue.Statement as upvalue-statement
+use Rattle.show_entry.proofs.upvalue.Met as upvalue-theorem
+use Rattle.show_entry.proofs.delta as delta-call
+use Rattle.show_entry.proofs.delta.Statement as delta-statement
+use Rattle.show_entry.proofs.delta.Met as delta-theorem
+use Rattle.show_entry.proofs.anchor as anchor-call
+use Rattle.show_entry.proofs.anchor.Statement as anchor-statement
+use Rattle.show_entry.proofs.anchor.Met as anchor-theorem
+use Rattle.show_entry.proofs.upvalue_name as upvalue-name-call
+use Rattle.show_entry.proofs.upvalue_name.Statement as upvalue-name-statement
+use Rattle.show_entry.proofs.upvalue_name.Met as upvalue-name-theorem
+use Rattle.show_local.proofs.local as local-call
+use Rattle.show_local.proofs.local.Statement as local-statement
+use Rattle.show_local.proofs.local.Met as local-theorem
+use Rattle.index.proofs.function_index as function-index-call
+use Rattle.index.proofs.function_index.Statement as function-index-statement
+use Rattle.index.proofs.function_index.Met as function-index-theorem
+use Rattle.lines.proofs.line.get_line_for_pc as get-line-for-pc-call
+use Rattle.lines.proofs.line.get_line_for_pc.Statement as get-line-for-pc-statement
+use Rattle.lines.proofs.line.get_line_for_pc.Met as get-line-for-pc-theorem
 use Rattle.copy.proofs.copy_length as copy-length-call
 use Rattle.copy.proofs.copy_length.Statement as copy-length-statement
 use Rattle.copy.proofs.copy_length.Met as copy-length-theorem

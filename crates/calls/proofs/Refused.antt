@@ -32,24 +32,24 @@ use Rattle.lines.specs.declared.line.LineAnswer.{LineAnswer}
 use Rattle.lines.specs.declared.line.LineAnswer.the-variants as line
 use Rattle.copy.specs.declared.whole.CopyAnswer.{CopyAnswer}
 use Rattle.copy.specs.declared.whole.CopyAnswer.the-variants as copy
-use Rattle.lafzimdo.specs.declared.summary.SummaryAnswer.{SummaryAnswer}
-use Rattle.lafzimdo.specs.declared.summary.SummaryAnswer.the-variants as summary
-use Rattle.lafzimdo.specs.declared.fields.FieldsAnswer.{FieldsAnswer}
-use Rattle.lafzimdo.specs.declared.fields.FieldsAnswer.the-variants as fields
-use Rattle.lafzimdo.specs.declared.entry.WordAnswer.{WordAnswer}
-use Rattle.lafzimdo.specs.declared.entry.WordAnswer.the-variants as word
-use Rattle.lafzimdo.specs.declared.entry.ConstantAnswer.{ConstantAnswer}
-use Rattle.lafzimdo.specs.declared.entry.ConstantAnswer.the-variants as constant
-use Rattle.lafzimdo.specs.declared.entry.UpvalueAnswer.{UpvalueAnswer}
-use Rattle.lafzimdo.specs.declared.entry.UpvalueAnswer.the-variants as upvalue
-use Rattle.lafzimdo.specs.declared.entry.DeltaAnswer.{DeltaAnswer}
-use Rattle.lafzimdo.specs.declared.entry.DeltaAnswer.the-variants as delta
-use Rattle.lafzimdo.specs.declared.entry.AnchorAnswer.{AnchorAnswer}
-use Rattle.lafzimdo.specs.declared.entry.AnchorAnswer.the-variants as anchor
-use Rattle.lafzimdo.specs.declared.entry.NameAnswer.{NameAnswer}
-use Rattle.lafzimdo.specs.declared.entry.NameAnswer.the-variants as name
-use Rattle.lafzimdo.specs.declared.local.LocalAnswer.{LocalAnswer}
-use Rattle.lafzimdo.specs.declared.local.LocalAnswer.the-variants as local
+use Rattle.show_chunk.specs.declared.summary.SummaryAnswer.{SummaryAnswer}
+use Rattle.show_chunk.specs.declared.summary.SummaryAnswer.the-variants as summary
+use Rattle.show_chunk.specs.declared.fields.FieldsAnswer.{FieldsAnswer}
+use Rattle.show_chunk.specs.declared.fields.FieldsAnswer.the-variants as fields
+use Rattle.show_entry.specs.declared.WordAnswer.{WordAnswer}
+use Rattle.show_entry.specs.declared.WordAnswer.the-variants as word
+use Rattle.show_entry.specs.declared.ConstantAnswer.{ConstantAnswer}
+use Rattle.show_entry.specs.declared.ConstantAnswer.the-variants as constant
+use Rattle.show_entry.specs.declared.UpvalueAnswer.{UpvalueAnswer}
+use Rattle.show_entry.specs.declared.UpvalueAnswer.the-variants as upvalue
+use Rattle.show_entry.specs.declared.DeltaAnswer.{DeltaAnswer}
+use Rattle.show_entry.specs.declared.DeltaAnswer.the-variants as delta
+use Rattle.show_entry.specs.declared.AnchorAnswer.{AnchorAnswer}
+use Rattle.show_entry.specs.declared.AnchorAnswer.the-variants as anchor
+use Rattle.show_entry.specs.declared.NameAnswer.{NameAnswer}
+use Rattle.show_entry.specs.declared.NameAnswer.the-variants as name
+use Rattle.show_local.specs.declared.LocalAnswer.{LocalAnswer}
+use Rattle.show_local.specs.declared.LocalAnswer.the-variants as local
 use Rattle.validator.specs.declared.verdict.VerdictAnswer.{VerdictAnswer}
 use Rattle.validator.specs.declared.verdict.VerdictAnswer.the-variants as verdict
 use Rattle.validator.specs.declared.verdict.CountAnswer.{CountAnswer}

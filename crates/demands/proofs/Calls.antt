@@ -1,4 +1,4 @@
--- What the exported calls show of a chunk that belongs to the grammar: each shows its part of the reading. The calls' contracts (crates/lafzimdo/src) say that
+-- What the exported calls show of a chunk that belongs to the grammar: each shows its part of the reading. The calls' contracts (README, The calls) say that
 --     chunk_summary       answers    shownSummary (read L s)
 --     trailing_bytes      shows      trailingOf (read L s)
 --     string_bytes        shows      take len (drop place s)
@@ -33,13 +33,13 @@ use Rattle.index.specs.Index.{index, shownIndex, indexWritten}
 use Rattle.index.specs.declared.IndexAnswer.the-variants as index-answer
 use Rattle.copy.specs.Copied.{shownLength, shownCopy, copyWritten}
 use Rattle.copy.specs.declared.whole.CopyAnswer.the-variants as copy-answer
-use Rattle.lafzimdo.specs.declared.summary.SummaryAnswer.the-variants as summary-answer
-use Rattle.lafzimdo.specs.declared.fields.FieldsAnswer.the-variants as fields-answer
-use Rattle.lafzimdo.specs.declared.local.LocalAnswer.the-variants as local-answer
+use Rattle.show_chunk.specs.declared.summary.SummaryAnswer.the-variants as summary-answer
+use Rattle.show_chunk.specs.declared.fields.FieldsAnswer.the-variants as fields-answer
+use Rattle.show_local.specs.declared.LocalAnswer.the-variants as local-answer
 use Rattle.access.specs.Asked.{found, refused, orRefuse, functionOf, entryOf, entryIn}
-use Rattle.lafzimdo.specs.Summaries.{summaryOf, shownSummary, trailingOf}
-use Rattle.lafzimdo.specs.Fields.{fieldsOf, shownFields}
-use Rattle.lafzimdo.specs.Locals.{shownLocal, nameWritten}
+use Rattle.show_chunk.specs.Summaries.{summaryOf, shownSummary, trailingOf}
+use Rattle.show_chunk.specs.Fields.{fieldsOf, shownFields}
+use Rattle.show_local.specs.Locals.{shownLocal, nameWritten}
 use Rattle.access.proofs.Whole.{all-nth, whole}
 
 -- ## What is shown of a function

@@ -3,7 +3,7 @@
 -- and two scripts have equal copies exactly when their readings are equal so.
 --
 -- The grammar is `Chunk` (crates/format/specs/GrammarChunk.antt, which names no reader), the reader `read` (specs/ReadChunk.antt), the copy `copy` and what it keeps
--- `kept` (specs/Copy.antt). Each part is stated of these definitions and of what the exported calls do, whose contracts (crates/lafzimdo/src) are equations with `read`:
+-- `kept` (specs/Copy.antt). Each part is stated of these definitions and of what the exported calls do, whose contracts are equations with `read`:
 --     1  read-exactly                     summary-exactly: `chunk_summary` answers with a summary
 --     2  shown-is-the-reading             of the calls: the summary, the fields, every entry, the index and the copy are the reading's (`Shows`, `Calls.antt`)
 --        refused-by-all                   of the calls: where one refuses the chunk, all do, and lent memory stays as it was (`Refuses`)
@@ -35,8 +35,8 @@ use Rattle.format.proofs.CopyChunk.{copy-belongs, copy-same}
 use Rattle.format.proofs.CopyChunk as copies
 use Rattle.format.proofs.ReadChunkLaws.{read-sound, read-within, read-complete, chunk-unique}
 use Rattle.decode.specs.declared.summary.Summary.{Summary}
-use Rattle.lafzimdo.specs.declared.summary.SummaryAnswer.the-variants as summary-answer
-use Rattle.lafzimdo.specs.Summaries.{shownSummary}
+use Rattle.show_chunk.specs.declared.summary.SummaryAnswer.the-variants as summary-answer
+use Rattle.show_chunk.specs.Summaries.{shownSummary}
 use Rattle.demands.proofs.Calls.{Shows, shows, Refuses, refuses}
 use Rattle.demands.proofs.Written.{Writes, by-reading, writes}
 

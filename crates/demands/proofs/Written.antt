@@ -1,4 +1,4 @@
--- What the copying call writes: at the front of the lent space as many bytes as it answers. By its contract (crates/lafzimdo/src/archive.rt) the answer is
+-- What the copying call writes: at the front of the lent space as many bytes as it answers. By its contract (crates/copy/src/lib.rt) the answer is
 -- `shownCopy (length old) (read L chunk)`, and `copyWritten old (read L chunk)` is then in the space that held `old`.
 --     Writes L chunk old b     the call on the chunk under L answers a length, and so many bytes at the front are then b
 --     by-reading               these bytes are the copy of the chunk's reading

@@ -4,17 +4,16 @@ use crate::Name;
 use crate::strings;
 use access::place::EntryKind as Kind;
 use format::limits::ResourceLimits;
-use lafzimdo::entry;
-use lafzimdo::entry::AnchorAnswer;
-use lafzimdo::entry::ConstantAnswer;
-use lafzimdo::entry::DeltaAnswer;
-use lafzimdo::entry::NameAnswer;
-use lafzimdo::entry::UpvalueAnswer;
-use lafzimdo::entry::WordAnswer;
-use lafzimdo::fields::Counts;
-use lafzimdo::local::LocalAnswer;
-use lafzimdo::local::local;
 use lists::constant::ConstantValue;
+use show_chunk::fields::Counts;
+use show_entry::AnchorAnswer;
+use show_entry::ConstantAnswer;
+use show_entry::DeltaAnswer;
+use show_entry::NameAnswer;
+use show_entry::UpvalueAnswer;
+use show_entry::WordAnswer;
+use show_local::LocalAnswer;
+use show_local::local;
 use text::print;
 use text::print::Out;
 
@@ -83,16 +82,16 @@ fn line(
     ensures { λ r. ⌜ r < 65536 ⌝ }
 {
     match kind {
-        Kind::Instruction => word(out, used, entry::instruction(s, limits, f, i)),
-        Kind::Constant => constant(out, used, s, entry::constant(s, limits, f, i)),
-        Kind::Upvalue => upvalue(out, used, entry::upvalue(s, limits, f, i)),
-        Kind::Delta => delta(out, used, entry::delta(s, limits, f, i)),
-        Kind::Anchor => anchor(out, used, entry::anchor(s, limits, f, i)),
+        Kind::Instruction => word(out, used, show_entry::instruction(s, limits, f, i)),
+        Kind::Constant => constant(out, used, s, show_entry::constant(s, limits, f, i)),
+        Kind::Upvalue => upvalue(out, used, show_entry::upvalue(s, limits, f, i)),
+        Kind::Delta => delta(out, used, show_entry::delta(s, limits, f, i)),
+        Kind::Anchor => anchor(out, used, show_entry::anchor(s, limits, f, i)),
         Kind::Local => {
             let found = local(s, limits, f, i, name);
             variable(out, used, found, name)
         }
-        Kind::UpvalueName => upvalue_name(out, used, s, entry::upvalue_name(s, limits, f, i)),
+        Kind::UpvalueName => upvalue_name(out, used, s, show_entry::upvalue_name(s, limits, f, i)),
     }
 }
 

@@ -1,8 +1,8 @@
 // Strings of a chunk: `x` and the bytes in hex, and `-` for an absent one.
 ghost use Prim.Native.Nat.{_<_};
-use lafzimdo::bytes::string_bytes;
 use reader::string::OptionString;
 use reader::string::StringAt;
+use show_chunk::bytes::string_bytes;
 use text::print;
 use text::print::Out;
 

@@ -4,11 +4,11 @@ use entry_text::Name;
 use entry_text::items;
 use entry_text::strings;
 use format::limits::ResourceLimits;
-use lafzimdo::fields::Counts;
-use lafzimdo::fields::FieldsAnswer;
-use lafzimdo::fields::FunctionFields;
-use lafzimdo::fields::function_fields;
 use reader::string::OptionString;
+use show_chunk::fields::Counts;
+use show_chunk::fields::FieldsAnswer;
+use show_chunk::fields::FunctionFields;
+use show_chunk::fields::function_fields;
 use text::print;
 use text::print::Out;
 

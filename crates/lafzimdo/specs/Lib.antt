@@ -1,4 +1,2 @@
-pub mod Entries
-pub mod Fields
-pub mod Locals
-pub mod Summaries
+pub mod Numbers
+pub mod Status

@@ -1,11 +1,8 @@
-// The exported calls. Each takes the chunk and the limits, has no `requires`, and says everything about its answer and the memory lent to it, as an equation with
-// the definitions in specs/. Refusals come in 01's order: 21, 22, 1 to 20, 23, 24, 25, 26.
-pub mod archive;
-pub mod bytes;
+// The exported calls behind C: numbers and slices only. Each takes the chunk, the nine limits in the order of `ResourceLimits`, and a lent array for its answer, and returns
+// 0, or a refusal as one number (specs/Status.antt); the array is then as it was. include/lafzimdo.h says what each array holds.
 pub mod entry;
-pub mod fields;
-pub mod line;
-pub mod local;
-pub mod rows;
+pub mod function;
+pub mod status;
+pub mod strings;
 pub mod summary;
-pub mod verdict;
+pub mod whole;

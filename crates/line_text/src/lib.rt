@@ -1,12 +1,12 @@
 // The lines of an answer that show lines: `line FN PC:LINE ..`. Each printer answers how many bytes wait in the buffer then (crate text).
 ghost use Prim.Native.Nat.{_<_};
 use format::limits::ResourceLimits;
-use lafzimdo::fields::Counts;
-use lafzimdo::fields::FieldsAnswer;
-use lafzimdo::fields::function_fields;
-use lafzimdo::line::get_line_for_pc;
 use lines::line::LineAnswer;
+use lines::line::get_line_for_pc;
 use report::report_refusal;
+use show_chunk::fields::Counts;
+use show_chunk::fields::FieldsAnswer;
+use show_chunk::fields::function_fields;
 use text::print;
 use text::print::Out;
 use text::token;

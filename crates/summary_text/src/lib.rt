@@ -6,8 +6,8 @@ use format::header::Header;
 use format::header::WarningCode;
 use format::limits::ResourceLimits;
 use header::OptionWarning;
-use lafzimdo::bytes::trailing_bytes;
 use report::report_warning;
+use show_chunk::bytes::trailing_bytes;
 use text::print;
 use text::print::Out;
 

@@ -1,7 +1,0 @@
--- `lafzimdo::entry::constant_answer` meets its contract: by what was read. Assumes nothing.
-use borrow.Author.Needs.{needs}
-use Rattle.lafzimdo.proofs.entry.constant_answer.Statement.{statement}
-use Rattle.lafzimdo.proofs.entry.constant_answer.Tie as tie
-
-pub constant-answer-spec : {M : Type 1} → statement M
-constant-answer-spec = tie.close (tie.spec (λ c. search needs) (λ c. search needs) (λ c. rw (c .before .read .given .1)) (λ c. rw (c .before .read2 .given .1)))

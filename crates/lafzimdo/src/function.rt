@@ -1,0 +1,89 @@
+// A function's fields, and the line of an instruction.
+ghost use mathlib.Core.Path.{_≡_};
+ghost use Rattle.format.specs.ReadChunk.{read};
+ghost use Rattle.access.specs.Asked.{functionOf};
+ghost use Rattle.show_chunk.specs.Fields.{shownFields};
+ghost use Rattle.lines.specs.Lines.{shownLine};
+ghost use Rattle.lafzimdo.specs.Status.{limitsOf, status, written};
+ghost use Rattle.lafzimdo.specs.Numbers.{fieldsNumbers, ofFields, ofLine};
+use crate::status::limits_of;
+use crate::status::one;
+use crate::status::refused;
+use crate::strings::length_number;
+use crate::strings::place_number;
+use crate::strings::present_number;
+use lines::line::LineAnswer;
+use lines::line::get_line_for_pc;
+use show_chunk::fields::FieldsAnswer;
+use show_chunk::fields::FunctionFields;
+use show_chunk::fields::function_fields;
+
+fn fields_numbers(y: FunctionFields) -> [u64; 18]
+    ensures { λ r. ⌜ r ≡ fieldsNumbers y ⌝ }
+{
+    let source = y.source_name;
+    let counts = y.counts;
+    [
+        y.depth as u64,
+        y.parent as u64,
+        present_number(source),
+        place_number(source),
+        length_number(source),
+        y.line_defined as u64,
+        y.last_line_defined as u64,
+        y.numparams as u64,
+        y.is_vararg as u64,
+        y.maxstacksize as u64,
+        counts.instructions as u64,
+        counts.constants as u64,
+        counts.upvalues as u64,
+        counts.protos as u64,
+        counts.line_info as u64,
+        counts.abs_line_info as u64,
+        counts.loc_vars as u64,
+        counts.upvalue_names as u64,
+    ]
+}
+
+// Ruled out: nested functions that all show main's fields, an array that is touched where the answer is a refusal.
+#[no_mangle]
+pub extern "C" fn lafzimdo_function(
+    chunk: &[u8],
+    limits: &[u64; 9],
+    function: usize,
+    out: &mut [u64; 18],
+) -> u64
+    ensures { λ r. ⌜ r ≡ status (ofFields (shownFields (functionOf function (read (limitsOf (now (limits .entry))) (now (chunk .entry)))))) ⌝ }
+    ensures { λ _. ⌜ now (out .exit) ≡ written (ofFields (shownFields (functionOf function (read (limitsOf (now (limits .entry))) (now (chunk .entry)))))) (now (out .entry)) ⌝ }
+{
+    let answer = function_fields(chunk, limits_of(limits), function);
+    match answer {
+        FieldsAnswer::Err(q) => refused(q),
+        FieldsAnswer::Ok(y) => {
+            *out = fields_numbers(y);
+            0
+        }
+    }
+}
+
+// Ruled out: lines always 0, the delta at the anchor skipped.
+#[no_mangle]
+pub extern "C" fn lafzimdo_line(
+    chunk: &[u8],
+    limits: &[u64; 9],
+    function: usize,
+    pc: usize,
+    out: &mut [u64; 1],
+) -> u64
+    ensures { λ r. ⌜ r ≡ status (ofLine (shownLine pc (functionOf function (read (limitsOf (now (limits .entry))) (now (chunk .entry)))))) ⌝ }
+    ensures { λ _. ⌜ now (out .exit) ≡ written (ofLine (shownLine pc (functionOf function (read (limitsOf (now (limits .entry))) (now (chunk .entry)))))) (now (out .entry)) ⌝ }
+{
+    let answer = get_line_for_pc(chunk, limits_of(limits), function, pc);
+    match answer {
+        LineAnswer::Err(q) => refused(q),
+        LineAnswer::Ok(line) => {
+            *out = one(line as u64);
+            0
+        }
+    }
+}

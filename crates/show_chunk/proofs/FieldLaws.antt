@@ -1,0 +1,22 @@
+-- The fields of a function, of its row.
+-- Assumes nothing.
+use mathlib.Core.Path.{_≡_, ap}
+use Prim.Native.Nat.{ℕ}
+use native.Mathlib.Omega.{arith}
+use Rattle.format.specs.declared.refusal.Refusal.{Refusal}
+use Rattle.format.specs.Reading.{Prototype}
+use Rattle.chunk.specs.declared.row.FunctionRow.{FunctionRow}
+use Rattle.chunk.specs.Row.{rowOf}
+use Rattle.access.specs.declared.row.RowAnswer.the-variants as row
+use Rattle.access.specs.Asked.{Asked, found, refused}
+use Rattle.access.specs.Places.{shownRowAnswer}
+use Rattle.show_chunk.specs.declared.fields.FieldsAnswer.the-variants as fields
+use Rattle.show_chunk.specs.Fields.{fieldsShown, shownFields}
+
+pub fields-refused : (a : Asked Prototype) (q : Refusal) → row.Err q ≡ shownRowAnswer a → fields.Err q ≡ shownFields a
+fields-refused (found p) q e = absurd (let z : _≡_ {A = ℕ} 0 1 = cc in omega arith)
+fields-refused (refused p) q e = cc
+
+pub fields-shown : (a : Asked Prototype) (x : FunctionRow) → row.Ok x ≡ shownRowAnswer a → fields.Ok (fieldsShown x) ≡ shownFields a
+fields-shown (found p) x e = let same : x ≡ rowOf p = cc in ap (λ x. fields.Ok (fieldsShown x)) same
+fields-shown (refused p) x e = absurd (let z : _≡_ {A = ℕ} 0 1 = cc in omega arith)

@@ -1,0 +1,59 @@
+-- What is shown of a function: the fields that 01 lists.
+use Prim.Native.Nat.{ℕ}
+use lib.ListN.{length}
+use Rattle.format.specs.Reading.{Prototype}
+use Rattle.reader.specs.Shown.{optionString}
+use Rattle.chunk.specs.declared.row.FunctionRow.{FunctionRow}
+use Rattle.show_chunk.specs.declared.fields.FunctionFields.{FunctionFields}
+use Rattle.show_chunk.specs.declared.fields.FieldsAnswer.{FieldsAnswer}
+use Rattle.show_chunk.specs.declared.fields.FieldsAnswer.the-variants as fields
+use Rattle.access.specs.Asked.{Asked, found, refused}
+
+abbrev pub fieldsOf : Prototype → FunctionFields
+fieldsOf p = record {
+  depth = p .depth;
+  parent = p .parent;
+  «source_name» = optionString (p .source-name);
+  «line_defined» = p .line-defined;
+  «last_line_defined» = p .last-line-defined;
+  numparams = p .numparams;
+  «is_vararg» = p .is-vararg;
+  maxstacksize = p .maxstacksize;
+  counts = record {
+    instructions = length (p .instructions);
+    constants = length (p .constants);
+    upvalues = length (p .upvalues);
+    protos = p .protos;
+    «line_info» = length (p .line-info);
+    «abs_line_info» = length (p .abs-line-info);
+    «loc_vars» = length (p .loc-vars);
+    «upvalue_names» = length (p .upvalue-names);
+  };
+}
+
+abbrev pub shownFields : Asked Prototype → FieldsAnswer
+shownFields (found p) = fields.Ok (fieldsOf p)
+shownFields (refused q) = fields.Err q
+
+-- ## The same of a row
+abbrev pub fieldsShown : FunctionRow → FunctionFields
+fieldsShown r = record {
+  depth = r .depth;
+  parent = r .parent;
+  «source_name» = r .«source_name»;
+  «line_defined» = r .lines .«line_defined»;
+  «last_line_defined» = r .lines .«last_line_defined»;
+  numparams = r .sizes .numparams;
+  «is_vararg» = r .sizes .«is_vararg»;
+  maxstacksize = r .sizes .maxstacksize;
+  counts = record {
+    instructions = r .lists .instructions .count;
+    constants = r .lists .constants .count;
+    upvalues = r .lists .upvalues .count;
+    protos = r .lists .protos .count;
+    «line_info» = r .lists .«line_info» .count;
+    «abs_line_info» = r .lists .«abs_line_info» .count;
+    «loc_vars» = r .lists .«loc_vars» .count;
+    «upvalue_names» = r .lists .«upvalue_names» .count;
+  };
+}

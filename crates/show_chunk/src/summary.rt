@@ -1,0 +1,29 @@
+// What a chunk shows as a whole.
+ghost use mathlib.Core.Path.{_≡_};
+ghost use Rattle.format.specs.ReadChunk.{read};
+ghost use Rattle.show_chunk.specs.Summaries.{shownSummary};
+use decode::summary::DecodedResult;
+use decode::summary::Summary;
+use decode::summary::decode_chunk_lua54;
+use format::limits::ResourceLimits;
+use format::refusal::Refusal;
+
+pub enum SummaryAnswer {
+    Ok(Summary),
+    Err(Refusal),
+}
+
+// Header fields, warnings, the number of functions, place and length of the trailing bytes.
+// Ruled out: every chunk called cut short, a number of functions that leaves out the nested ones.
+pub fn chunk_summary(s: &[u8], limits: ResourceLimits) -> SummaryAnswer
+    ensures { λ r. ⌜ r ≡ shownSummary (read limits (now (s .entry))) ⌝ }
+{
+    let decoded = decode_chunk_lua54(s, limits, 0);
+    match decoded {
+        DecodedResult::Err(refusal) => SummaryAnswer::Err(refusal),
+        DecodedResult::Ok(chunk) => {
+            let summary = chunk.summary;
+            SummaryAnswer::Ok(summary)
+        }
+    }
+}

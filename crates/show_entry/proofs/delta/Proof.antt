@@ -1,0 +1,27 @@
+-- `show_entry::delta` meets its contract: the entry is read where its list stands (`Found.antt` of access). Assumes nothing.
+use mathlib.Core.Path.{refl, sym, _∙_, ap}
+use borrow.Author.Needs.{needs}
+use lib.ListN.{length}
+use Rattle.format.specs.ReadChunk.{read}
+use Rattle.reader.specs.Shown.{shownU8}
+use Rattle.entries.specs.Nth.{byteAt}
+use Rattle.entries.proofs.Items.{run-nth}
+use Rattle.access.specs.declared.place.EntryKind.the-variants as kind
+use Rattle.show_entry.specs.Entries.{deltaOf, shownDelta}
+use Rattle.access.proofs.Found.{entry-refused, entry-shown}
+use Rattle.show_entry.proofs.delta.Statement.{statement}
+use Rattle.show_entry.proofs.delta.Tie as tie
+
+pub delta-spec : {M : Type 1} → statement M
+delta-spec =
+    tie.close
+    (tie.spec
+    (λ c κs. search needs) (λ c. search needs) (λ c. search needs) (λ c κs. search needs) (λ c κs. search needs)
+    (λ c.
+    let a = c .before .before .before .before .before .args in
+    sym (ap shownDelta (entry-refused (a .limits) (a .s .now) (a .function) (a .entry) kind.Delta (λ p. p .line-info) (λ p. p .places .line-info) (λ p. refl) _ (sym (c .before .found .given .1) ∙ c .before .before .before .entry-list .ensures))))
+    (λ c.
+    let a = c .before .before .before .before .before .before .before .args in
+    c .delta-answer .ensures
+    ∙ ap deltaOf (c .before .delta-at .ensures)
+    ∙ entry-shown (a .limits) (a .s .now) (a .function) (a .entry) kind.Delta (λ p. p .line-info) (λ p. p .places .line-info) (λ p. refl) (byteAt (a .entry)) (λ p l x e. run-nth (length (p .line-info)) (l .line-info) (a .entry) e) (λ o. deltaOf (shownU8 o)) shownDelta (λ x to rest. refl) _ (sym (c .before .before .before .found2 .given .1) ∙ c .before .before .before .before .before .entry-list .ensures)))

@@ -1,0 +1,193 @@
+// One entry of a function, by the function's number and its own.
+ghost use mathlib.Core.Path.{_≡_};
+ghost use mir.Syntax.{w8};
+ghost use mir.Val.{toZ};
+ghost use Rattle.format.specs.ReadChunk.{read};
+ghost use Rattle.access.specs.Asked.{entryOf};
+ghost use Rattle.show_entry.specs.Entries.{shownWord, shownConstant, shownUpvalue, shownDelta, shownAnchor, shownName, wordOf, constantOf, upvalueOf, deltaOf, anchorOf, nameOf};
+use access::place::EntryKind;
+use access::place::PlaceAnswer;
+use access::place::entry_list;
+use entries::code::UpvalueResult;
+use entries::code::constant_at;
+use entries::code::upvalue_at;
+use entries::code::word_at;
+use entries::debug::anchor_at;
+use entries::debug::delta_at;
+use entries::debug::name_at;
+use format::entry::AbsLineInfo;
+use format::entry::UpvalueDesc;
+use format::limits::ResourceLimits;
+use format::refusal::Refusal;
+use lists::constant::ConstantResult;
+use lists::constant::ConstantValue;
+use lists::debug::AnchorResult;
+use reader::field::U8Result;
+use reader::field::U32Result;
+use reader::string::OptionString;
+use reader::string::StringResult;
+
+pub enum WordAnswer {
+    Ok(u32),
+    Err(Refusal),
+}
+
+fn word(read: U32Result) -> WordAnswer
+    ensures { λ r. ⌜ r ≡ wordOf read ⌝ }
+{
+    match read {
+        U32Result::Err(refusal) => WordAnswer::Err(refusal),
+        U32Result::Ok { value, next: _ } => WordAnswer::Ok(value),
+    }
+}
+
+// Ruled out: a word of another function, 24 before 23.
+pub fn instruction(s: &[u8], limits: ResourceLimits, function: usize, entry: usize) -> WordAnswer
+    ensures { λ r. ⌜ r ≡ shownWord (entryOf (λ p. p .instructions) function entry (read limits (now (s .entry)))) ⌝ }
+{
+    let found = entry_list(s, limits, function, EntryKind::Instruction, entry);
+    match found {
+        PlaceAnswer::Err(refusal) => WordAnswer::Err(refusal),
+        PlaceAnswer::Ok(list) => word(word_at(s, list, entry)),
+    }
+}
+
+pub enum ConstantAnswer {
+    Ok(ConstantValue),
+    Err(Refusal),
+}
+
+fn constant_answer(read: ConstantResult) -> ConstantAnswer
+    ensures { λ r. ⌜ r ≡ constantOf read ⌝ }
+{
+    match read {
+        ConstantResult::Err(refusal) => ConstantAnswer::Err(refusal),
+        ConstantResult::Ok { value, next: _ } => ConstantAnswer::Ok(value),
+    }
+}
+
+// Ruled out: the first constant whatever the number, a short string shown as a long one.
+pub fn constant(s: &[u8], limits: ResourceLimits, function: usize, entry: usize) -> ConstantAnswer
+    ensures { λ r. ⌜ r ≡ shownConstant (entryOf (λ p. p .constants) function entry (read limits (now (s .entry)))) ⌝ }
+{
+    let found = entry_list(s, limits, function, EntryKind::Constant, entry);
+    match found {
+        PlaceAnswer::Err(refusal) => ConstantAnswer::Err(refusal),
+        PlaceAnswer::Ok(list) => constant_answer(constant_at(
+            s,
+            list,
+            entry,
+            limits.max_string_bytes,
+        )),
+    }
+}
+
+pub enum UpvalueAnswer {
+    Ok(UpvalueDesc),
+    Err(Refusal),
+}
+
+fn upvalue_answer(read: UpvalueResult) -> UpvalueAnswer
+    ensures { λ r. ⌜ r ≡ upvalueOf read ⌝ }
+{
+    match read {
+        UpvalueResult::Err(refusal) => UpvalueAnswer::Err(refusal),
+        UpvalueResult::Ok { value, next: _ } => UpvalueAnswer::Ok(value),
+    }
+}
+
+// Ruled out: instack and idx exchanged, an upvalue of the parent.
+pub fn upvalue(s: &[u8], limits: ResourceLimits, function: usize, entry: usize) -> UpvalueAnswer
+    ensures { λ r. ⌜ r ≡ shownUpvalue (entryOf (λ p. p .upvalues) function entry (read limits (now (s .entry)))) ⌝ }
+{
+    let found = entry_list(s, limits, function, EntryKind::Upvalue, entry);
+    match found {
+        PlaceAnswer::Err(refusal) => UpvalueAnswer::Err(refusal),
+        PlaceAnswer::Ok(list) => upvalue_answer(upvalue_at(s, list, entry)),
+    }
+}
+
+pub enum DeltaAnswer {
+    Ok(i8),
+    Err(Refusal),
+}
+
+// The signed number of 8 bits.
+fn signed(bits: u8) -> i8
+    ensures { λ r. ⌜ r ≡ toZ w8 bits ⌝ }
+{
+    if bits < 128 {
+        return bits as i8;
+    }
+    -1 - ((255 - bits) as i8)
+}
+
+fn delta_answer(read: U8Result) -> DeltaAnswer
+    ensures { λ r. ⌜ r ≡ deltaOf read ⌝ }
+{
+    match read {
+        U8Result::Err(refusal) => DeltaAnswer::Err(refusal),
+        U8Result::Ok { value, next: _ } => DeltaAnswer::Ok(signed(value)),
+    }
+}
+
+// Ruled out: a byte from 128 up shown as it stands, the delta before.
+pub fn delta(s: &[u8], limits: ResourceLimits, function: usize, entry: usize) -> DeltaAnswer
+    ensures { λ r. ⌜ r ≡ shownDelta (entryOf (λ p. p .line-info) function entry (read limits (now (s .entry)))) ⌝ }
+{
+    let found = entry_list(s, limits, function, EntryKind::Delta, entry);
+    match found {
+        PlaceAnswer::Err(refusal) => DeltaAnswer::Err(refusal),
+        PlaceAnswer::Ok(list) => delta_answer(delta_at(s, list, entry)),
+    }
+}
+
+pub enum AnchorAnswer {
+    Ok(AbsLineInfo),
+    Err(Refusal),
+}
+
+fn anchor_answer(read: AnchorResult) -> AnchorAnswer
+    ensures { λ r. ⌜ r ≡ anchorOf read ⌝ }
+{
+    match read {
+        AnchorResult::Err(refusal) => AnchorAnswer::Err(refusal),
+        AnchorResult::Ok { value, next: _ } => AnchorAnswer::Ok(value),
+    }
+}
+
+// Ruled out: pc and line exchanged, the first anchor whatever the number.
+pub fn anchor(s: &[u8], limits: ResourceLimits, function: usize, entry: usize) -> AnchorAnswer
+    ensures { λ r. ⌜ r ≡ shownAnchor (entryOf (λ p. p .abs-line-info) function entry (read limits (now (s .entry)))) ⌝ }
+{
+    let found = entry_list(s, limits, function, EntryKind::Anchor, entry);
+    match found {
+        PlaceAnswer::Err(refusal) => AnchorAnswer::Err(refusal),
+        PlaceAnswer::Ok(list) => anchor_answer(anchor_at(s, list, entry)),
+    }
+}
+
+pub enum NameAnswer {
+    Ok(OptionString),
+    Err(Refusal),
+}
+
+fn name_answer(read: StringResult) -> NameAnswer
+    ensures { λ r. ⌜ r ≡ nameOf read ⌝ }
+{
+    match read {
+        StringResult::Err(refusal) => NameAnswer::Err(refusal),
+        StringResult::Ok { string, next: _ } => NameAnswer::Ok(string),
+    }
+}
+
+// Ruled out: an absent name shown as an empty one, names beyond the upvalues refused.
+pub fn upvalue_name(s: &[u8], limits: ResourceLimits, function: usize, entry: usize) -> NameAnswer
+    ensures { λ r. ⌜ r ≡ shownName (entryOf (λ p. p .upvalue-names) function entry (read limits (now (s .entry)))) ⌝ }
+{
+    let found = entry_list(s, limits, function, EntryKind::UpvalueName, entry);
+    match found {
+        PlaceAnswer::Err(refusal) => NameAnswer::Err(refusal),
+        PlaceAnswer::Ok(list) => name_answer(name_at(s, list, entry, limits.max_string_bytes)),
+    }
+}
