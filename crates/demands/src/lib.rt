@@ -1,1 +1,1 @@
-// The demands on this library, each stated once. So far demand 3: proofs/Demand3.antt. There is no code here.
+// The demands on this library, each stated once: proofs/Demand1.antt, Demand2.antt, Demand3.antt. There is no code here.

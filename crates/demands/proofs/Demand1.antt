@@ -53,9 +53,9 @@ use Rattle.instructions.specs.declared.instruction.Encoded.{Encoded}
 use Rattle.instructions.specs.declared.instruction.Encoded.the-variants as word
 use Rattle.instructions.specs.Word.{unbiased, withUnbiased, encodedIABx, encodedIAx, byMode, byOpcode, encoded}
 use Rattle.instructions.proofs.Ranges.{inRange, isWord, ranges}
-use Rattle.calls.proofs.InOrder.{ByFile, Refuses, steady-main}
-use Rattle.calls.proofs.Refused.{unless, missing, first, byReader, ofChunk, andThen, noFunction, ofFunction, noEntry, largeLine, ofLocal, longName, tooLong, noOpcode, outOfRange}
-use Rattle.calls.proofs.Refused.{inSummary, inFields, inWord, inConstant, inUpvalue, inDelta, inAnchor, inName, inLocal, inLine, inIndex, inCopy, inVerdict, inCount, inFindings, inEncoded}
+use Rattle.demands.proofs.InOrder.{ByFile, Refuses, steady-main}
+use Rattle.demands.proofs.Refused.{unless, missing, first, byReader, ofChunk, andThen, noFunction, ofFunction, noEntry, largeLine, ofLocal, longName, tooLong, noOpcode, outOfRange}
+use Rattle.demands.proofs.Refused.{inSummary, inFields, inWord, inConstant, inUpvalue, inDelta, inAnchor, inName, inLocal, inLine, inIndex, inCopy, inVerdict, inCount, inFindings, inEncoded}
 
 -- ## Numbers
 -- each refusal has one of 01's numbers (its number and place: `reported`)

@@ -1,4 +1,0 @@
-pub mod InOrder
-pub mod Refused
-pub mod Demand1
-pub mod Demand2
