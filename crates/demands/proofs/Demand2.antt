@@ -182,7 +182,7 @@ module _ {M : Type 1} (𝓤 : URA M) (H : Heap 𝓤) (A : Atoms 𝓤) (mem : Mem
       → encode-chunk-lua54-call.clauses 𝓤 H A mem run κs (s, (L, (out, tt))) .ensures tt r end ≡ sep 𝓤 (fact 𝓤 (r ≡ shownCopy (length (out .now)) (read L (s .now)))) (fact 𝓤 (end .1 .1 .0 .now ≡ copyWritten (out .now) (read L (s .now))))
   encode-chunk-lua54 κs s L out r end = refl
 
-  -- ## Validation: the verdict, the number of findings, and the findings in a lent list. Compared: 5,391 chunks and 31 requests for a verdict alone (crates/vectors); the lent list on 5,532 chunks (oracle/findings).
+  -- ## Validation: the verdict, the number of findings, and the findings in a lent list. Compared: 5,391 chunks and 31 requests for a verdict alone (crates/vectors); the lent list on 5,534 chunks (oracle/findings).
   pub chunk-verdict : (κs : Lfts 1) (s : RefT (List ℕ)) (L : ResourceLimits) (r : VerdictAnswer) (end : AtExit chunk-verdict-call.ended κs)
       → chunk-verdict-call.clauses 𝓤 H A mem run κs (s, (L, tt)) .ensures tt r end ≡ fact 𝓤 (r ≡ shownVerdict (read L (s .now)))
   chunk-verdict κs s L r end = refl
