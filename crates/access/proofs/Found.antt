@@ -18,8 +18,8 @@ use Rattle.format.specs.Reading.{Prototype, Reading}
 use Rattle.format.specs.Read.{Read, ok, Reader}
 use Rattle.format.specs.ReadChunk.{Outcome, shown, refusal, read}
 use Rattle.format.proofs.Located.{Found, Located}
-use Rattle.reader.specs.declared.cursor.Cursor.{Cursor}
-use Rattle.reader.specs.Shown.{cursorAt}
+use Rattle.cursor.specs.declared.Cursor.{Cursor}
+use Rattle.cursor.specs.Shown.{cursorAt}
 use Rattle.chunk.specs.Row.{rowOf, listAt}
 use Rattle.entries.specs.Nth.{nth}
 use Rattle.access.specs.declared.place.EntryKind.{EntryKind}

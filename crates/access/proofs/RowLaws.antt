@@ -13,7 +13,7 @@ use Rattle.format.specs.declared.refusal.Refusal.{Refusal}
 use Rattle.format.specs.declared.refusal.Refusal.the-variants.{NoFunction, NoEntry}
 use Rattle.format.specs.Reading.{Prototype, Reading}
 use Rattle.format.specs.ReadChunk.{Outcome, shown, refusal}
-use Rattle.reader.specs.Shown.{cursorAt}
+use Rattle.cursor.specs.Shown.{cursorAt}
 use Rattle.chunk.specs.declared.row.FunctionRow.{FunctionRow}
 use Rattle.chunk.specs.declared.row.OptionRow.{OptionRow}
 use Rattle.chunk.specs.declared.row.OptionRow.the-variants as option

@@ -4,7 +4,7 @@ use lib.Dec.{ltb}
 use Rattle.format.specs.Pick.{pick}
 use Rattle.format.specs.declared.refusal.Refusal.the-variants.{NoEntry}
 use Rattle.format.specs.Reading.{Prototype}
-use Rattle.reader.specs.Shown.{cursorAt}
+use Rattle.cursor.specs.Shown.{cursorAt}
 use Rattle.chunk.specs.declared.row.FunctionRow.{FunctionRow}
 use Rattle.chunk.specs.declared.row.ListAt.{ListAt}
 use Rattle.chunk.specs.Row.{rowOf}

@@ -7,9 +7,9 @@ use crate::row::RowAnswer;
 use crate::row::function_row;
 use chunk::row::FunctionRow;
 use chunk::row::ListAt;
+use cursor::Cursor;
 use format::limits::ResourceLimits;
 use format::refusal::Refusal;
-use reader::cursor::Cursor;
 
 // The lists of a function that hold entries of their own.
 pub enum EntryKind {

@@ -6,11 +6,11 @@ ghost use Rattle.format.specs.Pick.{pick};
 ghost use Rattle.format.specs.Read.{many};
 ghost use Rattle.format.specs.ReadChunk.{anchor};
 ghost use Rattle.anchors.specs.Scan.{orLarge, stillTaking, resetBy, seekBy, passed, startOf, shownScan};
+use cursor::Cursor;
 use format::entry::AbsLineInfo;
 use format::refusal::Refusal;
 use lists::debug::AnchorResult;
 use lists::debug::read_anchor;
-use reader::cursor::Cursor;
 
 // The anchor that has the pc for its number: how many are before it, or its line.
 pub enum Sought {

@@ -1,4 +1,4 @@
-// The answers to requests on chunks. Each printer answers how many bytes wait in the buffer then (crate text).
+// The answers to requests on chunks. Each printer answers how many bytes wait in the buffer then (crate print).
 pub mod reply;
 pub mod request;
 pub mod rows;

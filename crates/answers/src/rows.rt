@@ -4,8 +4,7 @@ use crate::Rows;
 use entry_text::Name;
 use format::limits::ResourceLimits;
 use function_text::Extent;
-use text::print;
-use text::print::Out;
+use print::Out;
 
 // No more rows than there is room for: the index answers no more.
 pub fn within(n: usize) -> usize

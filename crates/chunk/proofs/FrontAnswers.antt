@@ -11,12 +11,13 @@ use Rattle.format.specs.Read.{Read, ok, refused}
 use Rattle.format.specs.ReadFields.{field, number, string}
 use Rattle.format.proofs.Exact.{Exact, exact-then, exact-give}
 use Rattle.format.proofs.ExactFields.{exact-field, exact-number, exact-string}
-use Rattle.reader.specs.declared.cursor.Cursor.{Cursor}
+use Rattle.cursor.specs.declared.Cursor.{Cursor}
 use Rattle.reader.specs.declared.field.U8Result.the-variants as u8
 use Rattle.reader.specs.declared.field.U64Result.the-variants as u64
 use Rattle.reader.specs.declared.string.OptionString.{OptionString}
 use Rattle.reader.specs.declared.string.StringResult.the-variants as str
-use Rattle.reader.specs.Shown.{cursorAt, shownU8, shownU64, shownString}
+use Rattle.cursor.specs.Shown.{cursorAt}
+use Rattle.reader.specs.Shown.{shownU8, shownU64, shownString}
 use Rattle.reader.proofs.Shows.{Was, onward, u8-err, u64-err, string-err, string-ok}
 use Rattle.chunk.specs.declared.front.Lines.{Lines}
 use Rattle.chunk.specs.declared.front.LinesResult.the-variants as lines-answer

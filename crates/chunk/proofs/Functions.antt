@@ -23,8 +23,9 @@ use Rattle.format.specs.ReadChunk.{forest, function, body}
 use Rattle.format.proofs.Exact.{Exact, exact-then, exact-give, exact-place, exact-atMost}
 use Rattle.format.proofs.ExactFields.{exact-string}
 use Rattle.format.proofs.ExactChunk.{exact-refuse, exact-counted, exact-anchor, exact-local, exact-function, exact-forest}
-use Rattle.reader.specs.declared.cursor.Cursor.{Cursor}
-use Rattle.reader.specs.Shown.{cursorAt, optionString}
+use Rattle.cursor.specs.declared.Cursor.{Cursor}
+use Rattle.cursor.specs.Shown.{cursorAt}
+use Rattle.reader.specs.Shown.{optionString}
 use Rattle.reader.proofs.Shows.{Showed, Was, onward}
 use Rattle.format.proofs.Every.{Every, any, every-then, every-is, every-given, every-many}
 use Rattle.counted.proofs.Within.{Code, LineInfo, ProtosCount, exact-lineInfo, exact-protosCount}

@@ -20,8 +20,8 @@ use Rattle.format.specs.ReadChunk.{counted, countedUpTo, constant, upvalue, anc
 use Rattle.format.proofs.Exact.{Exact, exact-then, exact-give}
 use Rattle.format.proofs.ExactFields.{exact-string}
 use Rattle.format.proofs.ExactChunk.{exact-counted, exact-countedUpTo, exact-constant, exact-upvalue, exact-anchor, exact-local}
-use Rattle.reader.specs.declared.cursor.Cursor.{Cursor}
-use Rattle.reader.specs.Shown.{cursorAt}
+use Rattle.cursor.specs.declared.Cursor.{Cursor}
+use Rattle.cursor.specs.Shown.{cursorAt}
 use Rattle.reader.proofs.Shows.{Showed, onward}
 use Rattle.counted.specs.declared.ListResult.the-variants as list
 use Rattle.lists.specs.Readers.{Count, protosCount, code, lineInfo}

@@ -7,7 +7,7 @@ use Rattle.format.specs.Form.{Bytes, Form}
 use Rattle.format.specs.declared.refusal.Refusal.{Refusal}
 use Rattle.format.specs.Read.{Read, ok, refused, Reader, next}
 use Rattle.format.proofs.Exact.{Exact}
-use Rattle.reader.specs.declared.cursor.Cursor.{Cursor}
+use Rattle.cursor.specs.declared.Cursor.{Cursor}
 use Rattle.reader.specs.declared.field.U8Result.the-variants as u8
 use Rattle.reader.specs.declared.field.U64Result.the-variants as u64
 use Rattle.reader.specs.Shown.{shownU8, shownU64}

@@ -10,7 +10,7 @@ use Rattle.format.specs.declared.refusal.Refusal.the-variants.{NestingDepth, To
 use Rattle.format.specs.Form.{Bytes}
 use Rattle.format.specs.GrammarChunk as grammar
 use Rattle.format.specs.ReadChunk.{forest, function}
-use Rattle.reader.specs.declared.cursor.Cursor.{Cursor}
+use Rattle.cursor.specs.declared.Cursor.{Cursor}
 use Rattle.chunk.specs.declared.row.OptionRow.the-variants as option
 use Rattle.chunk.specs.declared.walk.Where.{Where}
 use Rattle.chunk.specs.declared.walk.Walked.{Walked}

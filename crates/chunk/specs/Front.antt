@@ -4,7 +4,8 @@ use Prim.Native.Nat.{ℕ}
 use Rattle.format.specs.GrammarFields.{LuaString}
 use Rattle.format.specs.Read.{Read, ok, refused, Reader, next, _>>=_, _>>_, give}
 use Rattle.format.specs.ReadFields.{byte, number, string}
-use Rattle.reader.specs.Shown.{cursorAt, optionString}
+use Rattle.cursor.specs.Shown.{cursorAt}
+use Rattle.reader.specs.Shown.{optionString}
 use Rattle.chunk.specs.declared.front.Lines.{Lines}
 use Rattle.chunk.specs.declared.front.LinesResult.{LinesResult}
 use Rattle.chunk.specs.declared.front.LinesResult.the-variants as lines-answer

@@ -3,7 +3,8 @@ use Prim.Native.Nat.{ℕ}
 use lib.ListN.{length}
 use Rattle.format.specs.GrammarChunk.{Listed}
 use Rattle.format.specs.Read.{Read, ok, refused}
-use Rattle.reader.specs.Shown.{cursorAt, optionString}
+use Rattle.cursor.specs.Shown.{cursorAt}
+use Rattle.reader.specs.Shown.{optionString}
 use Rattle.chunk.specs.declared.front.Front as declared-front
 use Rattle.chunk.specs.declared.row.ListAt.{ListAt}
 use Rattle.chunk.specs.declared.parts.HeadLists as declared-lists

@@ -12,8 +12,9 @@ use Rattle.format.specs.GrammarChunk as grammar
 use Rattle.format.specs.GrammarChunk.{instructionsOf}
 use Rattle.format.specs.Read.{Read, ok, refused, Reader, next, _>>=_, _>>_, here, refuse, atMost}
 use Rattle.format.specs.ReadChunk.{function}
-use Rattle.reader.specs.declared.cursor.Cursor.{Cursor}
-use Rattle.reader.specs.Shown.{cursorAt, optionString}
+use Rattle.cursor.specs.declared.Cursor.{Cursor}
+use Rattle.cursor.specs.Shown.{cursorAt}
+use Rattle.reader.specs.Shown.{optionString}
 use Rattle.chunk.specs.declared.walk.Where.{Where}
 use Rattle.chunk.specs.declared.walk.Walked.{Walked}
 use Rattle.chunk.specs.declared.walk.WalkResult.{WalkResult}

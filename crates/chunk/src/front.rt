@@ -2,8 +2,8 @@
 ghost use mathlib.Core.Path.{_≡_};
 ghost use lib.ListN.{drop};
 ghost use Rattle.chunk.specs.Front.{lines, sizes, front, shownLines, shownSizes, shownFront};
+use cursor::Cursor;
 use format::refusal::Refusal;
-use reader::cursor::Cursor;
 use reader::field::U8Result;
 use reader::field::U64Result;
 use reader::field::read_u8;

@@ -16,9 +16,9 @@ use counted::locals_list;
 use counted::names_list;
 use counted::protos_count;
 use counted::upvalues_list;
+use cursor::Cursor;
 use format::limits::ResourceLimits;
 use format::refusal::Refusal;
-use reader::cursor::Cursor;
 
 pub struct HeadLists {
     pub instructions: ListAt,

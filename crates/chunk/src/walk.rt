@@ -17,9 +17,9 @@ use crate::parts::read_tail;
 use crate::row::FunctionRow;
 use crate::row::Lists;
 use crate::row::OptionRow;
+use cursor::Cursor;
 use format::limits::ResourceLimits;
 use format::refusal::Refusal;
-use reader::cursor::Cursor;
 use reader::string::OptionString;
 
 // Where a function stands: its number, the instructions of all functions before it, its depth, its parent's number and source.

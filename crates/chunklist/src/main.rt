@@ -1,8 +1,7 @@
 // Lists the chunk on standard input: a line for it and one for each of its functions, or the refusal (01, 'Calls').
 use libc::STDIN_FILENO;
 use listing::listing;
-use text::print;
-use text::print::Out;
+use print::Out;
 
 // Reads to the end of the input, or until the buffer is full, in whatever pieces it comes.
 fn run(buf: &mut [u8], out: &mut Out) {

@@ -23,7 +23,7 @@ use Rattle.format.specs.ReadHeader.{header}
 use Rattle.format.specs.ReadChunk.{function, main, Outcome, shown, refusal, outcome, read}
 use Rattle.format.specs.Copy.{copy}
 use Rattle.format.proofs.Exact.{never}
-use Rattle.reader.specs.declared.cursor.Cursor.{Cursor}
+use Rattle.cursor.specs.declared.Cursor.{Cursor}
 use Rattle.reader.specs.declared.field.U8Result.the-variants as u8
 use Rattle.reader.specs.Shown.{shownU8}
 use Rattle.header.specs.declared.OptionWarning.{OptionWarning}

@@ -14,6 +14,8 @@ use chunk::row::OptionRow;
 use chunk::walk::WalkResult;
 use copy_walk::walk::copy_function;
 use copy_walk::walk::within;
+use cursor::Cursor;
+use cursor::remaining;
 use decode::outermost;
 use encode::raw::plus;
 use encode::raw::put_byte;
@@ -22,8 +24,6 @@ use format::limits::ResourceLimits;
 use format::refusal::Refusal;
 use header::HeaderResult;
 use header::parse_header_lua54;
-use reader::cursor::Cursor;
-use reader::cursor::remaining;
 use reader::field::U8Result;
 use reader::field::read_u8;
 

@@ -7,7 +7,7 @@ use Rattle.format.specs.declared.refusal.Refusal.{Refusal}
 use Rattle.format.specs.Form.{Bytes}
 use Rattle.format.specs.Read.{Read, ok}
 use Rattle.format.proofs.Exact.{never}
-use Rattle.reader.specs.declared.cursor.Cursor.{Cursor}
+use Rattle.cursor.specs.declared.Cursor.{Cursor}
 use Rattle.chunk.specs.declared.parts.Head as declared-head
 use Rattle.chunk.specs.declared.parts.Tail as declared-tail
 use Rattle.chunk.specs.declared.parts.TailResult.the-variants as tail-answer

@@ -16,10 +16,11 @@ use Rattle.format.specs.ReadChunk.{constant, anchor, local}
 use Rattle.format.specs.Shortest.{shortest}
 use Rattle.format.specs.Copy.{stringBytes, optionBytes, anchorBytes, localBytes, constantBytes}
 use Rattle.format.proofs.Located.{StandsIf, at-string}
-use Rattle.reader.specs.declared.cursor.Cursor.{Cursor}
+use Rattle.cursor.specs.declared.Cursor.{Cursor}
 use Rattle.reader.specs.declared.string.OptionString.{OptionString}
 use Rattle.reader.specs.declared.string.StringResult.the-variants as string-answer
-use Rattle.reader.specs.Shown.{cursorAt, optionString, shownString}
+use Rattle.cursor.specs.Shown.{cursorAt}
+use Rattle.reader.specs.Shown.{optionString, shownString}
 use Rattle.reader.proofs.Shows.{Was, string-err, string-ok}
 use Rattle.lists.specs.declared.constant.ConstantValue as declared
 use Rattle.lists.specs.declared.constant.ConstantResult.the-variants as constant-answer

@@ -5,7 +5,7 @@ use mathlib.Core.Path.{_≡_}
 use Prim.Native.Nat.{ℕ}
 use Rattle.format.specs.Form.{Bytes}
 use Rattle.format.specs.Read.{Read, ok, refused}
-use Rattle.reader.specs.Shown.{cursorAt}
+use Rattle.cursor.specs.Shown.{cursorAt}
 use Rattle.chunk.specs.declared.parts.Head as declared
 use Rattle.chunk.specs.declared.walk.Where.{Where}
 use Rattle.chunk.specs.declared.walk.Walked.{Walked}

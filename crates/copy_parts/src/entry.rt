@@ -7,6 +7,7 @@ ghost use Rattle.format.specs.ReadChunk.{constant, anchor, local};
 ghost use Rattle.format.specs.Copy.{constantBytes, anchorBytes, localBytes, optionBytes};
 ghost use Rattle.encode.specs.Put.{Put, Puts};
 ghost use Rattle.copy_parts.specs.Value.{Stood, valueBytes};
+use cursor::Cursor;
 use encode::number::put_varint;
 use encode::raw::Spot;
 use encode::raw::put_between;
@@ -20,7 +21,6 @@ use lists::debug::AnchorResult;
 use lists::debug::LocalResult;
 use lists::debug::read_anchor;
 use lists::debug::read_local;
-use reader::cursor::Cursor;
 use reader::string::StringResult;
 use reader::string::read_string_lua54;
 

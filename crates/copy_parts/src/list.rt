@@ -11,8 +11,8 @@ use crate::entry::copy_anchor;
 use crate::entry::copy_constant;
 use crate::entry::copy_local;
 use crate::entry::copy_name;
+use cursor::Cursor;
 use encode::number::put_varint;
-use reader::cursor::Cursor;
 
 // The constants. Ruled out: the last one left out, the list without its count.
 pub fn copy_constants(

@@ -1,5 +1,5 @@
 // The line of an answer that shows the archive copy: `copy HEX`. The call is asked with exactly enough room, and besides with one byte less and with more;
-// where one of these answers is not what it must be, the line says so and no copy is shown. Each printer answers how many bytes wait in the buffer then (crate text).
+// where one of these answers is not what it must be, the line says so and no copy is shown. Each printer answers how many bytes wait in the buffer then (crate print).
 ghost use Prim.Native.Nat.{_<_};
 
 pub mod lent;
@@ -7,8 +7,7 @@ pub mod lent;
 use copy::copy_length;
 use copy::whole::CopyAnswer;
 use format::limits::ResourceLimits;
-use text::print;
-use text::print::Out;
+use print::Out;
 
 // Room for two copies. A chunk in a request has at most 524,288 bytes, and a copy is at most a third longer: an absent local name takes one byte more,
 // and a local variable has three bytes at least.

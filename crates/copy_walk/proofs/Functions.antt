@@ -17,8 +17,8 @@ use Rattle.format.specs.Read.{Read, ok, refused, next}
 use Rattle.format.specs.ReadChunk.{function}
 use Rattle.format.specs.Copy.{nest}
 use Rattle.format.proofs.Exact.{never}
-use Rattle.reader.specs.declared.cursor.Cursor.{Cursor}
-use Rattle.reader.specs.Shown.{cursorAt}
+use Rattle.cursor.specs.declared.Cursor.{Cursor}
+use Rattle.cursor.specs.Shown.{cursorAt}
 use Rattle.chunk.specs.declared.parts.Head as declared-head
 use Rattle.chunk.specs.declared.parts.HeadResult.the-variants as head-answer
 use Rattle.chunk.specs.declared.walk.Where.{Where}

@@ -24,10 +24,10 @@ use copy_parts::ends::Copied;
 use copy_parts::ends::copy_end;
 use copy_parts::ends::stopped;
 use copy_parts::parts::put_head;
+use cursor::Cursor;
 use encode::raw::plus;
 use format::limits::ResourceLimits;
 use format::refusal::Refusal;
-use reader::cursor::Cursor;
 
 // The smaller of two numbers.
 pub fn within(n: usize, limit: usize) -> usize

@@ -3,9 +3,9 @@ use Prim.Native.Nat.{ℕ}
 use lib.ListN.{length}
 use Rattle.format.specs.GrammarChunk.{Listed}
 use Rattle.format.specs.Read.{Read, ok, refused}
-use Rattle.reader.specs.declared.cursor.CursorResult.{CursorResult}
-use Rattle.reader.specs.declared.cursor.CursorResult.the-variants as cursor
-use Rattle.reader.specs.Shown.{cursorAt}
+use Rattle.cursor.specs.declared.CursorResult.{CursorResult}
+use Rattle.cursor.specs.declared.CursorResult.the-variants as cursor
+use Rattle.cursor.specs.Shown.{cursorAt}
 use Rattle.lists.specs.Readers.{Count}
 use Rattle.counted.specs.declared.ListResult.{ListResult}
 use Rattle.counted.specs.declared.ListResult.the-variants as list

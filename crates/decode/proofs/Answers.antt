@@ -19,9 +19,10 @@ use Rattle.format.specs.ReadHeader.{header}
 use Rattle.format.specs.ReadChunk.{function, main}
 use Rattle.format.proofs.ExactFields.{exact-field}
 use Rattle.format.proofs.ExactHeader.{exact-header}
-use Rattle.reader.specs.declared.cursor.Cursor.{Cursor}
+use Rattle.cursor.specs.declared.Cursor.{Cursor}
 use Rattle.reader.specs.declared.field.U8Result.the-variants as u8
-use Rattle.reader.specs.Shown.{cursorAt, shownU8}
+use Rattle.cursor.specs.Shown.{cursorAt}
+use Rattle.reader.specs.Shown.{shownU8}
 use Rattle.reader.proofs.Shows.{Was, onward, u8-err, u8-ok}
 use Rattle.header.specs.declared.OptionWarning.{OptionWarning}
 use Rattle.header.specs.declared.HeaderResult.the-variants as header-answer

@@ -3,7 +3,7 @@ use Prim.Native.Nat.{ℕ}
 use lib.ListN.{length}
 use Rattle.format.specs.GrammarChunk as grammar
 use Rattle.format.specs.Read.{Read, ok, refused}
-use Rattle.reader.specs.Shown.{cursorAt}
+use Rattle.cursor.specs.Shown.{cursorAt}
 use Rattle.header.specs.Shown.{firstWarning}
 use Rattle.chunk.specs.Row.{shownRow, lookup}
 use Rattle.decode.specs.declared.Loaded.{Loaded}

@@ -12,12 +12,12 @@ use crate::Loaded;
 use crate::LoadedResult;
 use crate::read_main;
 use chunk::row::OptionRow;
+use cursor::remaining;
 use format::header::Header;
 use format::header::Warning;
 use format::limits::ResourceLimits;
 use format::refusal::Refusal;
 use header::OptionWarning;
-use reader::cursor::remaining;
 
 // The warnings of a reading, in their order: there are at most two.
 pub struct Warnings {

@@ -6,9 +6,9 @@ ghost use lib.ListN.{length, take, drop};
 ghost use Rattle.encode.specs.Put.{Put};
 ghost use Rattle.format.specs.Shortest.{shortest};
 use crate::number::put_varint;
+use cursor::Cursor;
+use cursor::remaining;
 use lent::copy_bytes;
-use reader::cursor::Cursor;
-use reader::cursor::remaining;
 
 // The sum of a place and a length. No copy of a chunk is longer than 2^32, so behind that any answer will do.
 pub fn plus(at: usize, n: usize) -> usize

@@ -9,8 +9,8 @@ ghost use Rattle.encode.specs.Text.{There, spelt, speltName};
 use crate::number::put_varint;
 use crate::raw::put_byte;
 use crate::raw::put_bytes;
-use reader::cursor::Cursor;
-use reader::cursor::remaining;
+use cursor::Cursor;
+use cursor::remaining;
 use reader::string::OptionString;
 use reader::string::StringAt;
 

@@ -1,7 +1,7 @@
 -- What the code shows of an upvalue: it and the cursor behind it, or the refusal.
 use Rattle.format.specs.declared.entry.UpvalueDesc.{UpvalueDesc}
 use Rattle.format.specs.Read.{Read, ok, refused}
-use Rattle.reader.specs.Shown.{cursorAt}
+use Rattle.cursor.specs.Shown.{cursorAt}
 use Rattle.entries.specs.declared.code.UpvalueResult.{UpvalueResult}
 use Rattle.entries.specs.declared.code.UpvalueResult.the-variants as answer
 

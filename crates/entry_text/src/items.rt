@@ -5,6 +5,7 @@ use crate::strings;
 use access::place::EntryKind as Kind;
 use format::limits::ResourceLimits;
 use lists::constant::ConstantValue;
+use print::Out;
 use show_chunk::fields::Counts;
 use show_entry::AnchorAnswer;
 use show_entry::ConstantAnswer;
@@ -14,8 +15,6 @@ use show_entry::UpvalueAnswer;
 use show_entry::WordAnswer;
 use show_local::LocalAnswer;
 use show_local::local;
-use text::print;
-use text::print::Out;
 
 pub fn lines(
     out: &mut Out,

@@ -1,4 +1,4 @@
-// The lines of a function's entries, and strings as an answer spells them. Each printer answers how many bytes wait in the buffer then (crate text).
+// The lines of a function's entries, and strings as an answer spells them. Each printer answers how many bytes wait in the buffer then (crate print).
 pub mod items;
 pub mod strings;
 

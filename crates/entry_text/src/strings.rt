@@ -1,10 +1,9 @@
 // Strings of a chunk: `x` and the bytes in hex, and `-` for an absent one.
 ghost use Prim.Native.Nat.{_<_};
+use print::Out;
 use reader::string::OptionString;
 use reader::string::StringAt;
 use show_chunk::bytes::string_bytes;
-use text::print;
-use text::print::Out;
 
 pub fn bytes(out: &mut Out, used: usize, s: &[u8]) -> usize
     requires { ⌜ used < 65536 ⌝ }

@@ -1,13 +1,12 @@
 // The lines of an answer that show validation: `verdict`, `findings N` and a `finding` for each. The verdict and the number are asked for by themselves, and
-// the list is one walk. Each printer answers how many bytes wait in the buffer then (crate text).
+// the list is one walk. Each printer answers how many bytes wait in the buffer then (crate print).
 ghost use Prim.Native.Nat.{_<_};
 
 pub mod list;
 
 use format::limits::ResourceLimits;
+use print::Out;
 use rules::finding::Verdict;
-use text::print;
-use text::print::Out;
 use validator::verdict::CountAnswer;
 use validator::verdict::VerdictAnswer;
 use validator::verdict::chunk_verdict;

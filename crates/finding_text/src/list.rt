@@ -1,15 +1,14 @@
 // The findings of a chunk, one after the other: `finding FN PC RULE NUMBER error|warning`.
 ghost use Prim.Native.Nat.{_≤_, _<_};
 use chunk::row::OptionRow;
+use cursor::Cursor;
 use decode::summary::DecodedResult;
 use decode::summary::decode_chunk_lua54;
 use format::limits::ResourceLimits;
-use reader::cursor::Cursor;
+use print::Out;
 use rules::finding::Finding;
 use rules::finding::Rule;
 use rules::finding::Severity;
-use text::print;
-use text::print::Out;
 use validator::search::Position;
 use validator::search::State;
 use validator::search::advance;

@@ -1,16 +1,15 @@
-// The lines of a function: its fields, and its entries behind them. Each printer answers how many bytes wait in the buffer then (crate text).
+// The lines of a function: its fields, and its entries behind them. Each printer answers how many bytes wait in the buffer then (crate print).
 ghost use Prim.Native.Nat.{_<_};
 use entry_text::Name;
 use entry_text::items;
 use entry_text::strings;
 use format::limits::ResourceLimits;
+use print::Out;
 use reader::string::OptionString;
 use show_chunk::fields::Counts;
 use show_chunk::fields::FieldsAnswer;
 use show_chunk::fields::FunctionFields;
 use show_chunk::fields::function_fields;
-use text::print;
-use text::print::Out;
 
 // Where a function begins and ends, from the index.
 pub struct Extent {

@@ -18,7 +18,7 @@ use Rattle.format.proofs.Exact.{Exact, exact-then, exact-give}
 use Rattle.format.proofs.ExactChunk.{exact-forest}
 use Rattle.format.proofs.Left.{left}
 use Rattle.counted.proofs.Within.{exact-protosCount, ProtosCount}
-use Rattle.reader.specs.Shown.{cursorAt}
+use Rattle.cursor.specs.Shown.{cursorAt}
 use Rattle.chunk.specs.declared.parts.HeadResult.the-variants as head-answer
 use Rattle.chunk.specs.Parts.{Head, head, Tail, tail, parts, inside, prototypeOf}
 use Rattle.chunk.specs.PartsShown.{headOf, shownHead, shownTail}

@@ -11,10 +11,11 @@ use Rattle.format.specs.GrammarHeader.{Headed, headerOf, formatWarnings}
 use Rattle.format.specs.ReadHeader.{beforeFormat, behindFormat, header}
 use Rattle.format.proofs.ExactFields.{exact-field}
 use Rattle.format.proofs.ExactHeader.{exact-before}
-use Rattle.reader.specs.declared.cursor.Cursor.{Cursor}
-use Rattle.reader.specs.declared.cursor.CursorResult.the-variants as cursor
+use Rattle.cursor.specs.declared.Cursor.{Cursor}
+use Rattle.cursor.specs.declared.CursorResult.the-variants as cursor
 use Rattle.reader.specs.declared.field.U8Result.the-variants as u8
-use Rattle.reader.specs.Shown.{shownCursor, shownU8}
+use Rattle.cursor.specs.Shown.{shownCursor}
+use Rattle.reader.specs.Shown.{shownU8}
 use Rattle.reader.proofs.Shows.{onward, cursor-err, cursor-ok, u8-err, u8-ok}
 use Rattle.header.specs.declared.HeaderResult.the-variants as answer
 use Rattle.header.specs.Shown.{firstWarning, shownHeader}

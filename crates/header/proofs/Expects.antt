@@ -9,9 +9,9 @@ use Rattle.format.specs.Form.{Bytes}
 use Rattle.format.specs.Read.{Read, ok, refused, run, test}
 use Rattle.format.specs.ReadHeader.{sameBytes, expect}
 use Rattle.format.proofs.Steps.{run-was}
-use Rattle.reader.specs.declared.cursor.Cursor.{Cursor}
-use Rattle.reader.specs.declared.cursor.CursorResult.the-variants as cursor
-use Rattle.reader.specs.Shown.{shownCursor}
+use Rattle.cursor.specs.declared.Cursor.{Cursor}
+use Rattle.cursor.specs.declared.CursorResult.the-variants as cursor
+use Rattle.cursor.specs.Shown.{shownCursor}
 use Rattle.reader.proofs.Shows.{cursor-err, cursor-ok}
 
 module _ (s : Bytes) (at : ℕ) (bytes : Bytes) (q : Refusal) where

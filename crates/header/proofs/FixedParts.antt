@@ -12,8 +12,8 @@ use Rattle.format.specs.GrammarHeader.{signature, luacData, luacInt, luacNum}
 use Rattle.format.specs.ReadHeader.{expect, beforeFormat, behindFormat}
 use Rattle.format.proofs.Exact.{Exact, exact-then}
 use Rattle.format.proofs.ExactHeader.{exact-expect}
-use Rattle.reader.specs.declared.cursor.CursorResult.{CursorResult}
-use Rattle.reader.specs.Shown.{andThen, shownCursor}
+use Rattle.cursor.specs.declared.CursorResult.{CursorResult}
+use Rattle.cursor.specs.Shown.{andThen, shownCursor}
 use Rattle.reader.proofs.Shows.{on, regroup}
 
 -- what a call behind another shows

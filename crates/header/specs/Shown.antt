@@ -4,7 +4,7 @@ use Prim.Native.Nat.{ℕ}
 use Rattle.format.specs.declared.header.Warning.{Warning}
 use Rattle.format.specs.GrammarHeader.{Headed}
 use Rattle.format.specs.Read.{Read, ok, refused}
-use Rattle.reader.specs.Shown.{cursorAt}
+use Rattle.cursor.specs.Shown.{cursorAt}
 use Rattle.format.specs.declared.refusal.Refusal.{Refusal}
 use Rattle.format.specs.declared.refusal.Refusal.the-variants as refusal
 use Rattle.header.specs.declared.Fixed.{Fixed}

@@ -4,13 +4,13 @@ ghost use lib.ListN.{length};
 ghost use Rattle.format.specs.ReadChunk as format;
 ghost use Rattle.index.specs.Index.{shownIndex, indexWritten};
 use chunk::row::OptionRow;
+use cursor::Cursor;
 use decode::outermost;
 use decode::summary::DecodedResult;
 use decode::summary::decode_chunk_lua54;
 use format::limits::ResourceLimits;
 use format::refusal::Refusal;
 use index_walk::write_function;
-use reader::cursor::Cursor;
 
 // The number of functions, or why there is no index.
 pub enum IndexAnswer {

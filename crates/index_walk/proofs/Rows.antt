@@ -18,7 +18,7 @@ use Rattle.format.specs.Read.{Read, ok, refused, Reader, next, _>>=_, give}
 use Rattle.format.specs.ReadChunk.{forest, function}
 use Rattle.format.proofs.Exact.{never}
 use Rattle.format.proofs.Left as lefts
-use Rattle.reader.specs.declared.cursor.Cursor.{Cursor}
+use Rattle.cursor.specs.declared.Cursor.{Cursor}
 use Rattle.chunk.specs.declared.parts.Head as declared-head
 use Rattle.chunk.specs.declared.parts.HeadResult.the-variants as head-answer
 use Rattle.chunk.specs.declared.parts.Tail as declared-tail

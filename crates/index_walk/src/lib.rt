@@ -19,10 +19,10 @@ use chunk::walk::finished;
 use chunk::walk::inside;
 use chunk::walk::joined;
 use chunk::walk::row_of;
+use cursor::Cursor;
 use format::limits::ResourceLimits;
 use format::refusal::Refusal;
 use index_row::put_row;
-use reader::cursor::Cursor;
 
 // Reads a function and all that nest in it, as `read_function` does for main's row, and writes the row of each. Ruled out: rows in the order in which functions end, a row left out.
 pub fn write_function(

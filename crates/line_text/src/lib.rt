@@ -1,14 +1,13 @@
-// The lines of an answer that show lines: `line FN PC:LINE ..`. Each printer answers how many bytes wait in the buffer then (crate text).
+// The lines of an answer that show lines: `line FN PC:LINE ..`. Each printer answers how many bytes wait in the buffer then (crate print).
 ghost use Prim.Native.Nat.{_<_};
 use format::limits::ResourceLimits;
 use lines::line::LineAnswer;
 use lines::line::get_line_for_pc;
+use print::Out;
 use report::report_refusal;
 use show_chunk::fields::Counts;
 use show_chunk::fields::FieldsAnswer;
 use show_chunk::fields::function_fields;
-use text::print;
-use text::print::Out;
 use text::token;
 use text::token::NumberAt;
 

@@ -15,9 +15,9 @@ use anchors::ScanResult;
 use anchors::Sought;
 use anchors::scan_anchors;
 use chunk::row::FunctionRow;
+use cursor::Cursor;
 use format::limits::ResourceLimits;
 use format::refusal::Refusal;
-use reader::cursor::Cursor;
 
 pub enum LineAnswer {
     Ok(usize),

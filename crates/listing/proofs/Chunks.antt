@@ -22,7 +22,7 @@ use Rattle.validator.specs.declared.verdict.VerdictAnswer.the-variants as verdi
 use Rattle.rules.specs.Findings.{chunkFindings, verdict}
 use Rattle.validator.specs.Answers.{shownVerdict}
 use Rattle.validator.proofs.Chunk.{r, shows, was, rows-shown}
-use Rattle.text.specs.Output.{Waiting, puts}
+use Rattle.print.specs.Output.{Waiting, puts}
 use Rattle.listing_text.specs.Lines.{firstLine, refusalLine, rowLine}
 use Rattle.listing.specs.Listing.{functionLine, functionLines, chunkLines, listed, linesOf, rowLines}
 use Rattle.listing_text.proofs.Laws.{then}

@@ -2,11 +2,12 @@
 ghost use mathlib.Core.Path.{_≡_};
 ghost use Prim.Native.Nat.{_≤_, _<_};
 ghost use lib.ListN.{length};
-ghost use Rattle.text.specs.Output.{waiting, puts};
+ghost use Rattle.print.specs.Output.{waiting, puts};
 ghost use Rattle.format.specs.ReadChunk.{read};
 ghost use Rattle.functions.specs.Rows.{chunkRows};
 ghost use Rattle.listing.specs.Listing as listings;
 use chunk::row::OptionRow;
+use cursor::Cursor;
 use decode::summary::DecodedResult;
 use decode::summary::decode_chunk_lua54;
 use format::limits::ResourceLimits;
@@ -15,9 +16,8 @@ use functions::next_function;
 use listing_text::first_line;
 use listing_text::function_line;
 use listing_text::refusal_line;
-use reader::cursor::Cursor;
+use print::Out;
 use rules::finding::Verdict;
-use text::print::Out;
 use validator::verdict::VerdictAnswer;
 use validator::verdict::chunk_verdict;
 

@@ -10,7 +10,7 @@ use borrow.Author.Tests.{lt-ltb, le-ltb}
 use lib.ListN.{length, getD, drop, drop-of-length-le}
 use lib.Seq.{drop-cons}
 use Rattle.io.specs.Digits.{glyph, digits, Fewest}
-use Rattle.text.specs.Output.{Waiting, putOf, puts, Digits}
+use Rattle.print.specs.Output.{Waiting, putOf, puts, Digits}
 use Rattle.format.specs.declared.refusal.Refusal.{Refusal}
 use Rattle.format.specs.Refusals.{reported}
 use Rattle.rules.specs.declared.finding.Verdict.{Verdict}

@@ -1,18 +1,17 @@
-// The lines of a listing. Each printer answers how many bytes wait in the buffer then (crate text).
+// The lines of a listing. Each printer answers how many bytes wait in the buffer then (crate print).
 ghost use mathlib.Core.Path.{_≡_};
 ghost use mathlib.Core.List.{_++_};
 ghost use Prim.Native.Nat.{_<_};
 ghost use lib.ListN.{length};
-ghost use Rattle.text.specs.Output.{waiting, puts};
+ghost use Rattle.print.specs.Output.{waiting, puts};
 ghost use Rattle.rules.specs.Findings.{verdictWord};
 ghost use Rattle.listing_text.specs.Lines.{decimal, spaced, rowLine, firstLine, atPlace, refusalLine};
 use format::refusal::Place;
 use format::refusal::Refusal;
 use functions::Row;
+use print::Out;
 use report::report_refusal;
 use rules::finding::Verdict;
-use text::print;
-use text::print::Out;
 
 // A number behind a label.
 fn labelled(out: &mut Out, used: usize, label: &[u8], n: u64) -> usize

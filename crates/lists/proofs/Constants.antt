@@ -15,9 +15,10 @@ use Rattle.format.specs.Read.{Read, ok, refused, Reader, next, _>>=_, give, her
 use Rattle.format.specs.ReadFields.{field}
 use Rattle.format.specs.ReadChunk.{tagged, constant}
 use Rattle.format.proofs.ExactFields.{exact-field}
-use Rattle.reader.specs.declared.cursor.Cursor.{Cursor}
+use Rattle.cursor.specs.declared.Cursor.{Cursor}
 use Rattle.reader.specs.declared.field.U8Result.the-variants as u8
-use Rattle.reader.specs.Shown.{cursorAt, shownU8, shownU64, shownString}
+use Rattle.cursor.specs.Shown.{cursorAt}
+use Rattle.reader.specs.Shown.{shownU8, shownU64, shownString}
 use Rattle.reader.proofs.Shows.{Showed, onward, u8-err, u8-ok}
 use Rattle.lists.specs.declared.constant.ConstantValue as declared
 use Rattle.lists.specs.declared.constant.ConstantResult.{ConstantResult}

@@ -17,11 +17,12 @@ use Rattle.format.specs.ReadFields.{number, string}
 use Rattle.format.specs.ReadChunk.{anchor, local}
 use Rattle.format.proofs.Exact.{Exact, exact-give, exact-here, exact-then}
 use Rattle.format.proofs.ExactFields.{exact-number, exact-string}
-use Rattle.reader.specs.declared.cursor.Cursor.{Cursor}
+use Rattle.cursor.specs.declared.Cursor.{Cursor}
 use Rattle.reader.specs.declared.field.U64Result.the-variants as u64
 use Rattle.reader.specs.declared.string.OptionString.{OptionString}
 use Rattle.reader.specs.declared.string.StringResult.the-variants as string-answer
-use Rattle.reader.specs.Shown.{cursorAt, shownU64, optionString, shownString}
+use Rattle.cursor.specs.Shown.{cursorAt}
+use Rattle.reader.specs.Shown.{shownU64, optionString, shownString}
 use Rattle.reader.proofs.Shows.{Was, Showed, Passed, onward, u64-err, u64-ok, string-err, string-ok}
 use Rattle.lists.specs.declared.debug.AnchorResult.the-variants as anchor-answer
 use Rattle.lists.specs.declared.debug.LocalResult.the-variants as local-answer

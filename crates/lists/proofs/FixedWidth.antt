@@ -11,8 +11,8 @@ use Rattle.format.specs.Read.{Read, ok, refused, Reader, next, _>>=_, give, sho
 use Rattle.format.specs.ReadFields.{field}
 use Rattle.format.specs.ReadChunk.{upvalue}
 use Rattle.format.proofs.Steps.{field-short, field-enough}
-use Rattle.reader.specs.declared.cursor.CursorResult.the-variants as cursor
-use Rattle.reader.specs.Shown.{cursorAt, shownCursor}
+use Rattle.cursor.specs.declared.CursorResult.the-variants as cursor
+use Rattle.cursor.specs.Shown.{cursorAt, shownCursor}
 use Rattle.lists.proofs.Turns.{same-end}
 
 module _ (w : ℕ) where

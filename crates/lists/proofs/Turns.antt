@@ -9,8 +9,8 @@ use Rattle.format.specs.declared.refusal.Refusal.{Refusal}
 use Rattle.format.specs.Form.{Bytes, Form}
 use Rattle.format.specs.Read.{Read, ok, refused, Reader, next, _>>=_, give, many}
 use Rattle.format.proofs.Exact.{Exact}
-use Rattle.reader.specs.declared.cursor.CursorResult.the-variants as cursor
-use Rattle.reader.specs.Shown.{cursorAt, shownCursor}
+use Rattle.cursor.specs.declared.CursorResult.the-variants as cursor
+use Rattle.cursor.specs.Shown.{cursorAt, shownCursor}
 use Rattle.reader.proofs.Shows.{Was, onward}
 
 -- of one item more in front of the list only the end is shown

@@ -14,7 +14,8 @@ use Rattle.reader.specs.declared.string.StringResult.{StringResult}
 use Rattle.reader.specs.declared.string.StringResult.the-variants as string
 use Rattle.reader.specs.declared.field.U64Result.{U64Result}
 use Rattle.reader.specs.declared.field.U64Result.the-variants as u64
-use Rattle.reader.specs.Shown.{cursorAt, optionString}
+use Rattle.cursor.specs.Shown.{cursorAt}
+use Rattle.reader.specs.Shown.{optionString}
 use Rattle.lists.specs.declared.constant.ConstantValue.{ConstantValue}
 use Rattle.lists.specs.declared.constant.ConstantValue.the-variants as constant
 use Rattle.lists.specs.declared.constant.ConstantResult.{ConstantResult}

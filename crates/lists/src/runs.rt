@@ -4,11 +4,11 @@ ghost use lib.ListN.{drop};
 ghost use Rattle.format.specs.Read.{many};
 ghost use Rattle.format.specs.ReadFields.{field};
 ghost use Rattle.format.specs.ReadChunk.{upvalue};
-ghost use Rattle.reader.specs.Shown.{shownCursor};
-use reader::cursor::Cursor;
-use reader::cursor::CursorResult;
-use reader::cursor::remaining;
-use reader::cursor::short;
+ghost use Rattle.cursor.specs.Shown.{shownCursor};
+use cursor::Cursor;
+use cursor::CursorResult;
+use cursor::remaining;
+use cursor::short;
 
 // Passes over n instruction words. Ruled out: one word too few, the place of a missing byte instead of that of its word.
 pub fn skip_words(s: &[u8], cursor: Cursor, n: usize) -> CursorResult

@@ -3,9 +3,9 @@ ghost use mathlib.Core.Path.{_≡_};
 ghost use lib.ListN.{drop};
 ghost use Rattle.format.specs.Read.{many};
 ghost use Rattle.format.specs.ReadFields.{string};
-ghost use Rattle.reader.specs.Shown.{shownCursor};
-use reader::cursor::Cursor;
-use reader::cursor::CursorResult;
+ghost use Rattle.cursor.specs.Shown.{shownCursor};
+use cursor::Cursor;
+use cursor::CursorResult;
 use reader::string::StringResult;
 use reader::string::read_string_lua54;
 

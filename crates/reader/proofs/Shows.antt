@@ -14,15 +14,16 @@ use Rattle.format.specs.GrammarFields.{LuaString}
 use Rattle.format.specs.Read.{Read, ok, refused, Reader, next, _>>_}
 use Rattle.format.proofs.Exact.{Exact}
 use Rattle.format.proofs.Left.{left}
-use Rattle.reader.specs.declared.cursor.Cursor.{Cursor}
-use Rattle.reader.specs.declared.cursor.CursorResult.{CursorResult}
-use Rattle.reader.specs.declared.cursor.CursorResult.the-variants as cursor
+use Rattle.cursor.specs.declared.Cursor.{Cursor}
+use Rattle.cursor.specs.declared.CursorResult.{CursorResult}
+use Rattle.cursor.specs.declared.CursorResult.the-variants as cursor
 use Rattle.reader.specs.declared.field.U8Result.the-variants as u8
 use Rattle.reader.specs.declared.field.U32Result.the-variants as u32
 use Rattle.reader.specs.declared.field.U64Result.the-variants as u64
 use Rattle.reader.specs.declared.string.OptionString.{OptionString}
 use Rattle.reader.specs.declared.string.StringResult.the-variants as string
-use Rattle.reader.specs.Shown.{cursorAt, andThen, shownCursor, shownU8, shownU32, shownU64, optionString, shownString}
+use Rattle.cursor.specs.Shown.{cursorAt, andThen, shownCursor}
+use Rattle.reader.specs.Shown.{shownU8, shownU32, shownU64, optionString, shownString}
 
 -- what a reader gave, with the rest left open
 pub record Was {A : Type 0} (o : Read A) (x : A) (to : ℕ) : Type 0 where

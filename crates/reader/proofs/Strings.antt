@@ -14,12 +14,13 @@ use Rattle.format.specs.ReadFields.{number, content, string}
 use Rattle.format.proofs.Exact.{exact-run}
 use Rattle.format.proofs.ExactFields.{exact-number}
 use Rattle.format.proofs.Steps.{content-none, content-long, content-run}
-use Rattle.reader.specs.declared.cursor.Cursor.{Cursor}
-use Rattle.reader.specs.declared.cursor.CursorResult.the-variants as cursor
+use Rattle.cursor.specs.declared.Cursor.{Cursor}
+use Rattle.cursor.specs.declared.CursorResult.the-variants as cursor
 use Rattle.reader.specs.declared.field.U64Result.the-variants as u64
 use Rattle.reader.specs.declared.string.OptionString.the-variants as option
 use Rattle.reader.specs.declared.string.StringResult.the-variants as answer
-use Rattle.reader.specs.Shown.{cursorAt, shownCursor, shownU64, shownString}
+use Rattle.cursor.specs.Shown.{cursorAt, shownCursor}
+use Rattle.reader.specs.Shown.{shownU64, shownString}
 use Rattle.reader.proofs.Shows.{Was, onward, u64-err, u64-ok, cursor-err, cursor-ok}
 
 module _ (s : Bytes) (limit at : ℕ) where

@@ -8,7 +8,7 @@ use Rattle.format.specs.declared.refusal.Refusal.{Refusal}
 use Rattle.format.specs.Read.{Read, ok, refused, Reader, next, _>>=_, give}
 use Rattle.format.specs.ReadFields.{field, byte}
 use Rattle.format.proofs.ExactFields.{exact-field}
-use Rattle.reader.specs.declared.cursor.Cursor.{Cursor}
+use Rattle.cursor.specs.declared.Cursor.{Cursor}
 use Rattle.reader.specs.declared.field.U8Result.the-variants as u8
 use Rattle.reader.specs.Shown.{shownU8}
 use Rattle.reader.proofs.Shows.{onward, u8-err, u8-ok}

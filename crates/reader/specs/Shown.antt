@@ -4,9 +4,7 @@ use Prim.Native.Nat.{ℕ}
 use lib.ListN.{length}
 use Rattle.format.specs.GrammarFields.{LuaString}
 use Rattle.format.specs.Read.{Read, ok, refused}
-use Rattle.reader.specs.declared.cursor.Cursor.{Cursor}
-use Rattle.reader.specs.declared.cursor.CursorResult.{CursorResult}
-use Rattle.reader.specs.declared.cursor.CursorResult.the-variants as cursor
+use Rattle.cursor.specs.Shown.{cursorAt}
 use Rattle.reader.specs.declared.field.U8Result.{U8Result}
 use Rattle.reader.specs.declared.field.U8Result.the-variants as u8
 use Rattle.reader.specs.declared.field.U32Result.{U32Result}
@@ -17,19 +15,6 @@ use Rattle.reader.specs.declared.string.OptionString.{OptionString}
 use Rattle.reader.specs.declared.string.OptionString.the-variants as option
 use Rattle.reader.specs.declared.string.StringResult.{StringResult}
 use Rattle.reader.specs.declared.string.StringResult.the-variants as string
-
-abbrev pub cursorAt : ℕ → Cursor
-cursorAt at = record { at = at }
-
--- of what is passed over only the end
-abbrev pub shownCursor : {A : Type 0} → Read A → CursorResult
-shownCursor (ok x to rest) = cursor.Ok (cursorAt to)
-shownCursor (refused q) = cursor.Err q
-
--- what follows a call that showed this: nothing behind a refusal
-abbrev pub andThen : CursorResult → (ℕ → CursorResult) → CursorResult
-andThen (cursor.Ok c) f = f (c .at)
-andThen (cursor.Err q) f = cursor.Err q
 
 abbrev pub shownU8 : Read ℕ → U8Result
 shownU8 (ok v to rest) = u8.Ok v (cursorAt to)

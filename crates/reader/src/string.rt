@@ -3,11 +3,11 @@ ghost use mathlib.Core.Path.{_≡_};
 ghost use lib.ListN.{drop};
 ghost use Rattle.format.specs.ReadFields.{string};
 ghost use Rattle.reader.specs.Shown.{shownString};
-use crate::cursor::Cursor;
-use crate::cursor::CursorResult;
-use crate::cursor::read_exact;
 use crate::field::U64Result;
 use crate::varint::read_varint_lua54;
+use cursor::Cursor;
+use cursor::CursorResult;
+use cursor::read_exact;
 use format::refusal::Refusal;
 
 // A string that is there: the place of its first byte, and how many there are.

@@ -3,9 +3,9 @@ ghost use mathlib.Core.Path.{_≡_};
 ghost use lib.ListN.{drop};
 ghost use Rattle.format.specs.ReadFields.{number};
 ghost use Rattle.reader.specs.Shown.{shownU64};
-use crate::cursor::Cursor;
-use crate::cursor::short;
 use crate::field::U64Result;
+use cursor::Cursor;
+use cursor::short;
 use format::refusal::Refusal;
 use little::wide;
 

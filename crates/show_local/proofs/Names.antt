@@ -20,7 +20,7 @@ use Rattle.format.specs.Reading.{LocalVar}
 use Rattle.format.specs.Read.{Read, ok}
 use Rattle.format.specs.ReadChunk.{read}
 use Rattle.format.proofs.Located.{StandsIf}
-use Rattle.reader.specs.declared.cursor.Cursor.{Cursor}
+use Rattle.cursor.specs.declared.Cursor.{Cursor}
 use Rattle.reader.specs.declared.string.OptionString.{OptionString}
 use Rattle.reader.specs.declared.string.OptionString.the-variants as string
 use Rattle.reader.specs.declared.string.StringAt.{StringAt}

@@ -1,4 +1,4 @@
-// The lines of a chunk as a whole: header, warnings, the number of functions, trailing bytes. Each printer answers how many bytes wait in the buffer then (crate text).
+// The lines of a chunk as a whole: header, warnings, the number of functions, trailing bytes. Each printer answers how many bytes wait in the buffer then (crate print).
 ghost use Prim.Native.Nat.{_<_};
 use decode::summary::Summary;
 use decode::summary::Warnings;
@@ -6,10 +6,9 @@ use format::header::Header;
 use format::header::WarningCode;
 use format::limits::ResourceLimits;
 use header::OptionWarning;
+use print::Out;
 use report::report_warning;
 use show_chunk::bytes::trailing_bytes;
-use text::print;
-use text::print::Out;
 
 pub fn lines(
     out: &mut Out,

@@ -1,4 +1,3 @@
 pub mod NumberLaws
-pub mod OutputLaws
 pub mod SignLaws
 pub mod WordLaws

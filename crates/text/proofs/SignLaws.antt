@@ -1,5 +1,4 @@
--- Signed numbers as the machine holds them: -1 - z, which takes the numbers below 0 to those from 0 up and back.
---     natural        a number that is not below 0, as the machine tests a cast
+-- Signed numbers as the machine holds them: -1 - z of the numbers from 0 up.
 --     held           a number that a contract bounds, as the machine holds it
 --     negated-is     a number from 0 down, as the machine holds it
 -- Assumes nothing.
@@ -14,31 +13,6 @@ use mir.Syntax.{w64}
 use mir.Val.{SFits, toZ, ofZ}
 use mir.Facts.{toZ-pos, toZ-ofZ}
 use borrow.Author.Tests.{le-ltb, ltb-true}
-
--- ---- from below 0
-up : (k : ℕ) → negsuc 0 -ℤ negsuc k ≡ pos k
-up k = rw (le-ltb (suc k) 1 (omega arith)) (ap pos (omega arith))
-
-module _ (z : ℤ) (fits : SFits w64 z) (below : ltZ z (pos 0) ≡ true) where
-  turned : negsuc 0 -ℤ toZ w64 (ofZ w64 z) ≡ pos (mag z)
-  turned = ap (λ (x : ℤ). negsuc 0 -ℤ x) (toZ-ofZ {w = w64} fits) ∙ go z below
-    where
-      go : (x : ℤ) → ltZ x (pos 0) ≡ true → negsuc 0 -ℤ x ≡ pos (mag x)
-      go (pos n) e = absurd (omega (arith, ltb-true n 0 e))
-      go (negsuc k) e = up k
-
-  pub turned-fits : SFits w64 (negsuc 0 -ℤ toZ w64 (ofZ w64 z))
-  turned-fits = rw turned (record { sfits = fits .sfits })
-
-  pub turned-is : toZ w64 (ofZ w64 (negsuc 0 -ℤ toZ w64 (ofZ w64 z))) ≡ pos (mag z)
-  turned-is = toZ-ofZ {w = w64} turned-fits ∙ turned
-
-  pub one-more : mag z + 1 ≡ natAbs z
-  one-more = go z below
-    where
-      go : (x : ℤ) → ltZ x (pos 0) ≡ true → mag x + 1 ≡ natAbs x
-      go (pos n) e = absurd (omega (arith, ltb-true n 0 e))
-      go (negsuc k) e = omega arith
 
 -- ---- from 0 up
 down : (m : ℕ) → negsuc 0 -ℤ pos m ≡ negsuc m
@@ -60,10 +34,6 @@ negated-suc zero h = absurd (omega arith)
 negated-suc (suc n) h = ap negsuc (omega arith)
 
 -- ---- what a contract gives, as the machine holds it
-pub natural : (z : ℤ) → ltZ z (pos 0) ≡ false → T (nonNeg z)
-natural (pos n) e = tt
-natural (negsuc n) e = absurd (true≢false e)
-
 pub held : (z : ℤ) (m : ℕ) → mag z ≤ m → m < 2 ^ 63 → toZ w64 (ofZ w64 z) ≡ z
 held z m h l = toZ-ofZ {w = w64} (record { sfits = omega arith })
 

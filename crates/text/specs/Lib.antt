@@ -1,5 +1,4 @@
 pub mod Lines
 pub mod Numbers
 pub mod Tokens
-pub mod Output
 pub mod Hex

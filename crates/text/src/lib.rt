@@ -1,6 +1,5 @@
-// Requests and answers as text: the lines of standard input, their words and numbers, and printing into a buffer.
+// Requests as text: the lines of standard input, their words and numbers.
 pub mod hex;
 pub mod line;
 pub mod number;
-pub mod print;
 pub mod token;

@@ -1,7 +1,7 @@
 // The instructions of one function, up to the next that is not fine.
 ghost use mathlib.Core.Path.{_≡_};
 ghost use Rattle.validator.specs.Position.{codeLeft, skip, scanned};
-use reader::cursor::Cursor;
+use cursor::Cursor;
 use reader::field::U32Result;
 use reader::field::read_u32_le;
 use rules::finding::Bounds;

@@ -10,11 +10,11 @@ ghost use Rattle.validator.specs.Position.{codeAt, nextNumber, rowBounds
 use crate::scan::Code;
 use crate::scan::Scanned;
 use crate::scan::scan;
+use cursor::Cursor;
 use format::limits::ResourceLimits;
 use functions::Met;
 use functions::Row;
 use functions::next_function;
-use reader::cursor::Cursor;
 use reader::field::U32Result;
 use reader::field::read_u32_le;
 use rules::finding::Bounds;

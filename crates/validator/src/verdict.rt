@@ -7,13 +7,13 @@ use crate::tally::Totals;
 use crate::tally::tally;
 use crate::tally::verdict_of;
 use chunk::row::OptionRow;
+use cursor::Cursor;
 use decode::summary::DecodedResult;
 use decode::summary::Summary;
 use decode::summary::decode_chunk_lua54;
 use format::limits::ResourceLimits;
 use format::refusal::Refusal;
 use header::OptionWarning;
-use reader::cursor::Cursor;
 use rules::finding::Verdict;
 
 pub enum TotalsResult {

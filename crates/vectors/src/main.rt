@@ -7,13 +7,12 @@ use answers::reply;
 use answers::reply::Asked;
 use copy_text::Copies;
 use entry_text::Name;
+use print::Out;
 use text::line;
 use text::line::Found;
 use text::line::LONGEST;
 use text::line::Lines;
 use text::line::Step;
-use text::print;
-use text::print::Out;
 use text::token;
 use words::answer;
 

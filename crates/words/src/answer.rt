@@ -6,10 +6,9 @@ use instructions::instruction::Encoded;
 use instructions::instruction::RawInstruction54;
 use opcodes::opcode::OpMode54;
 use opcodes::opcode::OptionOpcode54;
+use print::Out;
 use text::number;
 use text::number::Number;
-use text::print;
-use text::print::Out;
 
 // `word HEX8`, the word at `at`.
 pub fn word(line: &[u8], at: usize, out: &mut Out, used: usize) -> usize

@@ -3,7 +3,7 @@ use borrow.Author.Needs.{needs}
 use mathlib.Core.Path.{sym, ap, _∙_}
 use lib.ListN as lists
 use Rattle.format.specs.ReadChunk.{read}
-use Rattle.text.specs.Output.{waiting, puts}
+use Rattle.print.specs.Output.{waiting, puts}
 use Rattle.validator.proofs.Chunk.{few-instructions, main-there}
 use Rattle.listing_text.proofs.Laws.{nothing}
 use Rattle.listing.proofs.Chunks.{refused-lines, all-counted, chunk-put}

@@ -8,7 +8,7 @@ use lib.ListN.{set, replicate, length-set}
 use lib.ListN as lists
 use Rattle.functions.specs.Rows.{rowsFrom, chunkRows}
 use Rattle.functions.proofs.RowLaws.{at-start}
-use Rattle.text.specs.Output.{waiting, puts}
+use Rattle.print.specs.Output.{waiting, puts}
 use Rattle.listing_text.specs.Lines.{rowLine}
 use Rattle.listing.specs.Listing.{rowLines}
 use Rattle.listing_text.proofs.Laws.{puts-append, nothing}

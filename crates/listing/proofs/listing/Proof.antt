@@ -3,7 +3,7 @@ use borrow.Author.Needs.{needs}
 use mathlib.Core.Path.{sym, ap, _∙_}
 use lib.ListN as lists
 use Rattle.format.specs.ReadChunk.{read}
-use Rattle.text.specs.Output.{waiting, puts}
+use Rattle.print.specs.Output.{waiting, puts}
 use Rattle.validator.specs.Answers.{shownVerdict}
 use Rattle.listing.specs.Listing.{listLimits}
 use Rattle.listing.proofs.Chunks.{refused-listed, read-listed}

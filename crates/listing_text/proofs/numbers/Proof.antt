@@ -5,7 +5,7 @@ use mathlib.Core.Path.{_≡_, refl, sym, _∙_}
 use Prim.Native.Nat.{_≤_, _<_, _-_}
 use native.Mathlib.Omega.{arith}
 use lib.ListN.{length, drop}
-use Rattle.text.specs.Output.{waiting, puts}
+use Rattle.print.specs.Output.{waiting, puts}
 use Rattle.listing_text.specs.Lines.{decimal, spaced}
 use Rattle.listing_text.proofs.Laws.{then, digits-put, spaced-one, spaced-end}
 use Rattle.listing_text.proofs.numbers.Statement.{statement}

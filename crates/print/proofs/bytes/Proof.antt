@@ -1,0 +1,47 @@
+-- `print::bytes` meets its contract. The invariant: what the whole puts is what the rest puts. The measure is what is left of the
+-- bytes. Assumes nothing.
+use mathlib.Core.Path.{_≡_, refl, sym, _∙_}
+use Prim.Native.Nat.{_≤_, _<_, _-_}
+use borrow.Author.Needs.{needs}
+use lib.ListN.{length, drop}
+use Rattle.print.specs.Output.{waiting, puts, hexOf}
+use Rattle.print.proofs.OutputLaws.{hex-one, hex-end}
+use Rattle.print.proofs.bytes.Statement.{statement}
+use Rattle.print.proofs.bytes.Tie as tie
+
+abbrev Inv-loop : tie.InvT-loop
+Inv-loop out₀ used s at₀ i₀ out at i =
+    (i ≤ length s)
+    × (at < 65536)
+    × (puts (hexOf (drop i s)) (waiting out at) ≡ puts (hexOf s) (waiting out₀ used))
+
+abbrev μ-loop : tie.MeasureT-loop
+μ-loop out₀ used s at₀ i₀ out at i = length s - i
+
+loop-again : tie.Need-loop-again Inv-loop μ-loop
+loop-again c =
+    let s = c .before .before .before .before .before .before .args .s .now in
+    let l = c .before .before .before .before .loop in (
+      search needs,
+      search needs,
+      rw (c .byte .ensures .1, ← hex-one s (l .i) (waiting (l .out) (l .at)) (search needs)) (l .inv .2),
+    )
+
+returns : tie.Need-returns Inv-loop μ-loop
+returns c =
+    let l = c .before .loop in
+    (search needs, sym (hex-end _ (l .i) (waiting (l .out) (l .at)) (search needs)) ∙ l .inv .2)
+
+pub bytes-spec : {M : Type 1} → statement M
+bytes-spec =
+    tie.close
+    (tie.spec
+    Inv-loop
+    μ-loop
+    (λ c. (search needs, search needs, refl))
+    (λ c. search needs)
+    (λ c κs. search needs)
+    (λ c. search needs)
+    (λ c. search needs)
+    loop-again
+    returns)

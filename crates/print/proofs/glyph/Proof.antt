@@ -1,0 +1,14 @@
+-- `print::glyph` meets its contract: each answer rewrites with the test that led to it. Assumes nothing.
+use borrow.Author.Needs.{needs}
+use borrow.Author.Tests.{lt-ltb, le-ltb}
+use Rattle.print.proofs.glyph.Statement.{statement}
+use Rattle.print.proofs.glyph.Tie as tie
+
+pub glyph-spec : {M : Type 1} → statement M
+glyph-spec =
+    tie.close
+    (tie.spec
+    (λ c. search needs)
+    (λ c. search needs)
+    (λ c. simp (lt-ltb _ _ (c .if1 .taken)))
+    (λ c. simp (le-ltb _ _ (c .if1 .left))))
