@@ -20,7 +20,7 @@ use Rattle.format.specs.ReadChunk.{Outcome, shown, refusal, read}
 use Rattle.format.proofs.Located.{Found, Located}
 use Rattle.cursor.specs.declared.Cursor.{Cursor}
 use Rattle.cursor.specs.Shown.{cursorAt}
-use Rattle.chunk.specs.Row.{rowOf, listAt}
+use Rattle.prototype.specs.Row.{rowOf, listAt}
 use Rattle.entries.specs.Nth.{nth}
 use Rattle.access.specs.declared.place.EntryKind.{EntryKind}
 use Rattle.access.specs.declared.place.PlaceAnswer.{PlaceAnswer}

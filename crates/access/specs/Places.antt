@@ -5,9 +5,9 @@ use Rattle.format.specs.Pick.{pick}
 use Rattle.format.specs.declared.refusal.Refusal.the-variants.{NoEntry}
 use Rattle.format.specs.Reading.{Prototype}
 use Rattle.cursor.specs.Shown.{cursorAt}
-use Rattle.chunk.specs.declared.row.FunctionRow.{FunctionRow}
-use Rattle.chunk.specs.declared.row.ListAt.{ListAt}
-use Rattle.chunk.specs.Row.{rowOf}
+use Rattle.prototype.specs.declared.row.FunctionRow.{FunctionRow}
+use Rattle.prototype.specs.declared.row.ListAt.{ListAt}
+use Rattle.prototype.specs.Row.{rowOf}
 use Rattle.access.specs.declared.place.EntryKind.{EntryKind}
 use Rattle.access.specs.declared.place.EntryKind.the-variants as kind
 use Rattle.access.specs.declared.place.PlaceAnswer.{PlaceAnswer}

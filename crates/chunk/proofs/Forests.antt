@@ -22,9 +22,9 @@ use Rattle.chunk.specs.declared.walk.Where.{Where}
 use Rattle.chunk.specs.declared.walk.Walked.{Walked}
 use Rattle.chunk.specs.declared.walk.WalkResult.{WalkResult}
 use Rattle.chunk.specs.declared.walk.WalkResult.the-variants as answer
-use Rattle.chunk.specs.declared.row.OptionRow.{OptionRow}
-use Rattle.chunk.specs.declared.row.OptionRow.the-variants as option
-use Rattle.chunk.specs.Row.{shownRow, lookup}
+use Rattle.prototype.specs.declared.row.OptionRow.{OptionRow}
+use Rattle.prototype.specs.declared.row.OptionRow.the-variants as option
+use Rattle.prototype.specs.Row.{shownRow, lookup}
 use Rattle.chunk.specs.Walk.{orRow, shownFrom, shownWalk, shownWhere, further, joinedShown}
 
 -- ## A row among functions

@@ -33,19 +33,19 @@ use Rattle.chunk.specs.declared.walk.Where.{Where}
 use Rattle.chunk.specs.declared.walk.Walked.{Walked}
 use Rattle.chunk.specs.declared.walk.WalkResult.{WalkResult}
 use Rattle.chunk.specs.declared.walk.WalkResult.the-variants as answer
-use Rattle.chunk.specs.declared.parts.Head as declared-head
-use Rattle.chunk.specs.declared.parts.HeadResult.the-variants as head-answer
-use Rattle.chunk.specs.declared.parts.Tail as declared-tail
-use Rattle.chunk.specs.declared.parts.TailResult.the-variants as tail-answer
-use Rattle.chunk.specs.declared.row.OptionRow.the-variants as option
-use Rattle.chunk.specs.Row.{rowOf, shownRow, lookup}
-use Rattle.chunk.specs.Parts.{Head, head, Tail, tail, parts, inside, prototypeOf}
-use Rattle.chunk.specs.PartsShown.{headOf, tailOf, shownHead, shownTail}
+use Rattle.prototype.specs.declared.parts.Head as declared-head
+use Rattle.prototype.specs.declared.parts.HeadResult.the-variants as head-answer
+use Rattle.prototype.specs.declared.parts.Tail as declared-tail
+use Rattle.prototype.specs.declared.parts.TailResult.the-variants as tail-answer
+use Rattle.prototype.specs.declared.row.OptionRow.the-variants as option
+use Rattle.prototype.specs.Row.{rowOf, shownRow, lookup}
+use Rattle.prototype.specs.Parts.{Head, head, Tail, tail, parts, inside, prototypeOf}
+use Rattle.prototype.specs.PartsShown.{headOf, tailOf, shownHead, shownTail}
 use Rattle.chunk.specs.Walk.{shownWhere, entered, shownWalk, inheritShown, insideShown, rowShown, finishedShown}
-use Rattle.chunk.proofs.On.{taken, stopped}
-use Rattle.chunk.proofs.FrontAnswers.{FrontForm, exact-front}
-use Rattle.chunk.proofs.HeadAnswers.{ListsForm, exact-lists}
-use Rattle.chunk.proofs.Flat.{in-parts}
+use Rattle.prototype.proofs.On.{taken, stopped}
+use Rattle.prototype.proofs.FrontAnswers.{FrontForm, exact-front}
+use Rattle.prototype.proofs.HeadAnswers.{ListsForm, exact-lists}
+use Rattle.prototype.proofs.Flat.{in-parts}
 
 -- ## Entering a nested function
 abbrev pub Entered : ResourceLimits → ℕ → grammar.Where → Form (List Prototype)

@@ -11,7 +11,7 @@ use Rattle.format.specs.Form.{Bytes}
 use Rattle.format.specs.GrammarChunk as grammar
 use Rattle.format.specs.ReadChunk.{forest, function}
 use Rattle.cursor.specs.declared.Cursor.{Cursor}
-use Rattle.chunk.specs.declared.row.OptionRow.the-variants as option
+use Rattle.prototype.specs.declared.row.OptionRow.the-variants as option
 use Rattle.chunk.specs.declared.walk.Where.{Where}
 use Rattle.chunk.specs.declared.walk.Walked.{Walked}
 use Rattle.chunk.specs.declared.walk.WalkResult.{WalkResult}

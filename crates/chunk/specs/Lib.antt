@@ -1,5 +1,1 @@
-pub mod Front
-pub mod Parts
-pub mod PartsShown
-pub mod Row
 pub mod Walk

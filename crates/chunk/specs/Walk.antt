@@ -19,14 +19,14 @@ use Rattle.chunk.specs.declared.walk.Where.{Where}
 use Rattle.chunk.specs.declared.walk.Walked.{Walked}
 use Rattle.chunk.specs.declared.walk.WalkResult.{WalkResult}
 use Rattle.chunk.specs.declared.walk.WalkResult.the-variants as answer
-use Rattle.chunk.specs.declared.row.OptionRow.{OptionRow}
-use Rattle.chunk.specs.declared.row.OptionRow.the-variants as option
-use Rattle.chunk.specs.declared.row.FunctionRow.{FunctionRow}
-use Rattle.chunk.specs.declared.parts.Head.{Head}
-use Rattle.chunk.specs.declared.parts.Tail.{Tail}
+use Rattle.prototype.specs.declared.row.OptionRow.{OptionRow}
+use Rattle.prototype.specs.declared.row.OptionRow.the-variants as option
+use Rattle.prototype.specs.declared.row.FunctionRow.{FunctionRow}
+use Rattle.prototype.specs.declared.parts.Head.{Head}
+use Rattle.prototype.specs.declared.parts.Tail.{Tail}
 use Rattle.reader.specs.declared.string.OptionString.{OptionString}
 use Rattle.reader.specs.declared.string.OptionString.the-variants as string
-use Rattle.chunk.specs.Row.{shownRow, lookup}
+use Rattle.prototype.specs.Row.{shownRow, lookup}
 
 -- where a function stands, with the place and length of its parent's source
 abbrev pub shownWhere : grammar.Where → Where

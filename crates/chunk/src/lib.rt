@@ -1,5 +1,2 @@
-// chunk.rs, decoding: the functions of a chunk, one walk over the file.
-pub mod front;
-pub mod parts;
-pub mod row;
+// chunk.rs, decoding: the functions of a chunk with all that nest in them, one walk over the file.
 pub mod walk;

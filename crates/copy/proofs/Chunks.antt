@@ -18,10 +18,10 @@ use Rattle.format.specs.Copy.{fieldBytes, headerBytes, functionsBytes, upvalues
 use Rattle.format.proofs.Exact.{never}
 use Rattle.format.proofs.ExactChunk.{exact-function}
 use Rattle.format.proofs.Left.{left}
-use Rattle.chunk.specs.declared.row.OptionRow.{OptionRow}
+use Rattle.prototype.specs.declared.row.OptionRow.{OptionRow}
 use Rattle.chunk.specs.declared.walk.Walked.{Walked}
 use Rattle.chunk.specs.declared.walk.WalkResult.the-variants as walk
-use Rattle.chunk.specs.Row.{shownRow, lookup}
+use Rattle.prototype.specs.Row.{shownRow, lookup}
 use Rattle.chunk.specs.Walk.{shownWalk}
 use Rattle.chunk.proofs.Functions.{walk-err, walk-ok}
 use Rattle.lent.specs.Splice.{splice}

@@ -29,7 +29,7 @@ use Rattle.reader.specs.Shown.{shownU8}
 use Rattle.header.specs.declared.OptionWarning.{OptionWarning}
 use Rattle.header.specs.declared.HeaderResult.the-variants as header-answer
 use Rattle.header.specs.Shown.{shownHeader}
-use Rattle.chunk.proofs.On.{taken}
+use Rattle.prototype.proofs.On.{taken}
 use Rattle.decode.specs.declared.LoadedResult.the-variants as loaded
 use Rattle.decode.specs.Loaded.{shownMain}
 use Rattle.decode.proofs.Answers.{headed, header-on, byte-on}

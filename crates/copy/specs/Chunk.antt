@@ -1,7 +1,7 @@
 -- Main's upvalue count, of what the walk shows of main.
 use Prim.Native.Nat.{ℕ}
-use Rattle.chunk.specs.declared.row.OptionRow.{OptionRow}
-use Rattle.chunk.specs.declared.row.OptionRow.the-variants.{Some, None}
+use Rattle.prototype.specs.declared.row.OptionRow.{OptionRow}
+use Rattle.prototype.specs.declared.row.OptionRow.the-variants.{Some, None}
 
 abbrev pub upvaluesShown : OptionRow → ℕ
 upvaluesShown None = 0

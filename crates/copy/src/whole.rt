@@ -10,7 +10,7 @@ ghost use Rattle.format.specs.Copy.{fieldBytes, headerBytes};
 ghost use Rattle.encode.specs.Put.{Put};
 ghost use Rattle.copy.specs.Chunk.{upvaluesShown};
 ghost use Rattle.copy.specs.Answers.{chunkBytes, loadedBytes, Answers, Copies};
-use chunk::row::OptionRow;
+use prototype::row::OptionRow;
 use chunk::walk::WalkResult;
 use copy_walk::walk::copy_function;
 use copy_walk::walk::within;

@@ -8,15 +8,15 @@ use Rattle.format.specs.Form.{Bytes}
 use Rattle.format.specs.Read.{Read, ok}
 use Rattle.format.proofs.Exact.{never}
 use Rattle.cursor.specs.declared.Cursor.{Cursor}
-use Rattle.chunk.specs.declared.parts.Head as declared-head
-use Rattle.chunk.specs.declared.parts.Tail as declared-tail
-use Rattle.chunk.specs.declared.parts.TailResult.the-variants as tail-answer
+use Rattle.prototype.specs.declared.parts.Head as declared-head
+use Rattle.prototype.specs.declared.parts.Tail as declared-tail
+use Rattle.prototype.specs.declared.parts.TailResult.the-variants as tail-answer
 use Rattle.chunk.specs.declared.walk.Where.{Where}
 use Rattle.chunk.specs.declared.walk.Walked.{Walked}
 use Rattle.chunk.specs.declared.walk.WalkResult.{WalkResult}
 use Rattle.chunk.specs.declared.walk.WalkResult.the-variants as answer
-use Rattle.chunk.specs.Parts.{Tail, tail}
-use Rattle.chunk.specs.PartsShown.{tailOf, shownTail}
+use Rattle.prototype.specs.Parts.{Tail, tail}
+use Rattle.prototype.specs.PartsShown.{tailOf, shownTail}
 use Rattle.chunk.specs.Walk.{finishedShown}
 use Rattle.chunk.proofs.Functions.{tail-err, tail-ok}
 use Rattle.encode.specs.Put.{Put}

@@ -26,11 +26,11 @@ use Rattle.format.proofs.ShortestLaws.{length-zero}
 use Rattle.format.proofs.Located.{Found, AtPlace, at-give, at-here, at-then, at-string, StandsIf}
 use Rattle.lists.specs.Readers.{Count, protosCount, code, lineInfo}
 use Rattle.counted.proofs.Within.{exact-code, exact-lineInfo, exact-protosCount}
-use Rattle.chunk.specs.declared.front.Sizes.{Sizes}
-use Rattle.chunk.specs.Front.{Front, front, lines, sizes}
-use Rattle.chunk.specs.Parts.{HeadLists, headLists, Head, head, Tail, tail}
-use Rattle.chunk.proofs.FrontAnswers.{exact-front}
-use Rattle.chunk.proofs.HeadAnswers.{exact-lists}
+use Rattle.prototype.specs.declared.front.Sizes.{Sizes}
+use Rattle.prototype.specs.Front.{Front, front, lines, sizes}
+use Rattle.prototype.specs.Parts.{HeadLists, headLists, Head, head, Tail, tail}
+use Rattle.prototype.proofs.FrontAnswers.{exact-front}
+use Rattle.prototype.proofs.HeadAnswers.{exact-lists}
 use Rattle.encode.proofs.Stores.{size-pos}
 use Rattle.copy_parts.proofs.Entries.{Raw, at-run, raw-field, raw-upvalue, below-part}
 use Rattle.copy_parts.specs.Parts.{sourceBytes, linesBytes, sizesBytes, listsBytes, headBytes, tailBytes}

@@ -21,13 +21,13 @@ use Rattle.format.proofs.Exact.{Exact}
 use Rattle.format.proofs.ExactFields.{exact-field}
 use Rattle.format.proofs.ExactChunk.{exact-upvalue}
 use Rattle.format.proofs.Located.{Found, AtPlace, StandsIf}
-use Rattle.chunk.specs.declared.parts.HeadLists as declared-lists
-use Rattle.chunk.specs.declared.parts.Head as declared-head
-use Rattle.chunk.specs.declared.parts.Tail as declared-tail
-use Rattle.chunk.specs.declared.front.Lines.{Lines}
-use Rattle.chunk.specs.declared.front.Sizes.{Sizes}
-use Rattle.chunk.specs.Parts.{HeadLists, headLists, Head, head, Tail, tail}
-use Rattle.chunk.specs.PartsShown.{listsOf, headOf, tailOf}
+use Rattle.prototype.specs.declared.parts.HeadLists as declared-lists
+use Rattle.prototype.specs.declared.parts.Head as declared-head
+use Rattle.prototype.specs.declared.parts.Tail as declared-tail
+use Rattle.prototype.specs.declared.front.Lines.{Lines}
+use Rattle.prototype.specs.declared.front.Sizes.{Sizes}
+use Rattle.prototype.specs.Parts.{HeadLists, headLists, Head, head, Tail, tail}
+use Rattle.prototype.specs.PartsShown.{listsOf, headOf, tailOf}
 use Rattle.reader.specs.declared.string.OptionString.{OptionString}
 use Rattle.reader.specs.Shown.{optionString}
 use Rattle.encode.specs.Put.{Put, PutsAll}

@@ -6,13 +6,13 @@ use Prim.Native.Nat.{ℕ}
 use Rattle.format.specs.Form.{Bytes}
 use Rattle.format.specs.Read.{Read, ok, refused}
 use Rattle.cursor.specs.Shown.{cursorAt}
-use Rattle.chunk.specs.declared.parts.Head as declared
+use Rattle.prototype.specs.declared.parts.Head as declared
 use Rattle.chunk.specs.declared.walk.Where.{Where}
 use Rattle.chunk.specs.declared.walk.Walked.{Walked}
 use Rattle.chunk.specs.declared.walk.WalkResult.{WalkResult}
 use Rattle.chunk.specs.declared.walk.WalkResult.the-variants as answer
-use Rattle.chunk.specs.Parts.{Tail}
-use Rattle.chunk.specs.PartsShown.{tailOf}
+use Rattle.prototype.specs.Parts.{Tail}
+use Rattle.prototype.specs.PartsShown.{tailOf}
 use Rattle.chunk.specs.Walk.{finishedShown}
 use Rattle.encode.specs.Put.{Put}
 use Rattle.copy_parts.specs.Parts.{tailBytes}

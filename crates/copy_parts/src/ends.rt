@@ -2,12 +2,12 @@
 ghost use mathlib.Core.Path.{_≡_};
 ghost use lib.ListN.{drop};
 ghost use Rattle.chunk.specs.declared.walk.WalkResult.the-variants as walk;
-ghost use Rattle.chunk.specs.Parts as parts;
+ghost use Rattle.prototype.specs.Parts as parts;
 ghost use Rattle.copy_parts.specs.Ends.{PutsTail, endShown};
 use crate::parts::put_tail;
-use chunk::parts::Head;
-use chunk::parts::TailResult;
-use chunk::parts::read_tail;
+use prototype::parts::Head;
+use prototype::parts::TailResult;
+use prototype::parts::read_tail;
 use chunk::walk::WalkResult;
 use chunk::walk::Walked;
 use chunk::walk::Where;

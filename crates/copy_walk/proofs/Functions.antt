@@ -19,16 +19,16 @@ use Rattle.format.specs.Copy.{nest}
 use Rattle.format.proofs.Exact.{never}
 use Rattle.cursor.specs.declared.Cursor.{Cursor}
 use Rattle.cursor.specs.Shown.{cursorAt}
-use Rattle.chunk.specs.declared.parts.Head as declared-head
-use Rattle.chunk.specs.declared.parts.HeadResult.the-variants as head-answer
+use Rattle.prototype.specs.declared.parts.Head as declared-head
+use Rattle.prototype.specs.declared.parts.HeadResult.the-variants as head-answer
 use Rattle.chunk.specs.declared.walk.Where.{Where}
 use Rattle.chunk.specs.declared.walk.Walked.{Walked}
 use Rattle.chunk.specs.declared.walk.WalkResult.{WalkResult}
 use Rattle.chunk.specs.declared.walk.WalkResult.the-variants as answer
-use Rattle.chunk.specs.Parts.{Head, head, Tail, prototypeOf}
-use Rattle.chunk.specs.PartsShown.{headOf, tailOf, shownHead, shownTail}
+use Rattle.prototype.specs.Parts.{Head, head, Tail, prototypeOf}
+use Rattle.prototype.specs.PartsShown.{headOf, tailOf, shownHead, shownTail}
 use Rattle.chunk.specs.Walk.{shownWhere, shownWalk}
-use Rattle.chunk.proofs.On.{taken}
+use Rattle.prototype.proofs.On.{taken}
 use Rattle.chunk.proofs.Functions.{walk-err, by-parts, begins, headed, head-on, first, inner, walked, nested-on, ends, tail-refused, function-read}
 use Rattle.encode.specs.Put.{Put}
 use Rattle.encode.proofs.Writes.{put-then}

@@ -19,7 +19,7 @@ use Rattle.format.specs.Copy.{nest}
 use Rattle.format.proofs.Exact.{never}
 use Rattle.format.proofs.Left as lefts
 use Rattle.cursor.specs.declared.Cursor.{Cursor}
-use Rattle.chunk.specs.declared.row.OptionRow.the-variants as option
+use Rattle.prototype.specs.declared.row.OptionRow.the-variants as option
 use Rattle.chunk.specs.declared.walk.Where.{Where}
 use Rattle.chunk.specs.declared.walk.Walked.{Walked}
 use Rattle.chunk.specs.declared.walk.WalkResult.{WalkResult}

@@ -24,9 +24,9 @@ use Rattle.format.specs.Copy.{optionBytes, behindSource, nest}
 use Rattle.format.proofs.Exact.{Exact, exact-atMost}
 use Rattle.format.proofs.ExactChunk.{exact-forest}
 use Rattle.format.proofs.Located.{AtPlace, at-give, at-here, at-then, at-refuse}
-use Rattle.chunk.specs.Parts.{Head, head, Tail, tail, prototypeOf, inside, parts}
+use Rattle.prototype.specs.Parts.{Head, head, Tail, tail, prototypeOf, inside, parts}
 use Rattle.chunk.specs.Walk.{entered}
-use Rattle.chunk.proofs.Flat.{in-parts}
+use Rattle.prototype.proofs.Flat.{in-parts}
 use Rattle.chunk.proofs.Functions.{exact-entered, function-body, exact-head, exact-tail}
 use Rattle.copy_parts.specs.Parts.{sourceBytes, headBytes, tailBytes, functionBytes}
 use Rattle.copy_parts.proofs.Lengths.{Short, short-then, short-none, stays}

@@ -29,9 +29,9 @@ use Rattle.header.specs.declared.HeaderResult.the-variants as header-answer
 use Rattle.header.specs.Shown.{firstWarning, shownHeader}
 use Rattle.chunk.specs.declared.walk.Walked.{Walked}
 use Rattle.chunk.specs.declared.walk.WalkResult.the-variants as walk
-use Rattle.chunk.specs.Row.{shownRow, lookup}
+use Rattle.prototype.specs.Row.{shownRow, lookup}
 use Rattle.chunk.specs.Walk.{shownWalk}
-use Rattle.chunk.proofs.On.{taken, stopped}
+use Rattle.prototype.proofs.On.{taken, stopped}
 use Rattle.chunk.proofs.Functions.{WasWalk, walk-err, walk-ok}
 use Rattle.decode.specs.declared.LoadedResult.the-variants as answer
 use Rattle.decode.specs.Loaded.{shownMain}

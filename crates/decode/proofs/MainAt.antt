@@ -27,7 +27,7 @@ use Rattle.format.proofs.Left.{left}
 use Rattle.header.specs.declared.OptionWarning.{OptionWarning}
 use Rattle.header.specs.declared.OptionWarning.the-variants as option
 use Rattle.header.specs.Shown.{firstWarning}
-use Rattle.chunk.specs.Parts.{Head, head, Tail, tail, inside, prototypeOf}
+use Rattle.prototype.specs.Parts.{Head, head, Tail, tail, inside, prototypeOf}
 use Rattle.chunk.specs.Walk.{shownWhere, entered}
 use Rattle.chunk.proofs.Functions.{by-parts}
 use Rattle.decode.specs.declared.summary.Decoded.{Decoded}

@@ -27,7 +27,7 @@ use Rattle.format.proofs.Left.{left}
 use Rattle.header.specs.declared.OptionWarning.{OptionWarning}
 use Rattle.header.specs.declared.OptionWarning.the-variants as option
 use Rattle.header.specs.Shown.{firstWarning}
-use Rattle.chunk.specs.Row.{shownRow, lookup}
+use Rattle.prototype.specs.Row.{shownRow, lookup}
 use Rattle.decode.specs.declared.LoadedResult.{LoadedResult}
 use Rattle.decode.specs.declared.LoadedResult.the-variants as loaded
 use Rattle.decode.specs.declared.summary.DecodedResult.{DecodedResult}

@@ -10,7 +10,7 @@ use Rattle.format.specs.ReadChunk.{Outcome, shown, refusal}
 use Rattle.header.specs.declared.OptionWarning.{OptionWarning}
 use Rattle.header.specs.declared.OptionWarning.the-variants as option
 use Rattle.header.specs.Shown.{firstWarning}
-use Rattle.chunk.specs.Row.{shownRow, lookup}
+use Rattle.prototype.specs.Row.{shownRow, lookup}
 use Rattle.decode.specs.declared.Loaded.{Loaded}
 use Rattle.decode.specs.declared.summary.Warnings.{Warnings}
 use Rattle.decode.specs.declared.summary.Decoded.{Decoded}

@@ -5,7 +5,7 @@ use Rattle.format.specs.GrammarChunk as grammar
 use Rattle.format.specs.Read.{Read, ok, refused}
 use Rattle.cursor.specs.Shown.{cursorAt}
 use Rattle.header.specs.Shown.{firstWarning}
-use Rattle.chunk.specs.Row.{shownRow, lookup}
+use Rattle.prototype.specs.Row.{shownRow, lookup}
 use Rattle.decode.specs.declared.Loaded.{Loaded}
 use Rattle.decode.specs.declared.LoadedResult.{LoadedResult}
 use Rattle.decode.specs.declared.LoadedResult.the-variants as answer

@@ -6,7 +6,7 @@ ghost use Prim.Native.Nat.{_≤_};
 ghost use Rattle.format.specs.ReadChunk.{main};
 ghost use Rattle.reader.specs.declared.string.OptionString.the-variants as string;
 ghost use Rattle.decode.specs.Loaded.{shownMain};
-use chunk::row::OptionRow;
+use prototype::row::OptionRow;
 use chunk::walk::WalkResult;
 use chunk::walk::Walked;
 use chunk::walk::Where;

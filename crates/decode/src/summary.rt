@@ -11,7 +11,7 @@ ghost use Rattle.decode.specs.Decoded.{listOf, shownWarnings, decodedSho
 use crate::Loaded;
 use crate::LoadedResult;
 use crate::read_main;
-use chunk::row::OptionRow;
+use prototype::row::OptionRow;
 use cursor::remaining;
 use format::header::Header;
 use format::header::Warning;

@@ -5,7 +5,7 @@ ghost use Rattle.format.specs.ReadChunk as format;
 ghost use Rattle.rules.specs.Findings.{MAX-DIAGNOSTICS};
 ghost use Rattle.validator.specs.Position.{outOf, stepped, startPosition};
 ghost use Rattle.finding_plan.specs.Plan.{planOf, refusedPlan, Planned};
-use chunk::row::OptionRow;
+use prototype::row::OptionRow;
 use cursor::Cursor;
 use decode::summary::DecodedResult;
 use decode::summary::decode_chunk_lua54;

@@ -1,6 +1,6 @@
 // The findings of a chunk, one after the other: `finding FN PC RULE NUMBER error|warning`.
 ghost use Prim.Native.Nat.{_≤_, _<_};
-use chunk::row::OptionRow;
+use prototype::row::OptionRow;
 use cursor::Cursor;
 use decode::summary::DecodedResult;
 use decode::summary::decode_chunk_lua54;

@@ -19,13 +19,13 @@ use Rattle.format.proofs.ExactChunk.{exact-forest}
 use Rattle.format.proofs.Left.{left}
 use Rattle.counted.proofs.Within.{exact-protosCount, ProtosCount}
 use Rattle.cursor.specs.Shown.{cursorAt}
-use Rattle.chunk.specs.declared.parts.HeadResult.the-variants as head-answer
-use Rattle.chunk.specs.Parts.{Head, head, Tail, tail, parts, inside, prototypeOf}
-use Rattle.chunk.specs.PartsShown.{headOf, shownHead, shownTail}
+use Rattle.prototype.specs.declared.parts.HeadResult.the-variants as head-answer
+use Rattle.prototype.specs.Parts.{Head, head, Tail, tail, parts, inside, prototypeOf}
+use Rattle.prototype.specs.PartsShown.{headOf, shownHead, shownTail}
 use Rattle.chunk.specs.Walk as walk
-use Rattle.chunk.proofs.FrontAnswers.{FrontForm, exact-front}
-use Rattle.chunk.proofs.HeadAnswers.{ListsForm, exact-lists}
-use Rattle.chunk.proofs.Flat.{in-parts}
+use Rattle.prototype.proofs.FrontAnswers.{FrontForm, exact-front}
+use Rattle.prototype.proofs.HeadAnswers.{ListsForm, exact-lists}
+use Rattle.prototype.proofs.Flat.{in-parts}
 use Rattle.chunk.proofs.Functions.{Entered, exact-entered, function-body}
 use Rattle.functions.specs.Rows.{rowShown, headAt, tailAt, onHead, onTail, Walked, through, cut, before, andThen, times, bodyAt, functionAt, rowsOf, chunkRows, prototypeRow}
 use Rattle.functions.specs.declared.Row.{Row}

@@ -13,8 +13,8 @@ use Rattle.format.specs.Read.{Read, ok, refused, Reader, next, atMost, test}
 use Rattle.format.specs.declared.refusal.Refusal.the-variants.{Instructions, TotalInstructions}
 use Rattle.format.specs.ReadFields.{number}
 use Rattle.lists.specs.Readers.{code}
-use Rattle.chunk.specs.Front.{front}
-use Rattle.chunk.specs.Parts.{headLists, head}
+use Rattle.prototype.specs.Front.{front}
+use Rattle.prototype.specs.Parts.{headLists, head}
 
 -- where the one accepts, the other accepts so
 pub record Fewer {A : Type 0} (o p : Read A) : Type 0 where

@@ -10,10 +10,10 @@ use lib.ListN.{length, getD, set, length-set}
 use lib.Seq.{getD-set-same, getD-set-other}
 use Rattle.format.specs.declared.limits.ResourceLimits.{ResourceLimits}
 use Rattle.format.specs.Form.{Bytes}
-use Rattle.chunk.specs.declared.parts.HeadResult.{HeadResult}
-use Rattle.chunk.specs.declared.parts.HeadResult.the-variants as head-answer
-use Rattle.chunk.specs.declared.parts.TailResult.{TailResult}
-use Rattle.chunk.specs.declared.parts.TailResult.the-variants as tail-answer
+use Rattle.prototype.specs.declared.parts.HeadResult.{HeadResult}
+use Rattle.prototype.specs.declared.parts.HeadResult.the-variants as head-answer
+use Rattle.prototype.specs.declared.parts.TailResult.{TailResult}
+use Rattle.prototype.specs.declared.parts.TailResult.the-variants as tail-answer
 use Rattle.functions.specs.Rows.{rowShown, headAt, tailAt, onHead, onTail, Walked, through, cut, before, andThen, times, bodyAt, functionAt, rowsOf, chunkRows, onward, rowsFrom, entered}
 use Rattle.functions.specs.declared.Row.{Row}
 

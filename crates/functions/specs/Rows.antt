@@ -7,14 +7,14 @@ use lib.ListN.{drop, getD, set}
 use Rattle.format.specs.declared.limits.ResourceLimits.{ResourceLimits}
 use Rattle.format.specs.Form.{Bytes}
 use Rattle.format.specs.Reading.{Prototype}
-use Rattle.chunk.specs.declared.parts.Head.{Head}
-use Rattle.chunk.specs.declared.parts.HeadResult.{HeadResult}
-use Rattle.chunk.specs.declared.parts.HeadResult.the-variants as head-answer
-use Rattle.chunk.specs.declared.parts.TailResult.{TailResult}
-use Rattle.chunk.specs.declared.parts.TailResult.the-variants as tail-answer
-use Rattle.chunk.specs.Parts.{head, tail}
-use Rattle.chunk.specs.PartsShown.{shownHead, shownTail}
-use Rattle.chunk.specs.Row.{listAt}
+use Rattle.prototype.specs.declared.parts.Head.{Head}
+use Rattle.prototype.specs.declared.parts.HeadResult.{HeadResult}
+use Rattle.prototype.specs.declared.parts.HeadResult.the-variants as head-answer
+use Rattle.prototype.specs.declared.parts.TailResult.{TailResult}
+use Rattle.prototype.specs.declared.parts.TailResult.the-variants as tail-answer
+use Rattle.prototype.specs.Parts.{head, tail}
+use Rattle.prototype.specs.PartsShown.{shownHead, shownTail}
+use Rattle.prototype.specs.Row.{listAt}
 use Rattle.functions.specs.declared.Row.{Row}
 use Rattle.functions.specs.declared.Up.{Up}
 use Rattle.functions.specs.declared.Up.the-variants as up

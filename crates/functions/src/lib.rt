@@ -1,13 +1,13 @@
 // The functions of a chunk in the order in which their bytes begin, without recursion: a level for each function that is open, and in
 // `left` how many functions of that level are still to come.
-use chunk::front::Lines;
-use chunk::front::Sizes;
-use chunk::parts::Head;
-use chunk::parts::HeadResult;
-use chunk::parts::TailResult;
-use chunk::parts::read_head;
-use chunk::parts::read_tail;
-use chunk::row::ListAt;
+use prototype::front::Lines;
+use prototype::front::Sizes;
+use prototype::parts::Head;
+use prototype::parts::HeadResult;
+use prototype::parts::TailResult;
+use prototype::parts::read_head;
+use prototype::parts::read_tail;
+use prototype::row::ListAt;
 use cursor::Cursor;
 use format::limits::ResourceLimits;
 ghost use mathlib.Core.Path.{_≡_};

@@ -31,10 +31,10 @@ use Rattle.format.proofs.ExactHeader.{exact-header}
 use Rattle.format.proofs.ExactChunk.{exact-main}
 use Rattle.format.proofs.Left.{left}
 use Rattle.format.proofs.ReadChunkLaws.{read-sound, read-within}
-use Rattle.chunk.specs.declared.row.OptionRow.the-variants as option
-use Rattle.chunk.specs.declared.row.FunctionRow.{FunctionRow}
-use Rattle.chunk.specs.Row.{rowOf, shownRow, lookup}
-use Rattle.chunk.specs.Parts.{Head, head, Tail, tail, inside, prototypeOf}
+use Rattle.prototype.specs.declared.row.OptionRow.the-variants as option
+use Rattle.prototype.specs.declared.row.FunctionRow.{FunctionRow}
+use Rattle.prototype.specs.Row.{rowOf, shownRow, lookup}
+use Rattle.prototype.specs.Parts.{Head, head, Tail, tail, inside, prototypeOf}
 use Rattle.chunk.specs.Walk.{shownWhere, entered}
 use Rattle.chunk.proofs.Functions.{by-parts}
 use Rattle.decode.specs.declared.summary.Decoded.{Decoded}

@@ -3,7 +3,7 @@ ghost use mathlib.Core.Path.{_≡_};
 ghost use lib.ListN.{length};
 ghost use Rattle.format.specs.ReadChunk as format;
 ghost use Rattle.index.specs.Index.{shownIndex, indexWritten};
-use chunk::row::OptionRow;
+use prototype::row::OptionRow;
 use cursor::Cursor;
 use decode::outermost;
 use decode::summary::DecodedResult;

@@ -5,8 +5,8 @@
 use mathlib.Core.List.{List, [], _∷_, _++_}
 use Prim.Native.Nat.{ℕ, _%_}
 use Rattle.format.specs.Reading.{Prototype}
-use Rattle.chunk.specs.declared.row.FunctionRow.{FunctionRow}
-use Rattle.chunk.specs.Row.{rowOf}
+use Rattle.prototype.specs.declared.row.FunctionRow.{FunctionRow}
+use Rattle.prototype.specs.Row.{rowOf}
 
 abbrev pub low : ℕ → ℕ
 low n = n % 4294967296

@@ -5,7 +5,7 @@ ghost use Prim.Native.Nat.{_+_, _*_, _≤_};
 ghost use lib.ListN.{length};
 ghost use Rattle.lent.specs.Splice.{splice};
 ghost use Rattle.index_row.specs.Stored.{low, storedRow};
-use chunk::row::FunctionRow;
+use prototype::row::FunctionRow;
 
 // The low 32 bits: in a chunk that is read no number of the index has more.
 fn narrow(x: usize) -> u32

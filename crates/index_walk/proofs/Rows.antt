@@ -19,20 +19,20 @@ use Rattle.format.specs.ReadChunk.{forest, function}
 use Rattle.format.proofs.Exact.{never}
 use Rattle.format.proofs.Left as lefts
 use Rattle.cursor.specs.declared.Cursor.{Cursor}
-use Rattle.chunk.specs.declared.parts.Head as declared-head
-use Rattle.chunk.specs.declared.parts.HeadResult.the-variants as head-answer
-use Rattle.chunk.specs.declared.parts.Tail as declared-tail
-use Rattle.chunk.specs.declared.parts.TailResult.the-variants as tail-answer
-use Rattle.chunk.specs.declared.row.OptionRow.the-variants as option
+use Rattle.prototype.specs.declared.parts.Head as declared-head
+use Rattle.prototype.specs.declared.parts.HeadResult.the-variants as head-answer
+use Rattle.prototype.specs.declared.parts.Tail as declared-tail
+use Rattle.prototype.specs.declared.parts.TailResult.the-variants as tail-answer
+use Rattle.prototype.specs.declared.row.OptionRow.the-variants as option
 use Rattle.chunk.specs.declared.walk.Where.{Where}
 use Rattle.chunk.specs.declared.walk.Walked.{Walked}
 use Rattle.chunk.specs.declared.walk.WalkResult.{WalkResult}
 use Rattle.chunk.specs.declared.walk.WalkResult.the-variants as answer
-use Rattle.chunk.specs.Row.{rowOf}
-use Rattle.chunk.specs.Parts.{prototypeOf}
-use Rattle.chunk.specs.PartsShown.{shownHead, shownTail}
+use Rattle.prototype.specs.Row.{rowOf}
+use Rattle.prototype.specs.Parts.{prototypeOf}
+use Rattle.prototype.specs.PartsShown.{shownHead, shownTail}
 use Rattle.chunk.specs.Walk.{shownWhere, entered, shownWalk, rowShown, further, againShown, joinedShown}
-use Rattle.chunk.proofs.On.{taken}
+use Rattle.prototype.proofs.On.{taken}
 use Rattle.chunk.proofs.Functions.{exact-entered, enters, walk-err, walkedOf, tail-ok, row-shown, by-parts, begins, headed, head-on, first, inner, walked, nested-on, ends}
 use Rattle.lent.specs.Splice.{splice}
 use Rattle.index_row.specs.Stored.{storedRow, stored}

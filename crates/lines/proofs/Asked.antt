@@ -19,8 +19,8 @@ use Rattle.format.specs.Reading.{Prototype}
 use Rattle.format.specs.ReadChunk.{refusal, outcome, main, read}
 use Rattle.format.proofs.Located.{Located}
 use Rattle.format.proofs.Steps.{run-was}
-use Rattle.chunk.specs.declared.row.FunctionRow.{FunctionRow}
-use Rattle.chunk.specs.Row.{rowOf}
+use Rattle.prototype.specs.declared.row.FunctionRow.{FunctionRow}
+use Rattle.prototype.specs.Row.{rowOf}
 use Rattle.decode.proofs.Summaries.{input-ceiling}
 use Rattle.access.specs.declared.row.RowAnswer.the-variants as row
 use Rattle.access.specs.Asked.{Asked, found, refused, functionOf}

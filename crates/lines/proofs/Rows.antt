@@ -17,7 +17,7 @@ use Rattle.format.proofs.ExactChunk.{exact-anchor}
 use Rattle.format.proofs.Every.{every-many}
 use Rattle.format.proofs.Every as every
 use Rattle.format.proofs.Located.{Found}
-use Rattle.chunk.specs.declared.row.FunctionRow.{FunctionRow}
+use Rattle.prototype.specs.declared.row.FunctionRow.{FunctionRow}
 use Rattle.anchors.specs.declared.Scan.{Scan}
 use Rattle.anchors.specs.declared.ScanResult.the-variants as scan
 use Rattle.lines.specs.declared.line.LineAnswer.{LineAnswer}

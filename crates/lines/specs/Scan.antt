@@ -12,7 +12,7 @@ use Rattle.format.specs.declared.entry.AbsLineInfo.{AbsLineInfo}
 use Rattle.format.specs.Form.{Bytes}
 use Rattle.format.specs.Read.{Read, ok, refused, many}
 use Rattle.format.specs.ReadChunk.{anchor}
-use Rattle.chunk.specs.declared.row.FunctionRow.{FunctionRow}
+use Rattle.prototype.specs.declared.row.FunctionRow.{FunctionRow}
 use Rattle.anchors.specs.declared.Scan.{Scan}
 use Rattle.anchors.specs.declared.Sought.{Sought}
 use Rattle.anchors.specs.declared.Sought.the-variants.{Ahead}

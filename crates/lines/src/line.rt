@@ -14,7 +14,7 @@ use access::row::function_row;
 use anchors::ScanResult;
 use anchors::Sought;
 use anchors::scan_anchors;
-use chunk::row::FunctionRow;
+use prototype::row::FunctionRow;
 use cursor::Cursor;
 use format::limits::ResourceLimits;
 use format::refusal::Refusal;

@@ -10,8 +10,8 @@ use Rattle.format.specs.declared.refusal.Refusal.{Refusal}
 use Rattle.format.specs.Form.{Bytes}
 use Rattle.format.specs.Reading.{Prototype, Reading}
 use Rattle.format.specs.ReadChunk.{Outcome, shown, refusal, read}
-use Rattle.chunk.specs.declared.row.OptionRow.the-variants as option
-use Rattle.chunk.specs.declared.row.FunctionRow.{FunctionRow}
+use Rattle.prototype.specs.declared.row.OptionRow.the-variants as option
+use Rattle.prototype.specs.declared.row.FunctionRow.{FunctionRow}
 use Rattle.decode.specs.declared.summary.Decoded.{Decoded}
 use Rattle.decode.specs.declared.summary.DecodedResult.the-variants as decoded
 use Rattle.decode.specs.Decoded.{shownOutcome}

@@ -6,7 +6,7 @@ ghost use Rattle.print.specs.Output.{waiting, puts};
 ghost use Rattle.format.specs.ReadChunk.{read};
 ghost use Rattle.functions.specs.Rows.{chunkRows};
 ghost use Rattle.listing.specs.Listing as listings;
-use chunk::row::OptionRow;
+use prototype::row::OptionRow;
 use cursor::Cursor;
 use decode::summary::DecodedResult;
 use decode::summary::decode_chunk_lua54;

@@ -5,8 +5,8 @@ use Prim.Native.Nat.{ℕ}
 use native.Mathlib.Omega.{arith}
 use Rattle.format.specs.declared.refusal.Refusal.{Refusal}
 use Rattle.format.specs.Reading.{Prototype}
-use Rattle.chunk.specs.declared.row.FunctionRow.{FunctionRow}
-use Rattle.chunk.specs.Row.{rowOf}
+use Rattle.prototype.specs.declared.row.FunctionRow.{FunctionRow}
+use Rattle.prototype.specs.Row.{rowOf}
 use Rattle.access.specs.declared.row.RowAnswer.the-variants as row
 use Rattle.access.specs.Asked.{Asked, found, refused}
 use Rattle.access.specs.Places.{shownRowAnswer}

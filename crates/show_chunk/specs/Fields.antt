@@ -3,7 +3,7 @@ use Prim.Native.Nat.{ℕ}
 use lib.ListN.{length}
 use Rattle.format.specs.Reading.{Prototype}
 use Rattle.reader.specs.Shown.{optionString}
-use Rattle.chunk.specs.declared.row.FunctionRow.{FunctionRow}
+use Rattle.prototype.specs.declared.row.FunctionRow.{FunctionRow}
 use Rattle.show_chunk.specs.declared.fields.FunctionFields.{FunctionFields}
 use Rattle.show_chunk.specs.declared.fields.FieldsAnswer.{FieldsAnswer}
 use Rattle.show_chunk.specs.declared.fields.FieldsAnswer.the-variants as fields

@@ -5,7 +5,7 @@ ghost use Rattle.access.specs.Asked.{functionOf};
 ghost use Rattle.show_chunk.specs.Fields.{fieldsShown, shownFields};
 use access::row::RowAnswer;
 use access::row::function_row;
-use chunk::row::FunctionRow;
+use prototype::row::FunctionRow;
 use format::limits::ResourceLimits;
 use format::refusal::Refusal;
 use reader::string::OptionString;

@@ -16,9 +16,9 @@ use Rattle.format.specs.ReadChunk.{function, main, outcome, Outcome, shown, ref
 use Rattle.format.proofs.Every.{All}
 use Rattle.format.proofs.Located.{Located, all-located}
 use Rattle.format.proofs.ReadChunkLaws.{read-sound, main-complete, read-within}
-use Rattle.chunk.specs.declared.row.OptionRow.the-variants as option
-use Rattle.chunk.specs.declared.row.FunctionRow.{FunctionRow}
-use Rattle.chunk.specs.Row.{rowOf, shownRow, lookup}
+use Rattle.prototype.specs.declared.row.OptionRow.the-variants as option
+use Rattle.prototype.specs.declared.row.FunctionRow.{FunctionRow}
+use Rattle.prototype.specs.Row.{rowOf, shownRow, lookup}
 use Rattle.decode.specs.declared.summary.Decoded.{Decoded}
 use Rattle.decode.specs.declared.summary.DecodedResult.the-variants as decoded
 use Rattle.decode.specs.Decoded.{shownWarnings, shownOutcome, shownReading}

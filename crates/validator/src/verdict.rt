@@ -6,7 +6,7 @@ ghost use Rattle.validator.specs.Answers.{keptCount, shownTotals, shownV
 use crate::tally::Totals;
 use crate::tally::tally;
 use crate::tally::verdict_of;
-use chunk::row::OptionRow;
+use prototype::row::OptionRow;
 use cursor::Cursor;
 use decode::summary::DecodedResult;
 use decode::summary::Summary;

@@ -9,14 +9,14 @@ use Rattle.format.specs.GrammarChunk as grammar
 use Rattle.format.specs.ReadChunk.{forest, function}
 use Rattle.format.specs.declared.refusal.Refusal.{Refusal}
 use Rattle.cursor.specs.declared.Cursor.{Cursor}
-use Rattle.chunk.specs.declared.parts.Head as declared-head
-use Rattle.chunk.specs.declared.parts.HeadResult.the-variants as head-answer
-use Rattle.chunk.specs.declared.parts.Tail as declared-tail
-use Rattle.chunk.specs.declared.parts.TailResult.the-variants as tail-answer
+use Rattle.prototype.specs.declared.parts.Head as declared-head
+use Rattle.prototype.specs.declared.parts.HeadResult.the-variants as head-answer
+use Rattle.prototype.specs.declared.parts.Tail as declared-tail
+use Rattle.prototype.specs.declared.parts.TailResult.the-variants as tail-answer
 use Rattle.chunk.specs.declared.walk.Walked.{Walked}
 use Rattle.chunk.specs.declared.walk.WalkResult.the-variants as answer
-use Rattle.chunk.specs.Parts as parts
-use Rattle.chunk.specs.PartsShown.{shownHead, shownTail}
+use Rattle.prototype.specs.Parts as parts
+use Rattle.prototype.specs.PartsShown.{shownHead, shownTail}
 use Rattle.chunk.specs.Walk.{shownWhere, entered, shownWalk, rowShown, finishedShown, againShown, joinedShown}
 use Rattle.chunk.proofs.Turns.{all, Rest, starts, ends, deep, many, stops, goes-on}
 use Rattle.chunk.proofs.Functions.{in-total, first, first-shown, head-refused, nested-refused, tail-refused, function-read}
@@ -35,8 +35,8 @@ use Rattle.index_walk.proofs.+write_function+write_functions.Lts-write_
 use Rattle.index_walk.proofs.write_functions.Reads as write-functions
 use Rattle.index_walk.proofs.write_functions.Kinds as write-functions-kinds
 use Rattle.index_walk.proofs.+write_function+write_functions.Lts-write_functions as write-functions-lts
-use Rattle.chunk.proofs.parts.read_head.Reads as read-head-reads
-use Rattle.chunk.proofs.parts.read_tail.Reads as read-tail-reads
+use Rattle.prototype.proofs.parts.read_head.Reads as read-head-reads
+use Rattle.prototype.proofs.parts.read_tail.Reads as read-tail-reads
 use Rattle.chunk.proofs.walk.again.Reads as again-reads
 use Rattle.chunk.proofs.walk.finished.Reads as finished-reads
 use Rattle.chunk.proofs.walk.inside.Reads as inside-reads

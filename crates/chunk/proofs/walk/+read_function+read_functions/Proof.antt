@@ -7,13 +7,13 @@ use Rattle.format.specs.GrammarChunk as grammar
 use Rattle.format.specs.ReadChunk.{forest, function}
 use Rattle.format.specs.declared.refusal.Refusal.{Refusal}
 use Rattle.cursor.specs.declared.Cursor.{Cursor}
-use Rattle.chunk.specs.declared.parts.Head as declared-head
-use Rattle.chunk.specs.declared.parts.HeadResult.the-variants as head-answer
-use Rattle.chunk.specs.declared.parts.Tail as declared-tail
-use Rattle.chunk.specs.declared.parts.TailResult.the-variants as tail-answer
+use Rattle.prototype.specs.declared.parts.Head as declared-head
+use Rattle.prototype.specs.declared.parts.HeadResult.the-variants as head-answer
+use Rattle.prototype.specs.declared.parts.Tail as declared-tail
+use Rattle.prototype.specs.declared.parts.TailResult.the-variants as tail-answer
 use Rattle.chunk.specs.declared.walk.Walked.{Walked}
-use Rattle.chunk.specs.Parts as parts
-use Rattle.chunk.specs.PartsShown.{shownHead, shownTail}
+use Rattle.prototype.specs.Parts as parts
+use Rattle.prototype.specs.PartsShown.{shownHead, shownTail}
 use Rattle.chunk.specs.Walk.{shownWhere, entered, shownWalk, finishedShown, againShown, joinedShown}
 use borrow.Author.Needs.{needs}
 use native.Mathlib.Omega.{arith}
@@ -29,8 +29,8 @@ use Rattle.chunk.proofs.walk.+read_function+read_functions.Lts-read_fun
 use Rattle.chunk.proofs.walk.read_functions.Reads as read-functions
 use Rattle.chunk.proofs.walk.read_functions.Kinds as read-functions-kinds
 use Rattle.chunk.proofs.walk.+read_function+read_functions.Lts-read_functions as read-functions-lts
-use Rattle.chunk.proofs.parts.read_head.Reads as read-head-reads
-use Rattle.chunk.proofs.parts.read_tail.Reads as read-tail-reads
+use Rattle.prototype.proofs.parts.read_head.Reads as read-head-reads
+use Rattle.prototype.proofs.parts.read_tail.Reads as read-tail-reads
 use Rattle.chunk.proofs.walk.again.Reads as again-reads
 use Rattle.chunk.proofs.walk.finished.Reads as finished-reads
 use Rattle.chunk.proofs.walk.inside.Reads as inside-reads

@@ -13,11 +13,11 @@ use Rattle.format.specs.GrammarChunk as grammar
 use Rattle.format.specs.ReadChunk.{function}
 use Rattle.format.specs.declared.refusal.Refusal.{Refusal}
 use Rattle.cursor.specs.declared.Cursor.{Cursor}
-use Rattle.chunk.specs.declared.parts.Head as declared-head
-use Rattle.chunk.specs.declared.parts.HeadResult.the-variants as head-answer
+use Rattle.prototype.specs.declared.parts.Head as declared-head
+use Rattle.prototype.specs.declared.parts.HeadResult.the-variants as head-answer
 use Rattle.chunk.specs.declared.walk.WalkResult.the-variants as answer
-use Rattle.chunk.specs.Parts as parts
-use Rattle.chunk.specs.PartsShown.{shownHead}
+use Rattle.prototype.specs.Parts as parts
+use Rattle.prototype.specs.PartsShown.{shownHead}
 use Rattle.chunk.specs.Walk.{shownWhere, shownWalk, againShown}
 use Rattle.chunk.proofs.Turns.{all, Rest, starts, ends, deep, many, stops, goes-on}
 use Rattle.chunk.proofs.Functions.{in-total, first, first-shown, head-refused, nested-refused}
@@ -28,7 +28,7 @@ use Rattle.copy_walk.proofs.Functions.{not-read, end-shows, whole-put}
 use Rattle.copy_walk.proofs.walk.copy_function.Reads as copy-function
 use Rattle.copy_walk.proofs.walk.copy_function.Kinds as copy-function-kinds
 use Rattle.copy_walk.proofs.walk.+copy_function.Lts-copy_function as copy-function-lts
-use Rattle.chunk.proofs.parts.read_head.Reads as read-head-reads
+use Rattle.prototype.proofs.parts.read_head.Reads as read-head-reads
 use Rattle.chunk.proofs.walk.again.Reads as again-reads
 use Rattle.chunk.proofs.walk.inside.Reads as inside-reads
 use Rattle.chunk.proofs.walk.joined.Reads as joined-reads

@@ -29,18 +29,18 @@ use Rattle.counted.specs.Shown.{shownList, shownCount}
 use Rattle.counted.proofs.Listing.{WasList, list-err, list-ok}
 use Rattle.counted.proofs.Counts.{count-err, count-ok}
 use Rattle.counted.proofs.Within.{Code, exact-lineInfo, exact-code, exact-protosCount}
-use Rattle.chunk.specs.declared.front.Front as declared-front
-use Rattle.chunk.specs.declared.front.FrontResult.the-variants as front-answer
-use Rattle.chunk.specs.declared.parts.HeadLists as declared-lists
-use Rattle.chunk.specs.declared.parts.HeadListsResult.the-variants as lists-answer
-use Rattle.chunk.specs.declared.parts.HeadResult.the-variants as head-answer
-use Rattle.chunk.specs.declared.parts.Tail as declared-tail
-use Rattle.chunk.specs.declared.parts.TailResult.the-variants as tail-answer
-use Rattle.chunk.specs.Front.{Front, front, shownFront}
-use Rattle.chunk.specs.Parts.{HeadLists, headLists, Head, head, Tail, tail}
-use Rattle.chunk.specs.PartsShown.{frontOf, listsOf, shownHeadLists, shownHead, shownTail}
-use Rattle.chunk.proofs.On.{taken, stopped}
-use Rattle.chunk.proofs.FrontAnswers.{exact-front}
+use Rattle.prototype.specs.declared.front.Front as declared-front
+use Rattle.prototype.specs.declared.front.FrontResult.the-variants as front-answer
+use Rattle.prototype.specs.declared.parts.HeadLists as declared-lists
+use Rattle.prototype.specs.declared.parts.HeadListsResult.the-variants as lists-answer
+use Rattle.prototype.specs.declared.parts.HeadResult.the-variants as head-answer
+use Rattle.prototype.specs.declared.parts.Tail as declared-tail
+use Rattle.prototype.specs.declared.parts.TailResult.the-variants as tail-answer
+use Rattle.prototype.specs.Front.{Front, front, shownFront}
+use Rattle.prototype.specs.Parts.{HeadLists, headLists, Head, head, Tail, tail}
+use Rattle.prototype.specs.PartsShown.{frontOf, listsOf, shownHeadLists, shownHead, shownTail}
+use Rattle.prototype.proofs.On.{taken, stopped}
+use Rattle.prototype.proofs.FrontAnswers.{exact-front}
 
 -- three lists, by count and place
 abbrev three : ℕ → ℕ → ℕ → ℕ → ℕ → ℕ → declared-lists.HeadLists

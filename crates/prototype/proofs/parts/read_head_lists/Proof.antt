@@ -1,9 +1,9 @@
--- `chunk::parts::read_head_lists` meets its contract: at each return the calls say which case of the reader holds (`HeadAnswers.antt`). Assumes nothing.
+-- `prototype::parts::read_head_lists` meets its contract: at each return the calls say which case of the reader holds (`HeadAnswers.antt`). Assumes nothing.
 use mathlib.Core.Path.{sym, _∙_}
 use borrow.Author.Needs.{needs}
-use Rattle.chunk.proofs.HeadAnswers.{code-refused, constants-refused, upvalues-refused, all-lists}
-use Rattle.chunk.proofs.parts.read_head_lists.Statement.{statement}
-use Rattle.chunk.proofs.parts.read_head_lists.Tie as tie
+use Rattle.prototype.proofs.HeadAnswers.{code-refused, constants-refused, upvalues-refused, all-lists}
+use Rattle.prototype.proofs.parts.read_head_lists.Statement.{statement}
+use Rattle.prototype.proofs.parts.read_head_lists.Tie as tie
 
 returns : tie.Need-returns
 returns c =

@@ -1,9 +1,9 @@
--- `chunk::parts::read_head` meets its contract: at each return the calls say which case of the reader holds (`HeadAnswers.antt`). Assumes nothing.
+-- `prototype::parts::read_head` meets its contract: at each return the calls say which case of the reader holds (`HeadAnswers.antt`). Assumes nothing.
 use mathlib.Core.Path.{sym, _∙_}
 use borrow.Author.Needs.{needs}
-use Rattle.chunk.proofs.HeadAnswers.{front-refused, lists-refused, protos-refused, whole-head}
-use Rattle.chunk.proofs.parts.read_head.Statement.{statement}
-use Rattle.chunk.proofs.parts.read_head.Tie as tie
+use Rattle.prototype.proofs.HeadAnswers.{front-refused, lists-refused, protos-refused, whole-head}
+use Rattle.prototype.proofs.parts.read_head.Statement.{statement}
+use Rattle.prototype.proofs.parts.read_head.Tie as tie
 
 returns : tie.Need-returns
 returns c =

@@ -6,14 +6,14 @@ use Rattle.format.specs.Read.{Read, ok, refused, Reader, next, _>>=_, _>>_, giv
 use Rattle.format.specs.ReadFields.{byte, number, string}
 use Rattle.cursor.specs.Shown.{cursorAt}
 use Rattle.reader.specs.Shown.{optionString}
-use Rattle.chunk.specs.declared.front.Lines.{Lines}
-use Rattle.chunk.specs.declared.front.LinesResult.{LinesResult}
-use Rattle.chunk.specs.declared.front.LinesResult.the-variants as lines-answer
-use Rattle.chunk.specs.declared.front.Sizes.{Sizes}
-use Rattle.chunk.specs.declared.front.SizesResult.{SizesResult}
-use Rattle.chunk.specs.declared.front.SizesResult.the-variants as sizes-answer
-use Rattle.chunk.specs.declared.front.FrontResult.{FrontResult}
-use Rattle.chunk.specs.declared.front.FrontResult.the-variants as front-answer
+use Rattle.prototype.specs.declared.front.Lines.{Lines}
+use Rattle.prototype.specs.declared.front.LinesResult.{LinesResult}
+use Rattle.prototype.specs.declared.front.LinesResult.the-variants as lines-answer
+use Rattle.prototype.specs.declared.front.Sizes.{Sizes}
+use Rattle.prototype.specs.declared.front.SizesResult.{SizesResult}
+use Rattle.prototype.specs.declared.front.SizesResult.the-variants as sizes-answer
+use Rattle.prototype.specs.declared.front.FrontResult.{FrontResult}
+use Rattle.prototype.specs.declared.front.FrontResult.the-variants as front-answer
 
 abbrev pub lines : Reader Lines
 lines = do

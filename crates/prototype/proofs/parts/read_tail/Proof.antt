@@ -1,9 +1,9 @@
--- `chunk::parts::read_tail` meets its contract: at each return the calls say which case of the reader holds (`HeadAnswers.antt`). Assumes nothing.
+-- `prototype::parts::read_tail` meets its contract: at each return the calls say which case of the reader holds (`HeadAnswers.antt`). Assumes nothing.
 use mathlib.Core.Path.{sym, _∙_}
 use borrow.Author.Needs.{needs}
-use Rattle.chunk.proofs.HeadAnswers.{deltas-refused, anchors-refused, locals-refused, names-refused, whole-tail}
-use Rattle.chunk.proofs.parts.read_tail.Statement.{statement}
-use Rattle.chunk.proofs.parts.read_tail.Tie as tie
+use Rattle.prototype.proofs.HeadAnswers.{deltas-refused, anchors-refused, locals-refused, names-refused, whole-tail}
+use Rattle.prototype.proofs.parts.read_tail.Statement.{statement}
+use Rattle.prototype.proofs.parts.read_tail.Tie as tie
 
 returns : tie.Need-returns
 returns c =

@@ -1,7 +1,7 @@
 // What stands at the front of a function: its source, its lines and three bytes.
 ghost use mathlib.Core.Path.{_≡_};
 ghost use lib.ListN.{drop};
-ghost use Rattle.chunk.specs.Front.{lines, sizes, front, shownLines, shownSizes, shownFront};
+ghost use Rattle.prototype.specs.Front.{lines, sizes, front, shownLines, shownSizes, shownFront};
 use cursor::Cursor;
 use format::refusal::Refusal;
 use reader::field::U8Result;

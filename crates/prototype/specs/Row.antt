@@ -9,10 +9,10 @@ use lib.ListN.{length}
 use Rattle.format.specs.Pick.{pick}
 use Rattle.format.specs.Reading.{Prototype}
 use Rattle.reader.specs.Shown.{optionString}
-use Rattle.chunk.specs.declared.row.ListAt.{ListAt}
-use Rattle.chunk.specs.declared.row.FunctionRow.{FunctionRow}
-use Rattle.chunk.specs.declared.row.OptionRow.{OptionRow}
-use Rattle.chunk.specs.declared.row.OptionRow.the-variants as option
+use Rattle.prototype.specs.declared.row.ListAt.{ListAt}
+use Rattle.prototype.specs.declared.row.FunctionRow.{FunctionRow}
+use Rattle.prototype.specs.declared.row.OptionRow.{OptionRow}
+use Rattle.prototype.specs.declared.row.OptionRow.the-variants as option
 
 abbrev pub listAt : {A : Type 0} → List A → ℕ → ListAt
 listAt items place = record { count = length items; place = place }

@@ -1,9 +1,9 @@
--- `chunk::front::read_lines` meets its contract: at each return the calls say which case of the reader holds (`FrontAnswers.antt`). Assumes nothing.
+-- `prototype::front::read_lines` meets its contract: at each return the calls say which case of the reader holds (`FrontAnswers.antt`). Assumes nothing.
 use mathlib.Core.Path.{sym, _∙_}
 use borrow.Author.Needs.{needs}
-use Rattle.chunk.proofs.FrontAnswers.{first-refused, last-refused, two-lines}
-use Rattle.chunk.proofs.front.read_lines.Statement.{statement}
-use Rattle.chunk.proofs.front.read_lines.Tie as tie
+use Rattle.prototype.proofs.FrontAnswers.{first-refused, last-refused, two-lines}
+use Rattle.prototype.proofs.front.read_lines.Statement.{statement}
+use Rattle.prototype.proofs.front.read_lines.Tie as tie
 
 returns : tie.Need-returns
 returns c =

@@ -1,9 +1,9 @@
--- `chunk::front::read_front` meets its contract: at each return the calls say which case of the reader holds (`FrontAnswers.antt`). Assumes nothing.
+-- `prototype::front::read_front` meets its contract: at each return the calls say which case of the reader holds (`FrontAnswers.antt`). Assumes nothing.
 use mathlib.Core.Path.{sym, _∙_}
 use borrow.Author.Needs.{needs}
-use Rattle.chunk.proofs.FrontAnswers.{source-refused, lines-refused, sizes-refused, whole-front}
-use Rattle.chunk.proofs.front.read_front.Statement.{statement}
-use Rattle.chunk.proofs.front.read_front.Tie as tie
+use Rattle.prototype.proofs.FrontAnswers.{source-refused, lines-refused, sizes-refused, whole-front}
+use Rattle.prototype.proofs.front.read_front.Statement.{statement}
+use Rattle.prototype.proofs.front.read_front.Tie as tie
 
 returns : tie.Need-returns
 returns c =

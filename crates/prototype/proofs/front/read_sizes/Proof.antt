@@ -1,10 +1,10 @@
--- `chunk::front::read_sizes` meets its contract: three bytes, one after the other (`ThreeBytes.antt` of reader). Assumes nothing.
+-- `prototype::front::read_sizes` meets its contract: three bytes, one after the other (`ThreeBytes.antt` of reader). Assumes nothing.
 use mathlib.Core.Path.{sym, _∙_}
 use borrow.Author.Needs.{needs}
 use Rattle.reader.proofs.ThreeBytes.{first-refused, second-refused, third-refused, three-read}
-use Rattle.chunk.specs.Front.{shownSizes}
-use Rattle.chunk.proofs.front.read_sizes.Statement.{statement}
-use Rattle.chunk.proofs.front.read_sizes.Tie as tie
+use Rattle.prototype.specs.Front.{shownSizes}
+use Rattle.prototype.proofs.front.read_sizes.Statement.{statement}
+use Rattle.prototype.proofs.front.read_sizes.Tie as tie
 
 pub read-sizes-spec : {M : Type 1} → statement M
 read-sizes-spec =

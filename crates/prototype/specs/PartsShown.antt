@@ -5,19 +5,19 @@ use Rattle.format.specs.GrammarChunk.{Listed}
 use Rattle.format.specs.Read.{Read, ok, refused}
 use Rattle.cursor.specs.Shown.{cursorAt}
 use Rattle.reader.specs.Shown.{optionString}
-use Rattle.chunk.specs.declared.front.Front as declared-front
-use Rattle.chunk.specs.declared.row.ListAt.{ListAt}
-use Rattle.chunk.specs.declared.parts.HeadLists as declared-lists
-use Rattle.chunk.specs.declared.parts.HeadListsResult.{HeadListsResult}
-use Rattle.chunk.specs.declared.parts.HeadListsResult.the-variants as lists-answer
-use Rattle.chunk.specs.declared.parts.Head as declared-head
-use Rattle.chunk.specs.declared.parts.HeadResult.{HeadResult}
-use Rattle.chunk.specs.declared.parts.HeadResult.the-variants as head-answer
-use Rattle.chunk.specs.declared.parts.Tail as declared-tail
-use Rattle.chunk.specs.declared.parts.TailResult.{TailResult}
-use Rattle.chunk.specs.declared.parts.TailResult.the-variants as tail-answer
-use Rattle.chunk.specs.Front.{Front}
-use Rattle.chunk.specs.Parts.{HeadLists, Head, Tail}
+use Rattle.prototype.specs.declared.front.Front as declared-front
+use Rattle.prototype.specs.declared.row.ListAt.{ListAt}
+use Rattle.prototype.specs.declared.parts.HeadLists as declared-lists
+use Rattle.prototype.specs.declared.parts.HeadListsResult.{HeadListsResult}
+use Rattle.prototype.specs.declared.parts.HeadListsResult.the-variants as lists-answer
+use Rattle.prototype.specs.declared.parts.Head as declared-head
+use Rattle.prototype.specs.declared.parts.HeadResult.{HeadResult}
+use Rattle.prototype.specs.declared.parts.HeadResult.the-variants as head-answer
+use Rattle.prototype.specs.declared.parts.Tail as declared-tail
+use Rattle.prototype.specs.declared.parts.TailResult.{TailResult}
+use Rattle.prototype.specs.declared.parts.TailResult.the-variants as tail-answer
+use Rattle.prototype.specs.Front.{Front}
+use Rattle.prototype.specs.Parts.{HeadLists, Head, Tail}
 
 abbrev pub shownAt : {A : Type 0} → Listed A → ListAt
 shownAt l = record { count = length (l .items); place = l .place }

@@ -14,7 +14,7 @@ use Rattle.format.specs.Read.{Read, Reader, next, _>>=_, _>>_, give, here}
 use Rattle.format.specs.ReadFields.{string}
 use Rattle.format.specs.ReadChunk.{counted, countedUpTo, constant, upvalue, anchor, local, forest}
 use Rattle.lists.specs.Readers.{Count, protosCount, code, lineInfo}
-use Rattle.chunk.specs.Front.{Front, front}
+use Rattle.prototype.specs.Front.{Front, front}
 
 -- the lists before the nested functions
 pub record HeadLists : Type 0 where

@@ -1,8 +1,8 @@
 // A function before and behind the functions that nest in it.
 ghost use mathlib.Core.Path.{_≡_};
 ghost use lib.ListN.{drop};
-ghost use Rattle.chunk.specs.Parts as parts;
-ghost use Rattle.chunk.specs.PartsShown.{shownHeadLists, shownHead, shownTail};
+ghost use Rattle.prototype.specs.Parts as parts;
+ghost use Rattle.prototype.specs.PartsShown.{shownHeadLists, shownHead, shownTail};
 use crate::front::Front;
 use crate::front::FrontResult;
 use crate::front::read_front;

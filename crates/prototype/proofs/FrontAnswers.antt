@@ -19,13 +19,13 @@ use Rattle.reader.specs.declared.string.StringResult.the-variants as str
 use Rattle.cursor.specs.Shown.{cursorAt}
 use Rattle.reader.specs.Shown.{shownU8, shownU64, shownString}
 use Rattle.reader.proofs.Shows.{Was, onward, u8-err, u64-err, string-err, string-ok}
-use Rattle.chunk.specs.declared.front.Lines.{Lines}
-use Rattle.chunk.specs.declared.front.LinesResult.the-variants as lines-answer
-use Rattle.chunk.specs.declared.front.Sizes.{Sizes}
-use Rattle.chunk.specs.declared.front.SizesResult.the-variants as sizes-answer
-use Rattle.chunk.specs.declared.front.FrontResult.the-variants as front-answer
-use Rattle.chunk.specs.Front.{Front, lines, sizes, front, shownLines, shownSizes, shownFront}
-use Rattle.chunk.proofs.On.{u8-on, u64-on, taken, stopped}
+use Rattle.prototype.specs.declared.front.Lines.{Lines}
+use Rattle.prototype.specs.declared.front.LinesResult.the-variants as lines-answer
+use Rattle.prototype.specs.declared.front.Sizes.{Sizes}
+use Rattle.prototype.specs.declared.front.SizesResult.the-variants as sizes-answer
+use Rattle.prototype.specs.declared.front.FrontResult.the-variants as front-answer
+use Rattle.prototype.specs.Front.{Front, lines, sizes, front, shownLines, shownSizes, shownFront}
+use Rattle.prototype.proofs.On.{u8-on, u64-on, taken, stopped}
 
 -- ## Two numbers
 module _ (s : Bytes) (at : ℕ) where

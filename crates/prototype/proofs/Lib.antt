@@ -1,0 +1,4 @@
+pub mod On
+pub mod Flat
+pub mod FrontAnswers
+pub mod HeadAnswers
