@@ -5,11 +5,11 @@ ghost use Rattle.access.specs.Asked.{functionOf};
 ghost use Rattle.access.specs.Places.{listOf, shownPlace};
 use crate::row::RowAnswer;
 use crate::row::function_row;
-use prototype::row::FunctionRow;
-use prototype::row::ListAt;
 use cursor::Cursor;
 use format::limits::ResourceLimits;
 use format::refusal::Refusal;
+use prototype::row::FunctionRow;
+use prototype::row::ListAt;
 
 // The lists of a function that hold entries of their own.
 pub enum EntryKind {

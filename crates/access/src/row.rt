@@ -3,12 +3,12 @@ ghost use mathlib.Core.Path.{_≡_};
 ghost use Rattle.format.specs.ReadChunk.{read};
 ghost use Rattle.access.specs.Asked.{functionOf};
 ghost use Rattle.access.specs.Places.{shownRowAnswer};
-use prototype::row::FunctionRow;
-use prototype::row::OptionRow;
 use decode::summary::DecodedResult;
 use decode::summary::decode_chunk_lua54;
 use format::limits::ResourceLimits;
 use format::refusal::Refusal;
+use prototype::row::FunctionRow;
+use prototype::row::OptionRow;
 
 // The function's fields, and count and place of each of its lists; or the refusal.
 pub enum RowAnswer {

@@ -4,7 +4,11 @@ use crate::Rows;
 use crate::request;
 use crate::request::Limits;
 use crate::rows as row_lines;
-use copy_text::Copies;
+use chunk_text::copies;
+use chunk_text::copies::Copies;
+use chunk_text::finding;
+use chunk_text::line as line_text;
+use chunk_text::summary;
 use entry_text::Name;
 use format::limits::ResourceLimits;
 use index::IndexAnswer;
@@ -65,7 +69,7 @@ fn answered(
 {
     match asked {
         Asked::All => everything(out, used, s, limits, rows, name, copies),
-        Asked::Verdict => finding_text::totals(out, used, s, limits),
+        Asked::Verdict => finding::totals(out, used, s, limits),
     }
 }
 
@@ -85,7 +89,7 @@ fn everything(
     match found {
         SummaryAnswer::Err(why) => print::refusal(out, used, why),
         SummaryAnswer::Ok(whole) => {
-            let used = summary_text::lines(out, used, s, limits, whole);
+            let used = summary::lines(out, used, s, limits, whole);
             functions(out, used, s, limits, rows, name, copies)
         }
     }
@@ -111,8 +115,8 @@ fn functions(
             let n = row_lines::within(count);
             let used = row_lines::functions(out, used, s, limits, rows, n, name);
             let used = row_lines::lines(out, used, rows, n);
-            let used = copy_text::line(out, used, s, limits, copies);
-            let used = finding_text::lines(out, used, s, limits);
+            let used = copies::line(out, used, s, limits, copies);
+            let used = finding::lines(out, used, s, limits);
             line_text::functions(out, used, s, limits, n)
         }
     }

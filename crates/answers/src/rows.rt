@@ -2,8 +2,9 @@
 ghost use Prim.Native.Nat.{_+_, _<_, _≤_};
 use crate::Rows;
 use entry_text::Name;
+use entry_text::function;
+use entry_text::function::Extent;
 use format::limits::ResourceLimits;
-use function_text::Extent;
 use print::Out;
 
 // No more rows than there is room for: the index answers no more.
@@ -33,7 +34,7 @@ pub fn functions(
     let mut f = 0;
     while f < n {
         let extent = extent_of(rows, f);
-        at = function_text::lines(out, at, s, limits, f, extent, name);
+        at = function::lines(out, at, s, limits, f, extent, name);
         f += 1;
     }
     at

@@ -8,6 +8,9 @@ ghost use Rattle.format.specs.GrammarChunk as grammar;
 ghost use Rattle.format.specs.ReadChunk.{forest, function};
 ghost use Rattle.prototype.specs.declared.row.OptionRow.the-variants as option;
 ghost use Rattle.chunk.specs.Walk.{shownWhere, entered, shownWalk, inheritShown, insideShown, rowShown, orRow, finishedShown, againShown, joinedShown};
+use cursor::Cursor;
+use format::limits::ResourceLimits;
+use format::refusal::Refusal;
 use prototype::parts::Head;
 use prototype::parts::HeadResult;
 use prototype::parts::Tail;
@@ -17,9 +20,6 @@ use prototype::parts::read_tail;
 use prototype::row::FunctionRow;
 use prototype::row::Lists;
 use prototype::row::OptionRow;
-use cursor::Cursor;
-use format::limits::ResourceLimits;
-use format::refusal::Refusal;
 use reader::string::OptionString;
 
 // Where a function stands: its number, the instructions of all functions before it, its depth, its parent's number and source.

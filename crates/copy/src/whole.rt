@@ -10,7 +10,6 @@ ghost use Rattle.format.specs.Copy.{fieldBytes, headerBytes};
 ghost use Rattle.encode.specs.Put.{Put};
 ghost use Rattle.copy.specs.Chunk.{upvaluesShown};
 ghost use Rattle.copy.specs.Answers.{chunkBytes, loadedBytes, Answers, Copies};
-use prototype::row::OptionRow;
 use chunk::walk::WalkResult;
 use copy_walk::walk::copy_function;
 use copy_walk::walk::within;
@@ -24,6 +23,7 @@ use format::limits::ResourceLimits;
 use format::refusal::Refusal;
 use header::HeaderResult;
 use header::parse_header_lua54;
+use prototype::row::OptionRow;
 use reader::field::U8Result;
 use reader::field::read_u8;
 

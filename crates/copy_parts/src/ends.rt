@@ -5,15 +5,15 @@ ghost use Rattle.chunk.specs.declared.walk.WalkResult.the-variants as walk;
 ghost use Rattle.prototype.specs.Parts as parts;
 ghost use Rattle.copy_parts.specs.Ends.{PutsTail, endShown};
 use crate::parts::put_tail;
-use prototype::parts::Head;
-use prototype::parts::TailResult;
-use prototype::parts::read_tail;
 use chunk::walk::WalkResult;
 use chunk::walk::Walked;
 use chunk::walk::Where;
 use chunk::walk::finished;
 use format::limits::ResourceLimits;
 use format::refusal::Refusal;
+use prototype::parts::Head;
+use prototype::parts::TailResult;
+use prototype::parts::read_tail;
 
 // What a walk over functions found, and the length of their copy.
 pub struct Copied {

@@ -16,16 +16,16 @@ use crate::list::copy_anchors;
 use crate::list::copy_constants;
 use crate::list::copy_locals;
 use crate::list::copy_names;
-use prototype::front::Lines;
-use prototype::front::Sizes;
-use prototype::parts::Head;
-use prototype::parts::HeadLists;
-use prototype::parts::Tail;
 use encode::number::put_varint;
 use encode::raw::put_byte;
 use encode::raw::put_run;
 use encode::text::put_string;
 use format::limits::ResourceLimits;
+use prototype::front::Lines;
+use prototype::front::Sizes;
+use prototype::parts::Head;
+use prototype::parts::HeadLists;
+use prototype::parts::Tail;
 use reader::string::OptionString;
 
 // Main's source; a nested function's is written as absent.

@@ -11,9 +11,6 @@ ghost use Rattle.format.specs.GrammarChunk as grammar;
 ghost use Rattle.format.specs.ReadChunk.{function};
 ghost use Rattle.chunk.specs.Walk.{shownWhere, shownWalk};
 ghost use Rattle.copy_walk.specs.Walk.{PutsFunction};
-use prototype::parts::HeadResult;
-use prototype::parts::read_head;
-use prototype::row::OptionRow;
 use chunk::walk::WalkResult;
 use chunk::walk::Walked;
 use chunk::walk::Where;
@@ -28,6 +25,9 @@ use cursor::Cursor;
 use encode::raw::plus;
 use format::limits::ResourceLimits;
 use format::refusal::Refusal;
+use prototype::parts::HeadResult;
+use prototype::parts::read_head;
+use prototype::row::OptionRow;
 
 // The smaller of two numbers.
 pub fn within(n: usize, limit: usize) -> usize

@@ -11,13 +11,13 @@ ghost use Rattle.decode.specs.Decoded.{listOf, shownWarnings, decodedSho
 use crate::Loaded;
 use crate::LoadedResult;
 use crate::read_main;
-use prototype::row::OptionRow;
 use cursor::remaining;
 use format::header::Header;
 use format::header::Warning;
 use format::limits::ResourceLimits;
 use format::refusal::Refusal;
 use header::OptionWarning;
+use prototype::row::OptionRow;
 
 // The warnings of a reading, in their order: there are at most two.
 pub struct Warnings {

@@ -1,4 +1,5 @@
-// The lines of a function's entries, and strings as an answer spells them. Each printer answers how many bytes wait in the buffer then (crate print).
+// The lines of a function and of its entries, and strings as an answer spells them. Each printer answers how many bytes wait in the buffer then (crate print).
+pub mod function;
 pub mod items;
 pub mod strings;
 

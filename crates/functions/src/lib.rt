@@ -1,5 +1,7 @@
 // The functions of a chunk in the order in which their bytes begin, without recursion: a level for each function that is open, and in
 // `left` how many functions of that level are still to come.
+use cursor::Cursor;
+use format::limits::ResourceLimits;
 use prototype::front::Lines;
 use prototype::front::Sizes;
 use prototype::parts::Head;
@@ -8,8 +10,6 @@ use prototype::parts::TailResult;
 use prototype::parts::read_head;
 use prototype::parts::read_tail;
 use prototype::row::ListAt;
-use cursor::Cursor;
-use format::limits::ResourceLimits;
 ghost use mathlib.Core.Path.{_≡_};
 ghost use Prim.Native.Nat.{_≤_};
 ghost use lib.ListN.{length, getD};

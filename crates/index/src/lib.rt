@@ -3,7 +3,6 @@ ghost use mathlib.Core.Path.{_≡_};
 ghost use lib.ListN.{length};
 ghost use Rattle.format.specs.ReadChunk as format;
 ghost use Rattle.index.specs.Index.{shownIndex, indexWritten};
-use prototype::row::OptionRow;
 use cursor::Cursor;
 use decode::outermost;
 use decode::summary::DecodedResult;
@@ -11,6 +10,7 @@ use decode::summary::decode_chunk_lua54;
 use format::limits::ResourceLimits;
 use format::refusal::Refusal;
 use index_walk::write_function;
+use prototype::row::OptionRow;
 
 // The number of functions, or why there is no index.
 pub enum IndexAnswer {

@@ -6,11 +6,6 @@ ghost use Rattle.format.specs.GrammarChunk as grammar;
 ghost use Rattle.format.specs.ReadChunk.{forest, function};
 ghost use Rattle.chunk.specs.Walk.{shownWhere, entered, shownWalk};
 ghost use Rattle.index_walk.specs.Written.{Wrote};
-use prototype::parts::HeadResult;
-use prototype::parts::TailResult;
-use prototype::parts::read_head;
-use prototype::parts::read_tail;
-use prototype::row::OptionRow;
 use chunk::walk::WalkResult;
 use chunk::walk::Walked;
 use chunk::walk::Where;
@@ -23,6 +18,11 @@ use cursor::Cursor;
 use format::limits::ResourceLimits;
 use format::refusal::Refusal;
 use index_row::put_row;
+use prototype::parts::HeadResult;
+use prototype::parts::TailResult;
+use prototype::parts::read_head;
+use prototype::parts::read_tail;
+use prototype::row::OptionRow;
 
 // Reads a function and all that nest in it, as `read_function` does for main's row, and writes the row of each. Ruled out: rows in the order in which functions end, a row left out.
 pub fn write_function(

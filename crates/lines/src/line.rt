@@ -14,10 +14,10 @@ use access::row::function_row;
 use anchors::ScanResult;
 use anchors::Sought;
 use anchors::scan_anchors;
-use prototype::row::FunctionRow;
 use cursor::Cursor;
 use format::limits::ResourceLimits;
 use format::refusal::Refusal;
+use prototype::row::FunctionRow;
 
 pub enum LineAnswer {
     Ok(usize),

@@ -5,9 +5,9 @@ ghost use Rattle.access.specs.Asked.{functionOf};
 ghost use Rattle.show_chunk.specs.Fields.{fieldsShown, shownFields};
 use access::row::RowAnswer;
 use access::row::function_row;
-use prototype::row::FunctionRow;
 use format::limits::ResourceLimits;
 use format::refusal::Refusal;
+use prototype::row::FunctionRow;
 use reader::string::OptionString;
 
 // How many entries each list has, in the order of the file.

@@ -6,7 +6,6 @@ ghost use Rattle.validator.specs.Answers.{keptCount, shownTotals, shownV
 use crate::tally::Totals;
 use crate::tally::tally;
 use crate::tally::verdict_of;
-use prototype::row::OptionRow;
 use cursor::Cursor;
 use decode::summary::DecodedResult;
 use decode::summary::Summary;
@@ -14,6 +13,7 @@ use decode::summary::decode_chunk_lua54;
 use format::limits::ResourceLimits;
 use format::refusal::Refusal;
 use header::OptionWarning;
+use prototype::row::OptionRow;
 use rules::finding::Verdict;
 
 pub enum TotalsResult {

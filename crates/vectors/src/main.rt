@@ -5,7 +5,7 @@ ghost use Rattle.text.specs.Lines.{Within};
 use answers::Rows;
 use answers::reply;
 use answers::reply::Asked;
-use copy_text::Copies;
+use chunk_text::copies::Copies;
 use entry_text::Name;
 use print::Out;
 use text::line;
