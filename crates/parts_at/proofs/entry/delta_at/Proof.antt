@@ -1,7 +1,11 @@
--- `parts_at::entry::delta_at` meets its contract: by what was read. Assumes nothing.
-use mathlib.Core.Path.{refl, sym, _∙_, ap}
+-- `parts_at::entry::delta_at` meets its contract: by what was read (under whatever limits). Assumes nothing.
+use mathlib.Core.Path.{refl, _∙_, ap}
 use mathlib.Core.List.{[], _∷_}
 use borrow.Author.Needs.{needs}
+use lib.ListN.{drop}
+use Rattle.format.specs.ReadFields.{field}
+use Rattle.reader.specs.Shown.{shownU8}
+use Rattle.boundary.specs.Status.{limitsOf}
 use Rattle.boundary.proofs.Calls.{call-refuses, call-answers}
 use Rattle.parts_at.specs.PartNumbers.{ofDeltaAt}
 use Rattle.parts_at.proofs.entry.delta_at.Statement.{statement}
@@ -13,8 +17,10 @@ delta-at-spec =
     (tie.spec
     (λ c κs. search needs) (λ c. search needs) (λ c κs. search needs) (λ c. search needs) (λ c κs. search needs) (λ c κs. search needs)
     (λ c.
-    let a = c .before .before .before .before .before .before .args in
-    call-refuses ofDeltaAt (a .out .now) (sym (c .before .before .answer .given .1) ∙ c .before .before .before .before .read-u8 .ensures) refl (c .refused .ensures))
+    let k = c .before .before .before .before in
+    let a = k .before .before .args in
+    call-refuses ofDeltaAt (λ L. shownU8 (field 1 (a .place) (drop (a .place) (a .chunk .now)))) (a .out .now) (λ i. limitsOf []) (k .read-u8 .ensures) (c .before .before .answer .given .1) refl (c .refused .ensures))
     (λ c.
-    let a = c .before .before .before .before .before .before .before .args in
-    call-answers ofDeltaAt (a .out .now) (sym (c .before .before .before .answer2 .given .1) ∙ c .before .before .before .before .before .read-u8 .ensures) refl (c .two .ensures ∙ ap (λ n. n ∷ c .before .before .before .answer2 .given .0 .1 .0 .at ∷ []) (c .before .delta-number .ensures))))
+    let k = c .before .before .before .before .before in
+    let a = k .before .before .args in
+    call-answers ofDeltaAt (λ L. shownU8 (field 1 (a .place) (drop (a .place) (a .chunk .now)))) (a .out .now) (λ i. limitsOf []) (k .read-u8 .ensures) (c .before .before .before .answer2 .given .1) refl (c .two .ensures ∙ ap (λ n. n ∷ c .before .before .before .answer2 .given .0 .1 .0 .at ∷ []) (c .before .delta-number .ensures))))

@@ -1,5 +1,5 @@
 -- `parts_at::entry::string_at` meets its contract: by what was read. Assumes nothing.
-use mathlib.Core.Path.{refl, sym, _∙_, ap}
+use mathlib.Core.Path.{refl, _∙_, ap}
 use borrow.Author.Needs.{needs}
 use lib.ListN.{drop}
 use Rattle.format.specs.ReadFields.{string}
@@ -15,8 +15,10 @@ string-at-spec =
     (tie.spec
     (λ c κs. search needs) (λ c κs. search needs) (λ c. search needs) (λ c κs. search needs) (λ c. search needs) (λ c κs. search needs) (λ c κs. search needs)
     (λ c.
-    let a = c .before .before .before .before .before .before .before .args in
-    call-refuses ofStringAt (a .out .now) (sym (c .before .before .answer .given .1) ∙ c .before .before .before .before .read-string-lua54 .ensures ∙ ap (λ L. shownString (string (L .«max_string_bytes») (a .place) (drop (a .place) (a .chunk .now)))) (c .before .before .before .before .before .limits-of .ensures)) refl (c .refused .ensures))
+    let k = c .before .before .before .before in
+    let a = k .before .before .before .args in
+    call-refuses ofStringAt (λ L. shownString (string (L .«max_string_bytes») (a .place) (drop (a .place) (a .chunk .now)))) (a .out .now) (k .before .limits-of .ensures) (k .read-string-lua54 .ensures) (c .before .before .answer .given .1) refl (c .refused .ensures))
     (λ c.
-    let a = c .before .before .before .before .before .before .before .before .args in
-    call-answers ofStringAt (a .out .now) (sym (c .before .before .before .answer2 .given .1) ∙ c .before .before .before .before .before .read-string-lua54 .ensures ∙ ap (λ L. shownString (string (L .«max_string_bytes») (a .place) (drop (a .place) (a .chunk .now)))) (c .before .before .before .before .before .before .limits-of .ensures)) refl (c .up-to-three .ensures ∙ ap (λ l. upTo l (c .before .before .before .answer2 .given .0 .1 .0 .at)) (c .before .string-numbers .ensures))))
+    let k = c .before .before .before .before .before in
+    let a = k .before .before .before .args in
+    call-answers ofStringAt (λ L. shownString (string (L .«max_string_bytes») (a .place) (drop (a .place) (a .chunk .now)))) (a .out .now) (k .before .limits-of .ensures) (k .read-string-lua54 .ensures) (c .before .before .before .answer2 .given .1) refl (c .up-to-three .ensures ∙ ap (λ l. upTo l (c .before .before .before .answer2 .given .0 .1 .0 .at)) (c .before .string-numbers .ensures))))

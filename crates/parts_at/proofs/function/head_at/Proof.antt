@@ -1,5 +1,5 @@
 -- `parts_at::function::head_at` meets its contract: by what was read. Assumes nothing.
-use mathlib.Core.Path.{refl, sym, _∙_, ap}
+use mathlib.Core.Path.{refl}
 use borrow.Author.Needs.{needs}
 use lib.ListN.{drop}
 use Rattle.chunk.specs.Parts as parts
@@ -15,8 +15,10 @@ head-at-spec =
     (tie.spec
     (λ c κs. search needs) (λ c κs. search needs) (λ c. search needs) (λ c κs. search needs) (λ c. search needs) (λ c κs. search needs)
     (λ c.
-    let a = c .before .before .before .before .before .before .before .args in
-    call-refuses ofHead (a .out .now) (sym (c .before .before .answer .given .1) ∙ c .before .before .before .before .read-head .ensures ∙ ap (λ L. shownHead (parts.head L 0 (a .place) (drop (a .place) (a .chunk .now)))) (c .before .before .before .before .before .limits-of .ensures)) refl (c .refused .ensures))
+    let k = c .before .before .before .before in
+    let a = k .before .before .before .args in
+    call-refuses ofHead (λ L. shownHead (parts.head L 0 (a .place) (drop (a .place) (a .chunk .now)))) (a .out .now) (k .before .limits-of .ensures) (k .read-head .ensures) (c .before .before .answer .given .1) refl (c .refused .ensures))
     (λ c.
-    let a = c .before .before .before .before .before .before .before .args in
-    call-answers ofHead (a .out .now) (sym (c .before .before .answer2 .given .1) ∙ c .before .before .before .before .read-head .ensures ∙ ap (λ L. shownHead (parts.head L 0 (a .place) (drop (a .place) (a .chunk .now)))) (c .before .before .before .before .before .limits-of .ensures)) refl (c .head-numbers .ensures)))
+    let k = c .before .before .before .before in
+    let a = k .before .before .before .args in
+    call-answers ofHead (λ L. shownHead (parts.head L 0 (a .place) (drop (a .place) (a .chunk .now)))) (a .out .now) (k .before .limits-of .ensures) (k .read-head .ensures) (c .before .before .answer2 .given .1) refl (c .head-numbers .ensures)))
