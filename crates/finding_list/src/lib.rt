@@ -93,15 +93,10 @@ fn two(a: u64, b: u64) -> [u64; 2]
 
 // The verdict and the number of findings; every decision is taken before the first is written.
 // Ruled out: success that writes nothing, a refusal that writes, findings in another order.
-pub fn list_findings(
-    chunk: &[u8],
-    limits: &[u64; 9],
-    list: &mut [u64],
-    out: &mut [u64; 2],
-) -> u64
+pub fn list_findings(chunk: &[u8], limits: &[u64; 9], list: &mut [u64], out: &mut [u64; 2]) -> u64
     ensures { λ r. ⌜ r ≡ status (ofFindings (shownFindings (length (now (list .entry)) / 4) (read (limitsOf (now (limits .entry))) (now (chunk .entry))))) ⌝ }
-    ensures { λ _. ⌜ now (list .exit) ≡ numbersWritten (now (list .entry)) (read (limitsOf (now (limits .entry))) (now (chunk .entry))) ⌝ }
     ensures { λ _. ⌜ now (out .exit) ≡ written (ofFindings (shownFindings (length (now (list .entry)) / 4) (read (limitsOf (now (limits .entry))) (now (chunk .entry))))) (now (out .entry)) ⌝ }
+    ensures { λ _. ⌜ now (list .exit) ≡ numbersWritten (now (list .entry)) (read (limitsOf (now (limits .entry))) (now (chunk .entry))) ⌝ }
 {
     let bounds = limits_of(limits);
     let plan = prepare(chunk, bounds, list.len() / 4);
