@@ -1,15 +1,14 @@
--- A call that turns what another answers into numbers. `shown` is what that one answers under limits, `l` that these are the caller's, `said` what it answered, `is` the case of it.
+-- A call that turns what another answers into numbers. `shown` is what that one answers of what it is given (limits), `l` that these are the caller's, `said` what it answered, `is` the case of it.
 --     call-refuses     where that was a refusal: what is returned, and that the array is as it was
 --     call-answers     where that was an answer: that 0 is returned, and what stands in the array
 -- Assumes nothing.
 use mathlib.Core.Path.{_≡_, sym, _∙_, ap}
 use mathlib.Core.List.{List}
 use Prim.Native.Nat.{ℕ}
-use Rattle.format.specs.declared.limits.ResourceLimits.{ResourceLimits}
 use Rattle.format.specs.declared.refusal.Refusal.{Refusal}
 use Rattle.boundary.specs.Status.{Answer, done, refuses, coded, status, written}
 
-module _ {A : Type 0} (of : A → Answer) (shown : ResourceLimits → A) (old : List ℕ) {L L′ : ResourceLimits} (l : L ≡ L′) {x y : A} (said : y ≡ shown L) (is : y ≡ x) where
+module _ {A B : Type 0} (of : A → Answer) (shown : B → A) (old : List ℕ) {L L′ : B} (l : L ≡ L′) {x y : A} (said : y ≡ shown L) (is : y ≡ x) where
   e : x ≡ shown L′
   e = sym is ∙ said ∙ ap shown l
 
