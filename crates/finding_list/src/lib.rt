@@ -1,7 +1,6 @@
 // The findings of a chunk as numbers, four each, in a list that the caller lends: what crate `lafzimdo` exports as `lafzimdo_findings`.
 ghost use mathlib.Core.Path.{_≡_};
 ghost use Prim.Native.Nat.{_+_, _*_, _/_, _<_, _≤_};
-ghost use mathlib.Core.List.{[], _∷_};
 ghost use lib.ListN.{length, take};
 ghost use Rattle.format.specs.ReadChunk.{read};
 ghost use Rattle.lent.specs.Splice.{splice};
@@ -12,6 +11,7 @@ ghost use Rattle.finding_list.specs.FindingNumbers.{ruleNumber, offendin
 use boundary::limits_of;
 use boundary::refused;
 use boundary::signed::complement_of;
+use boundary::two;
 use finding_plan::FindingsAnswer;
 use finding_plan::forward;
 use finding_plan::prepare;
@@ -83,12 +83,6 @@ fn write_findings(
         p = step.next;
         k += 1;
     }
-}
-
-fn two(a: u64, b: u64) -> [u64; 2]
-    ensures { λ r. ⌜ r ≡ a ∷ b ∷ [] ⌝ }
-{
-    [a, b]
 }
 
 // The verdict and the number of findings; every decision is taken before the first is written.

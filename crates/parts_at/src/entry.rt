@@ -1,10 +1,10 @@
 // Entries of a function's lists.
 ghost use mathlib.Core.Path.{_≡_};
-ghost use mathlib.Core.List.{[], _∷_};
 ghost use Rattle.boundary.specs.Status.{status, written};
 ghost use Rattle.parts_at.specs.PartNumbers.{upTo, deltaNumber, localNumbersAt, wordAt, constantAt, upvalueAt, deltaAt, anchorAt, localAt, stringAt};
 use boundary::limits_of;
 use boundary::refused;
+use boundary::two;
 use entries::code::UpvalueResult;
 use entries::code::read_upvalue;
 use lists::constant::ConstantResult;
@@ -28,12 +28,6 @@ use reader::field::read_u32_le;
 use reader::string::OptionString;
 use reader::string::StringResult;
 use reader::string::read_string_lua54;
-
-fn two(a: u64, b: u64) -> [u64; 2]
-    ensures { λ r. ⌜ r ≡ a ∷ b ∷ [] ⌝ }
-{
-    [a, b]
-}
 
 // Numbers, and the place behind.
 fn up_to_two(n: [u64; 2], to: usize) -> [u64; 3]
