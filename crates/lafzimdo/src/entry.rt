@@ -2,35 +2,29 @@
 ghost use mathlib.Core.Path.{_≡_};
 ghost use Rattle.format.specs.ReadChunk.{read};
 ghost use Rattle.access.specs.Asked.{entryOf};
-ghost use Rattle.show_entry.specs.Entries.{shownWord, shownUpvalue, shownAnchor, shownName};
-ghost use Rattle.lafzimdo.specs.Status.{limitsOf, status, written};
-ghost use Rattle.lafzimdo.specs.Numbers.{upvalueNumbers, anchorNumbers, stringNumbers, ofWord, ofUpvalue, ofAnchor, ofName};
-use crate::status::limits_of;
-use crate::status::one;
-use crate::status::refused;
-use crate::strings::string_numbers;
-use format::entry::AbsLineInfo;
-use format::entry::UpvalueDesc;
+ghost use Rattle.show_entry.specs.Entries.{shownWord, shownConstant, shownUpvalue, shownDelta, shownAnchor, shownName};
+ghost use Rattle.boundary.specs.Status.{limitsOf, status, written};
+ghost use Rattle.numbers.specs.Numbers.{ofWord, ofConstant, ofUpvalue, ofDelta, ofAnchor, ofName};
+use boundary::limits_of;
+use boundary::one;
+use boundary::refused;
+use boundary::signed::complement_of_i8;
+use numbers::entry::anchor_numbers;
+use numbers::entry::constant_numbers;
+use numbers::entry::upvalue_numbers;
+use numbers::strings::string_numbers;
 use show_entry::AnchorAnswer;
+use show_entry::ConstantAnswer;
+use show_entry::DeltaAnswer;
 use show_entry::NameAnswer;
 use show_entry::UpvalueAnswer;
 use show_entry::WordAnswer;
 use show_entry::anchor;
+use show_entry::constant;
+use show_entry::delta;
 use show_entry::instruction;
 use show_entry::upvalue;
 use show_entry::upvalue_name;
-
-fn upvalue_numbers(y: UpvalueDesc) -> [u64; 3]
-    ensures { λ r. ⌜ r ≡ upvalueNumbers y ⌝ }
-{
-    [y.instack as u64, y.idx as u64, y.kind as u64]
-}
-
-fn anchor_numbers(y: AbsLineInfo) -> [u64; 2]
-    ensures { λ r. ⌜ r ≡ anchorNumbers y ⌝ }
-{
-    [y.pc as u64, y.line as u64]
-}
 
 // Ruled out: a word of another function, 24 before 23.
 #[no_mangle]
@@ -54,6 +48,28 @@ pub extern "C" fn lafzimdo_instruction(
     }
 }
 
+// Ruled out: true shown as false, a string's place at its size, an integer without its sign.
+#[no_mangle]
+pub extern "C" fn lafzimdo_constant(
+    chunk: &[u8],
+    limits: &[u64; 9],
+    function: usize,
+    entry: usize,
+    out: &mut [u64; 3],
+) -> u64
+    ensures { λ r. ⌜ r ≡ status (ofConstant (shownConstant (entryOf (λ p. p .constants) function entry (read (limitsOf (now (limits .entry))) (now (chunk .entry)))))) ⌝ }
+    ensures { λ _. ⌜ now (out .exit) ≡ written (ofConstant (shownConstant (entryOf (λ p. p .constants) function entry (read (limitsOf (now (limits .entry))) (now (chunk .entry)))))) (now (out .entry)) ⌝ }
+{
+    let answer = constant(chunk, limits_of(limits), function, entry);
+    match answer {
+        ConstantAnswer::Err(q) => refused(q),
+        ConstantAnswer::Ok(k) => {
+            *out = constant_numbers(k);
+            0
+        }
+    }
+}
+
 // Ruled out: its three bytes in another order, an array that is touched where the answer is a refusal.
 #[no_mangle]
 pub extern "C" fn lafzimdo_upvalue(
@@ -71,6 +87,28 @@ pub extern "C" fn lafzimdo_upvalue(
         UpvalueAnswer::Err(q) => refused(q),
         UpvalueAnswer::Ok(y) => {
             *out = upvalue_numbers(y);
+            0
+        }
+    }
+}
+
+// Ruled out: a byte from 128 up shown as it stands, its eight bits not filled up to 64.
+#[no_mangle]
+pub extern "C" fn lafzimdo_delta(
+    chunk: &[u8],
+    limits: &[u64; 9],
+    function: usize,
+    entry: usize,
+    out: &mut [u64; 1],
+) -> u64
+    ensures { λ r. ⌜ r ≡ status (ofDelta (shownDelta (entryOf (λ p. p .line-info) function entry (read (limitsOf (now (limits .entry))) (now (chunk .entry)))))) ⌝ }
+    ensures { λ _. ⌜ now (out .exit) ≡ written (ofDelta (shownDelta (entryOf (λ p. p .line-info) function entry (read (limitsOf (now (limits .entry))) (now (chunk .entry)))))) (now (out .entry)) ⌝ }
+{
+    let answer = delta(chunk, limits_of(limits), function, entry);
+    match answer {
+        DeltaAnswer::Err(q) => refused(q),
+        DeltaAnswer::Ok(z) => {
+            *out = one(complement_of_i8(z));
             0
         }
     }

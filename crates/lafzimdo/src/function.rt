@@ -4,46 +4,16 @@ ghost use Rattle.format.specs.ReadChunk.{read};
 ghost use Rattle.access.specs.Asked.{functionOf};
 ghost use Rattle.show_chunk.specs.Fields.{shownFields};
 ghost use Rattle.lines.specs.Lines.{shownLine};
-ghost use Rattle.lafzimdo.specs.Status.{limitsOf, status, written};
-ghost use Rattle.lafzimdo.specs.Numbers.{fieldsNumbers, ofFields, ofLine};
-use crate::status::limits_of;
-use crate::status::one;
-use crate::status::refused;
-use crate::strings::length_number;
-use crate::strings::place_number;
-use crate::strings::present_number;
+ghost use Rattle.boundary.specs.Status.{limitsOf, status, written};
+ghost use Rattle.numbers.specs.Numbers.{ofFields, ofLine};
+use boundary::limits_of;
+use boundary::one;
+use boundary::refused;
 use lines::line::LineAnswer;
 use lines::line::get_line_for_pc;
+use numbers::fields::fields_numbers;
 use show_chunk::fields::FieldsAnswer;
-use show_chunk::fields::FunctionFields;
 use show_chunk::fields::function_fields;
-
-fn fields_numbers(y: FunctionFields) -> [u64; 18]
-    ensures { λ r. ⌜ r ≡ fieldsNumbers y ⌝ }
-{
-    let source = y.source_name;
-    let counts = y.counts;
-    [
-        y.depth as u64,
-        y.parent as u64,
-        present_number(source),
-        place_number(source),
-        length_number(source),
-        y.line_defined as u64,
-        y.last_line_defined as u64,
-        y.numparams as u64,
-        y.is_vararg as u64,
-        y.maxstacksize as u64,
-        counts.instructions as u64,
-        counts.constants as u64,
-        counts.upvalues as u64,
-        counts.protos as u64,
-        counts.line_info as u64,
-        counts.abs_line_info as u64,
-        counts.loc_vars as u64,
-        counts.upvalue_names as u64,
-    ]
-}
 
 // Ruled out: nested functions that all show main's fields, an array that is touched where the answer is a refusal.
 #[no_mangle]

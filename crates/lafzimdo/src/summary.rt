@@ -2,64 +2,13 @@
 ghost use mathlib.Core.Path.{_≡_};
 ghost use Rattle.format.specs.ReadChunk.{read};
 ghost use Rattle.show_chunk.specs.Summaries.{shownSummary};
-ghost use Rattle.lafzimdo.specs.Status.{limitsOf, status, written};
-ghost use Rattle.lafzimdo.specs.Numbers.{warningCode, warningPlace, summaryNumbers, ofSummary};
-use crate::status::limits_of;
-use crate::status::refused;
-use decode::summary::Summary;
-use format::header::Warning;
-use header::OptionWarning;
+ghost use Rattle.boundary.specs.Status.{limitsOf, status, written};
+ghost use Rattle.numbers.specs.Numbers.{ofSummary};
+use boundary::limits_of;
+use boundary::refused;
+use numbers::summary::summary_numbers;
 use show_chunk::summary::SummaryAnswer;
 use show_chunk::summary::chunk_summary;
-
-fn warning_code(w: OptionWarning) -> u64
-    ensures { λ r. ⌜ r ≡ warningCode w ⌝ }
-{
-    match w {
-        OptionWarning::None => 0,
-        OptionWarning::Some(warning) => match warning {
-            Warning::NonStandardFormat(_) => 1,
-            Warning::TrailingBytes(_) => 2,
-        },
-    }
-}
-
-fn warning_place(w: OptionWarning) -> u64
-    ensures { λ r. ⌜ r ≡ warningPlace w ⌝ }
-{
-    match w {
-        OptionWarning::None => 0,
-        OptionWarning::Some(warning) => match warning {
-            Warning::NonStandardFormat(place) => place as u64,
-            Warning::TrailingBytes(place) => place as u64,
-        },
-    }
-}
-
-fn summary_numbers(y: Summary) -> [u64; 14]
-    ensures { λ r. ⌜ r ≡ summaryNumbers y ⌝ }
-{
-    let header = y.header;
-    let warnings = y.warnings;
-    let first = warnings.first;
-    let second = warnings.second;
-    [
-        header.version as u64,
-        header.format as u64,
-        header.instruction_size as u64,
-        header.lua_integer_size as u64,
-        header.sizeof_sizet as u64,
-        header.lua_number_size as u64,
-        header.luac_num,
-        y.functions as u64,
-        y.trailing_at as u64,
-        y.trailing_len as u64,
-        warning_code(first),
-        warning_place(first),
-        warning_code(second),
-        warning_place(second),
-    ]
-}
 
 // Ruled out: every chunk called cut short, an array that is touched where the answer is a refusal.
 #[no_mangle]

@@ -3,28 +3,18 @@ ghost use mathlib.Core.Path.{_≡_};
 ghost use Rattle.format.specs.ReadChunk.{read};
 ghost use Rattle.copy.specs.Copied.{shownLength};
 ghost use Rattle.validator.specs.Answers.{shownVerdict, shownCount};
-ghost use Rattle.lafzimdo.specs.Status.{limitsOf, status, written};
-ghost use Rattle.lafzimdo.specs.Numbers.{verdictNumber, ofCopy, ofVerdict, ofCount};
-use crate::status::limits_of;
-use crate::status::one;
-use crate::status::refused;
+ghost use Rattle.boundary.specs.Status.{limitsOf, status, written};
+ghost use Rattle.numbers.specs.Numbers.{ofCopy, ofVerdict, ofCount};
+use boundary::limits_of;
+use boundary::one;
+use boundary::refused;
 use copy::copy_length;
 use copy::whole::CopyAnswer;
-use rules::finding::Verdict;
+use numbers::verdict_number;
 use validator::verdict::CountAnswer;
 use validator::verdict::VerdictAnswer;
 use validator::verdict::chunk_verdict;
 use validator::verdict::finding_count;
-
-fn verdict_number(v: Verdict) -> u64
-    ensures { λ r. ⌜ r ≡ verdictNumber v ⌝ }
-{
-    match v {
-        Verdict::ValidForAnalysis => 0,
-        Verdict::Invalid => 1,
-        Verdict::Incomplete => 2,
-    }
-}
 
 // Ruled out: the length of the chunk itself, a length for a chunk that is refused.
 #[no_mangle]

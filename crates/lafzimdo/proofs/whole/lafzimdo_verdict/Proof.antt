@@ -1,11 +1,11 @@
 -- `lafzimdo::whole::lafzimdo_verdict` meets its contract: by what the call behind it answers. Assumes nothing.
-use mathlib.Core.Path.{sym, _∙_, ap}
+use mathlib.Core.Path.{refl, _∙_, ap}
 use mathlib.Core.List.{[], _∷_}
 use borrow.Author.Needs.{needs}
 use Rattle.format.specs.ReadChunk.{read}
 use Rattle.validator.specs.Answers.{shownVerdict}
-use Rattle.lafzimdo.specs.Status.{status, written}
-use Rattle.lafzimdo.specs.Numbers.{ofVerdict}
+use Rattle.boundary.proofs.Calls.{call-refuses, call-answers}
+use Rattle.numbers.specs.Numbers.{ofVerdict}
 use Rattle.lafzimdo.proofs.whole.lafzimdo_verdict.Statement.{statement}
 use Rattle.lafzimdo.proofs.whole.lafzimdo_verdict.Tie as tie
 
@@ -15,10 +15,10 @@ lafzimdo-verdict-spec =
     (tie.spec
     (λ c κs. search needs) (λ c κs. search needs) (λ c. search needs) (λ c κs. search needs) (λ c. search needs) (λ c κs. search needs) (λ c κs. search needs)
     (λ c.
-    let a = c .before .before .before .before .before .before .before .args in
-    let e = sym (c .before .before .answer .given .1) ∙ c .before .before .before .before .chunk-verdict .ensures ∙ ap (λ L. shownVerdict (read L (a .chunk .now))) (c .before .before .before .before .before .limits-of .ensures) in
-    (c .refused .ensures ∙ ap (λ x. status (ofVerdict x)) e, ap (λ x. written (ofVerdict x) (a .out .now)) e))
+    let k = c .before .before .before .before in
+    let a = k .before .before .before .args in
+    call-refuses ofVerdict (λ L. shownVerdict (read L (a .chunk .now))) (a .out .now) (k .before .limits-of .ensures) (k .chunk-verdict .ensures) (c .before .before .answer .given .1) refl (c .refused .ensures))
     (λ c.
-    let a = c .before .before .before .before .before .before .before .before .args in
-    let e = sym (c .before .before .before .answer2 .given .1) ∙ c .before .before .before .before .before .chunk-verdict .ensures ∙ ap (λ L. shownVerdict (read L (a .chunk .now))) (c .before .before .before .before .before .before .limits-of .ensures) in
-    (ap (λ x. status (ofVerdict x)) e, c .one .ensures ∙ ap (λ n. n ∷ []) (c .before .verdict-number .ensures) ∙ ap (λ x. written (ofVerdict x) (a .out .now)) e)))
+    let k = c .before .before .before .before .before in
+    let a = k .before .before .before .args in
+    call-answers ofVerdict (λ L. shownVerdict (read L (a .chunk .now))) (a .out .now) (k .before .limits-of .ensures) (k .chunk-verdict .ensures) (c .before .before .before .answer2 .given .1) refl (c .one .ensures ∙ ap (λ n. n ∷ []) (c .before .verdict-number .ensures))))

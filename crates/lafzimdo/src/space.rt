@@ -1,0 +1,92 @@
+// What is written into memory that the caller lends beside the array: the index, the copy, a local variable's name.
+ghost use mathlib.Core.Path.{_≡_};
+ghost use lib.ListN.{length};
+ghost use Rattle.format.specs.ReadChunk.{read};
+ghost use Rattle.access.specs.Asked.{entryOf};
+ghost use Rattle.copy.specs.Copied.{shownCopy, copyWritten};
+ghost use Rattle.index.specs.Index.{shownIndex, indexWritten};
+ghost use Rattle.show_local.specs.Locals.{shownLocal, nameWritten};
+ghost use Rattle.boundary.specs.Status.{limitsOf, status, written};
+ghost use Rattle.numbers.specs.Numbers.{ofIndex, ofCopy, ofLocal};
+use boundary::limits_of;
+use boundary::one;
+use boundary::refused;
+use copy::encode_chunk_lua54;
+use copy::whole::CopyAnswer;
+use index::IndexAnswer;
+use index::function_index;
+use numbers::entry::local_numbers;
+use show_local::LocalAnswer;
+use show_local::local;
+
+// Ruled out: the number of numbers in place of the number of functions, rows touched where they have no room.
+#[no_mangle]
+pub extern "C" fn lafzimdo_index(
+    chunk: &[u8],
+    limits: &[u64; 9],
+    rows: &mut [u32],
+    out: &mut [u64; 1],
+) -> u64
+    ensures { λ r. ⌜ r ≡ status (ofIndex (shownIndex (length (now (rows .entry))) (read (limitsOf (now (limits .entry))) (now (chunk .entry))))) ⌝ }
+    ensures { λ _. ⌜ now (out .exit) ≡ written (ofIndex (shownIndex (length (now (rows .entry))) (read (limitsOf (now (limits .entry))) (now (chunk .entry))))) (now (out .entry)) ⌝ }
+    ensures { λ _. ⌜ now (rows .exit) ≡ indexWritten (now (rows .entry)) (read (limitsOf (now (limits .entry))) (now (chunk .entry))) ⌝ }
+{
+    let answer = function_index(chunk, limits_of(limits), rows);
+    match answer {
+        IndexAnswer::Err(q) => refused(q),
+        IndexAnswer::Ok(n) => {
+            *out = one(n as u64);
+            0
+        }
+    }
+}
+
+// Ruled out: the chunk handed back, a copy that is cut to the lent memory.
+#[no_mangle]
+pub extern "C" fn lafzimdo_copy(
+    chunk: &[u8],
+    limits: &[u64; 9],
+    copy: &mut [u8],
+    out: &mut [u64; 1],
+) -> u64
+    ensures { λ r. ⌜ r ≡ status (ofCopy (shownCopy (length (now (copy .entry))) (read (limitsOf (now (limits .entry))) (now (chunk .entry))))) ⌝ }
+    ensures { λ _. ⌜ now (out .exit) ≡ written (ofCopy (shownCopy (length (now (copy .entry))) (read (limitsOf (now (limits .entry))) (now (chunk .entry))))) (now (out .entry)) ⌝ }
+    ensures { λ _. ⌜ now (copy .exit) ≡ copyWritten (now (copy .entry)) (read (limitsOf (now (limits .entry))) (now (chunk .entry))) ⌝ }
+{
+    let answer = encode_chunk_lua54(chunk, limits_of(limits), copy);
+    match answer {
+        CopyAnswer::Err(q) => refused(q),
+        CopyAnswer::Ok(n) => {
+            *out = one(n as u64);
+            0
+        }
+    }
+}
+
+// Ruled out: startpc and endpc exchanged, the length of what is lent in place of the name's.
+#[no_mangle]
+pub extern "C" fn lafzimdo_local(
+    chunk: &[u8],
+    limits: &[u64; 9],
+    function: usize,
+    entry: usize,
+    name: &mut [u8],
+    out: &mut [u64; 3],
+) -> u64
+    ensures { λ r. ⌜ r ≡ status (ofLocal (shownLocal (length (now (name .entry))) (entryOf (λ p. p .loc-vars) function entry (read (limitsOf (now (limits .entry))) (now (chunk .entry)))))) ⌝ }
+    ensures { λ _. ⌜ now (out .exit) ≡ written (ofLocal (shownLocal (length (now (name .entry))) (entryOf (λ p. p .loc-vars) function entry (read (limitsOf (now (limits .entry))) (now (chunk .entry)))))) (now (out .entry)) ⌝ }
+    ensures { λ _. ⌜ now (name .exit) ≡ nameWritten (now (name .entry)) (entryOf (λ p. p .loc-vars) function entry (read (limitsOf (now (limits .entry))) (now (chunk .entry)))) ⌝ }
+{
+    let answer = local(chunk, limits_of(limits), function, entry, name);
+    match answer {
+        LocalAnswer::Err(q) => refused(q),
+        LocalAnswer::Ok {
+            name_len,
+            startpc,
+            endpc,
+        } => {
+            *out = local_numbers(name_len, startpc, endpc);
+            0
+        }
+    }
+}

@@ -1,0 +1,37 @@
+// A string as numbers: whether it is there, its place, its length.
+ghost use mathlib.Core.Path.{_≡_};
+ghost use Rattle.numbers.specs.Numbers.{presentNumber, placeNumber, lengthNumber, stringNumbers};
+use reader::string::OptionString;
+
+pub fn present_number(t: OptionString) -> u64
+    ensures { λ r. ⌜ r ≡ presentNumber t ⌝ }
+{
+    match t {
+        OptionString::None => 0,
+        OptionString::Some(_) => 1,
+    }
+}
+
+pub fn place_number(t: OptionString) -> u64
+    ensures { λ r. ⌜ r ≡ placeNumber t ⌝ }
+{
+    match t {
+        OptionString::None => 0,
+        OptionString::Some(at) => at.place as u64,
+    }
+}
+
+pub fn length_number(t: OptionString) -> u64
+    ensures { λ r. ⌜ r ≡ lengthNumber t ⌝ }
+{
+    match t {
+        OptionString::None => 0,
+        OptionString::Some(at) => at.len as u64,
+    }
+}
+
+pub fn string_numbers(t: OptionString) -> [u64; 3]
+    ensures { λ r. ⌜ r ≡ stringNumbers t ⌝ }
+{
+    [present_number(t), place_number(t), length_number(t)]
+}
