@@ -4,7 +4,6 @@
  * memory that is lent beside it. It returns 0, or a refusal as one number, and then `out` and lent memory are as they were. What each call promises is its contract in crates/lafzimdo/src.
  * A pointer must be good for the length that goes with it and must not be null, also where the length is 0; `out` and lent memory must overlap nothing else.
  * A negative number stands in `out` as its two's complement: cast it to int64_t.
- * To come: the list of findings.
  */
 #ifndef LAFZIMDO_H
 #define LAFZIMDO_H
@@ -73,11 +72,47 @@ uint64_t lafzimdo_verdict(const uint8_t *chunk, size_t len, const uint64_t limit
 /* how many findings there are */
 uint64_t lafzimdo_finding_count(const uint8_t *chunk, size_t len, const uint64_t limits[9], uint64_t out[1]);
 
+/* the verdict, how many findings there are; for each, in the order found, 4 numbers at the front of `list`: its function, its instruction's number, its rule (1 opcode, 2 register, 3 constant, 4 upvalue,
+ * 5 table upvalue, 6 prototype, 7 jump) and the offending number (a jump's target may be negative). Only rule 2 is a warning. Refusal 26 where `list` is shorter; 40,004 numbers are always enough. */
+uint64_t lafzimdo_findings(const uint8_t *chunk, size_t len, const uint64_t limits[9], uint64_t *list, size_t list_len, uint64_t out[2]);
+
 /* The fields of an instruction word: opcode, mode (0 iABC, 1 iABx, 2 iAsBx, 3 iAx, 4 isJ, 5 no such opcode), a, k, b, sb, c, sc, bx, sbx, ax, sj. Always 0. */
 uint64_t lafzimdo_decode(uint32_t word, uint64_t out[12]);
 
 /* The word of an opcode and of the fields that its mode uses. Refusal 28 where there is no such opcode, 27 where a field that is used does not fit. */
 uint64_t lafzimdo_encode(uint8_t op, uint8_t a, uint8_t k, uint8_t b, uint8_t c, uint32_t bx, int32_t sbx, uint32_t ax, int32_t sj, uint64_t out[1]);
+
+/* Parts at a place. The calls above take a pass over the chunk each; these take none, and cost what the part costs. They are for going on, in a chunk that was read, from a place that the
+ * index or another part gave. 21 and 22 are not asked; a string, a list's count and the instructions of this one function are held against their limits, totals of the chunk are not counted.
+ * At a place where no such part begins, the answer is what those bytes spell; at or behind the end of the chunk there are none. Each also gives the place behind the part. */
+
+/* the function that begins at `place`, up to the functions that nest in it: whether there is a source, its place, its length; first line, last line; parameters, vararg, stack;
+ * count and place of instructions, constants, upvalues, nested functions (where the first nested function begins, or with none the tail) */
+uint64_t lafzimdo_head_at(const uint8_t *chunk, size_t len, const uint64_t limits[9], size_t place, uint64_t out[16]);
+
+/* the rest of a function, from the place behind its nested functions on: count and place of deltas, anchors, locals, upvalue names; the place behind the function */
+uint64_t lafzimdo_tail_at(const uint8_t *chunk, size_t len, const uint64_t limits[9], size_t place, uint64_t out[9]);
+
+/* the word; the place behind */
+uint64_t lafzimdo_word_at(const uint8_t *chunk, size_t len, const uint64_t limits[9], size_t place, uint64_t out[2]);
+
+/* tag, value or a string's place, a string's length, as lafzimdo_constant has them; the place behind */
+uint64_t lafzimdo_constant_at(const uint8_t *chunk, size_t len, const uint64_t limits[9], size_t place, uint64_t out[4]);
+
+/* instack, idx, kind; the place behind */
+uint64_t lafzimdo_upvalue_at(const uint8_t *chunk, size_t len, const uint64_t limits[9], size_t place, uint64_t out[4]);
+
+/* the delta, signed; the place behind */
+uint64_t lafzimdo_delta_at(const uint8_t *chunk, size_t len, const uint64_t limits[9], size_t place, uint64_t out[2]);
+
+/* pc, line; the place behind */
+uint64_t lafzimdo_anchor_at(const uint8_t *chunk, size_t len, const uint64_t limits[9], size_t place, uint64_t out[3]);
+
+/* whether there is a name (an absent one reads as `?`), its place, its length; startpc, endpc; the place behind */
+uint64_t lafzimdo_local_at(const uint8_t *chunk, size_t len, const uint64_t limits[9], size_t place, uint64_t out[6]);
+
+/* whether there is a string, its place, its length; the place behind (upvalue names) */
+uint64_t lafzimdo_string_at(const uint8_t *chunk, size_t len, const uint64_t limits[9], size_t place, uint64_t out[4]);
 
 #ifdef __cplusplus
 }

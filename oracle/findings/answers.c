@@ -1,34 +1,56 @@
-/* Answers requests on chunks by the lent list of findings: verdict, number of findings, findings, in the text of docs/PROTOCOL.md. With the argument `time` it times
-   one large chunk instead. Built by compare.py over the static library of crates/findings_c. */
-#include <stdint.h>
+/* Answers requests on chunks by the lent list of findings: verdict, number of findings, findings, or the refusal, in the text of docs/PROTOCOL.md. Each chunk is asked four times: with a list
+   that is longer than any, with one that is exactly long enough, with three numbers more, and with one too short by a number. What is lent is filled before; where a call touches what it should not,
+   or the four disagree, a line says so. With the argument `time` it times one large chunk instead. Built by compare.py over the static library. */
 #include <stdio.h>
 #include <stdlib.h>
 #include <string.h>
 #include <time.h>
 
-uint64_t lafzimdo_findings(const uint64_t *limits, size_t n, const uint8_t *chunk, size_t len);
-int64_t lafzimdo_finding(const uint64_t *limits, size_t n, const uint8_t *chunk, size_t len, size_t k, uint8_t field);
-uint64_t lafzimdo_verdict(const uint64_t *limits, size_t n, const uint8_t *chunk, size_t len);
+#include "../../include/lafzimdo.h"
+
+#define BEFORE 0xa5a5a5a5a5a5a5a5u
+#define LONGEST (4 * 10001 + 8)
 
 static const char *verdicts[] = {"valid-for-analysis", "invalid", "incomplete"};
-static const char *rules[] = {"OPCODE-001", "REG-001", "CONST-001", "UPVAL-001", "UPVAL-002", "PROTO-001", "JUMP-001"};
+static const char *rules[] = {"", "OPCODE-001", "REG-001", "CONST-001", "UPVAL-001", "UPVAL-002", "PROTO-001", "JUMP-001"};
 static char line[1 << 21];
 static uint8_t bytes[1 << 20];
+static uint64_t list[LONGEST], again[LONGEST], out[2];
 
 /* of a long list some records: the first, the last and every thousandth */
 static int shown(size_t k, size_t n) { return n <= 200 || k == 0 || k + 1 == n || k % 1000 == 0; }
 
+/* The call on a list of `room` numbers: of a refusal all must be as it was, else all behind the findings. */
+static uint64_t ask(const uint64_t *limits, const uint8_t *chunk, size_t len, uint64_t *to, size_t room) {
+    for (size_t i = 0; i < LONGEST; i++) to[i] = BEFORE;
+    out[0] = out[1] = BEFORE;
+    uint64_t r = lafzimdo_findings(chunk, len, limits, to, room, out);
+    size_t written = r ? 0 : 4 * out[1];
+    for (size_t i = written; i < LONGEST; i++)
+        if (to[i] != BEFORE) printf("touched %zu of the list\n", i);
+    if (r && (out[0] != BEFORE || out[1] != BEFORE)) printf("touched the answer\n");
+    return r;
+}
+
+static void refusal(uint64_t r) {
+    printf("refused %u ", LAFZIMDO_NUMBER(r));
+    if (LAFZIMDO_HAS_PLACE(r)) printf("%llu\n", (unsigned long long)LAFZIMDO_PLACE(r));
+    else printf("-\n");
+}
+
 static void answer(const uint64_t *limits, const uint8_t *chunk, size_t len) {
-    uint64_t r = lafzimdo_findings(limits, 9, chunk, len);
-    if (r >= 1000000) { printf("refused %d\n", (int)(r - 1000000)); return; }
-    size_t n = r % 65536;
-    printf("verdict %s\nfindings %zu\n", verdicts[r / 65536], n);
+    uint64_t r = ask(limits, chunk, len, list, LONGEST);
+    if (r) { refusal(r); return; }
+    uint64_t verdict = out[0], n = out[1];
+    printf("verdict %s\nfindings %llu\n", verdicts[verdict], (unsigned long long)n);
     for (size_t k = 0; k < n; k++) {
         if (!shown(k, n)) continue;
-        long long f[4];
-        for (int i = 0; i < 4; i++) f[i] = lafzimdo_finding(limits, 9, chunk, len, k, i);
-        printf("finding %lld %lld %s %lld %s\n", f[0], f[1], rules[f[2]], f[3], f[2] == 1 ? "warning" : "error");
+        const uint64_t *f = list + 4 * k;
+        printf("finding %llu %llu %s %lld %s\n", (unsigned long long)f[0], (unsigned long long)f[1], rules[f[2]], (long long)f[3], f[2] == 2 ? "warning" : "error");
     }
+    for (size_t room = 4 * n; room <= 4 * n + 3; room += 3)
+        if (ask(limits, chunk, len, again, room) || out[0] != verdict || out[1] != n || memcmp(list, again, sizeof list)) printf("another answer with %zu numbers\n", room);
+    if (n && ask(limits, chunk, len, again, 4 * n - 1) != 26) printf("no refusal with %llu numbers\n", (unsigned long long)(4 * n - 1));
 }
 
 static double now(void) {
@@ -65,16 +87,18 @@ static size_t build(uint8_t *to, size_t nested, size_t pad) {
 }
 
 static void timing(void) {
-    uint64_t top[9] = {16777216, 200, 16777216, 16777216, 16777216, 16777216, 16777216, 16777216, 10000};
+    uint64_t top[9] = LAFZIMDO_CEILINGS;
     uint8_t *big = malloc(20 << 20);
     size_t len = build(big, 10001, 1650);
     for (int i = 0; i < 3; i++) {
+        uint64_t v[1];
         double a = now();
-        uint64_t v = lafzimdo_verdict(top, 9, big, len);
+        uint64_t r = lafzimdo_verdict(big, len, top, v);
         double b = now();
-        uint64_t f = lafzimdo_findings(top, 9, big, len);
+        uint64_t f = lafzimdo_findings(big, len, top, list, LONGEST, out);
         double c = now();
-        printf("%zu bytes, 10,001 functions: verdict %s %.2f ms, with the list (%d findings) %.2f ms\n", len, v < 3 ? verdicts[v] : "refused", b - a, (int)(f % 65536), c - b);
+        if (r || f) { printf("refused\n"); return; }
+        printf("%zu bytes, 10,001 functions: verdict %s %.2f ms, with the list (%llu findings) %.2f ms\n", len, verdicts[v[0]], b - a, (unsigned long long)out[1], c - b);
     }
 }
 

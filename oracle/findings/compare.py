@@ -1,6 +1,7 @@
 #!/usr/bin/env python3
-# Compares the lent list of findings with the unchanged Rust: on every chunk of chunks.py and large.py the refusal's number, the verdict, how many findings there are, and the
-# findings (of a list of more than 200 some of them). Needs the judge (oracle/build.sh), `rt staticlib findings_c` and a C compiler; builds target/findings-answers.
+# Compares the lent list of findings with the unchanged Rust: on every chunk of chunks.py and large.py the refusal with its place, the verdict, how many findings there are, and the
+# findings (of a list of more than 200 some of them). Needs the judge (oracle/build.sh), `rt staticlib lafzimdo` (or the library in the folder LAFZIMDO_LIB) and a C compiler; builds target/findings-answers.
+import os
 import pathlib
 import subprocess
 import sys
@@ -8,7 +9,8 @@ import sys
 here = pathlib.Path(__file__).resolve().parent
 top = here.parent.parent
 program = top / "target/findings-answers"
-subprocess.run(["cc", "-O2", here / "answers.c", top / "target/staticlib/libfindings_c.a", "-o", program], check=True)
+library = pathlib.Path(os.environ.get("LAFZIMDO_LIB", top / "target/staticlib")) / "liblafzimdo.a"
+subprocess.run(["cc", "-O2", here / "answers.c", library, "-o", program], check=True)
 
 
 def shown(k, n):
@@ -21,7 +23,7 @@ def compared(lines):
     kept = [l for k, l in enumerate(found) if shown(k, len(found))]
     for l in lines:
         if l.startswith("refused "):
-            return ["refused " + l.split()[1]]
+            return [l]
     return [l for l in lines if l.startswith(("verdict ", "findings "))] + kept
 
 

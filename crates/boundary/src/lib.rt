@@ -49,9 +49,15 @@ pub fn refused(q: Refusal) -> u64
     with_place(report.number as u32, place)
 }
 
-// One number in an array.
+// One number in an array, and two.
 pub fn one(n: u64) -> [u64; 1]
     ensures { λ r. ⌜ r ≡ n ∷ [] ⌝ }
 {
     [n]
+}
+
+pub fn two(n: u64, m: u64) -> [u64; 2]
+    ensures { λ r. ⌜ r ≡ n ∷ m ∷ [] ⌝ }
+{
+    [n, m]
 }

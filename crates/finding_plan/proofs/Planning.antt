@@ -2,7 +2,7 @@
 -- Assumes nothing.
 use mathlib.Core.Path.{_≡_, refl, sym, ap, _∙_}
 use mathlib.Core.Bool.{Bool, true, false}
-use mathlib.Core.List.{List}
+use mathlib.Core.List.{List, []}
 use Prim.Native.Nat.{ℕ, _≤_, _<_}
 use native.Mathlib.Omega.{arith}
 use lib.Dec.{leb}
@@ -26,7 +26,7 @@ use Rattle.rules.specs.declared.finding.Verdict.{Verdict}
 use Rattle.validator.specs.declared.search.Position.{Position}
 use Rattle.validator.specs.declared.tally.Totals.{Totals}
 use Rattle.finding_plan.specs.declared.FindingsAnswer.the-variants as answer
-use Rattle.finding_plan.specs.Listed.{listingAnswer, listingWritten, shownFindings, findingsWritten}
+use Rattle.finding_plan.specs.Listed.{listingAnswer, listingWritten, shownFindings, findingsWritten, foundIn}
 use Rattle.finding_plan.specs.Plan.{refusedPlan, planOf, written, Planned}
 
 pub was-refused : (o : Outcome) (q : Refusal) → decoded.Err q ≡ shownOutcome 0 o → o ≡ refusal q
@@ -39,6 +39,7 @@ module _ (L : ResourceLimits) (s : Bytes) (room : ℕ) (start : Position) where
   plan-refused q is = record {
     answers = ap (shownFindings room) (sym is);
     leaves = λ old e. ap (findingsWritten old) (sym is);
+    found = ap (foundIn room) (sym is);
     within = omega arith;
     there = omega arith;
     limited = λ h. absurd (omega arith);
@@ -54,12 +55,16 @@ module _ (L : ResourceLimits) (s : Bytes) (room : ℕ) (start : Position) where
     list-is : (old : List Finding) → findingsWritten old (read L s) ≡ listingWritten old (all .findings)
     list-is old = ap (findingsWritten old) is ∙ ap (λ l. listingWritten old (l .findings)) (sym same)
 
+    found-is : foundIn room (read L s) ≡ pick (leb (length (all .findings)) room) (all .findings) []
+    found-is = ap (foundIn room) is ∙ ap (λ l. pick (leb (length (l .findings)) room) (l .findings) []) (sym same)
+
     by-room : (b : Bool) → leb (length (all .findings)) room ≡ b
         → Planned L s room (pick b (record { answer = answer.Ok (verdict all) (length (all .findings)); count = length (all .findings); start = start }) (refusedPlan LentSpace start))
     unfolding written
     by-room true e = record {
       answers = sym (answer-is ∙ rw e);
       leaves = λ old z. rw (take-length) (sym (list-is old ∙ rw (z, e)));
+      found = rw (take-length) (sym (found-is ∙ rw e));
       within = leb-true (length (all .findings)) room e;
       there = omega arith;
       limited = λ h. few;
@@ -67,6 +72,7 @@ module _ (L : ResourceLimits) (s : Bytes) (room : ℕ) (start : Position) where
     by-room false e = record {
       answers = sym (answer-is ∙ rw e);
       leaves = λ old z. sym (list-is old ∙ rw (z, e));
+      found = sym (found-is ∙ rw e);
       within = omega arith;
       there = omega arith;
       limited = λ h. few;

@@ -1,7 +1,8 @@
 -- What `validate_chunk_lua54` answers, and what it leaves of the lent list.
 --     shownFindings room o         the verdict and the number of findings, where o was read; 26 where there is room for fewer, after every other refusal
 --     findingsWritten old o        what then stands in the list that held `old`
-use mathlib.Core.List.{List, _++_}
+--     foundIn room o               the findings that are written where there is room for so many: all, or on a refusal none
+use mathlib.Core.List.{List, [], _++_}
 use Prim.Native.Nat.{ℕ}
 use lib.Dec.{leb}
 use lib.ListN.{length, drop}
@@ -29,3 +30,7 @@ shownFindings room (refusal q) = answer.Err q
 abbrev pub findingsWritten : List Finding → Outcome → List Finding
 findingsWritten old (shown r) = listingWritten old (chunkFindings r .findings)
 findingsWritten old (refusal q) = old
+
+abbrev pub foundIn : ℕ → Outcome → List Finding
+foundIn room (shown r) = pick (leb (length (chunkFindings r .findings)) room) (chunkFindings r .findings) []
+foundIn room (refusal q) = []

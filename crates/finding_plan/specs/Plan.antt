@@ -16,7 +16,7 @@ use Rattle.rules.specs.Findings.{MAX-DIAGNOSTICS, Listing, verdict}
 use Rattle.validator.specs.Position.{outOf}
 use Rattle.finding_plan.specs.declared.FindingsAnswer.the-variants as answer
 use Rattle.finding_plan.specs.declared.Plan.{Plan}
-use Rattle.finding_plan.specs.Listed.{shownFindings, findingsWritten}
+use Rattle.finding_plan.specs.Listed.{shownFindings, findingsWritten, foundIn}
 
 abbrev pub refusedPlan : Refusal → Position → Plan
 refusedPlan q start = record { answer = answer.Err q; count = 0; start = start }
@@ -36,6 +36,7 @@ written l n old = take n (l .findings) ++ drop n old
 pub record Planned (L : ResourceLimits) (s : Bytes) (room : ℕ) (p : Plan) : Type 0 where
   pub answers : p .answer ≡ shownFindings room (read L s)
   pub leaves : (old : List Finding) → length old ≡ room → written (outOf L s MAX-DIAGNOSTICS (p .start)) (p .count) old ≡ findingsWritten old (read L s)
+  pub found : take (p .count) (outOf L s MAX-DIAGNOSTICS (p .start) .findings) ≡ foundIn room (read L s)
   pub within : p .count ≤ room
   pub there : p .count ≤ length (outOf L s MAX-DIAGNOSTICS (p .start) .findings)
   pub limited : 0 < p .count → L .«max_total_instructions» ≤ 16777216

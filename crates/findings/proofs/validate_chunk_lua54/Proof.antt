@@ -63,7 +63,7 @@ use Rattle.validator.specs.Position.{outOf, stepped}
 use Rattle.finding_plan.specs.declared.Plan.{Plan}
 use Rattle.finding_plan.specs.Plan.{written, Planned}
 use Rattle.findings.proofs.Rest.{rest}
-use Rattle.findings.proofs.Steps.{After, at-first, step-found}
+use Rattle.finding_plan.proofs.Steps.{After, at-first, step-found}
 use Rattle.findings.proofs.Filled.{written-zero, written-length, written-next}
 use Rattle.format.proofs.limits.ResourceLimits as L
 use Rattle.format.proofs.limits.ResourceLimits.Laws as L′

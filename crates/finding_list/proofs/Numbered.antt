@@ -1,0 +1,53 @@
+-- The numbers of findings in a list, one finding more at a time.
+--     none-put     of no findings nothing is written
+--     next-put     the numbers of finding k behind those of the k before it
+--     all-put      what the last leaves, by the plan
+-- Assumes nothing.
+use mathlib.Core.Path.{_≡_, refl, sym, ap, _∙_}
+use mathlib.Core.List.{List, [], _∷_, _++_}
+use Prim.Native.Nat.{ℕ, _+_, _*_, _/_, _<_, _≤_}
+use native.Mathlib.Numerals.{add-one}
+use native.Mathlib.Omega.{arith}
+use lib.ListN.{length, getD, take, drop}
+use lib.Seq.{take-suc, length-take-le}
+use Rattle.format.specs.ReadChunk.{Outcome}
+use Rattle.lent.specs.Splice.{splice}
+use Rattle.lent.proofs.Splices.{splice-none, splice-then, splice-front}
+use Rattle.rules.specs.declared.finding.Finding.{Finding}
+use Rattle.finding_plan.specs.Listed.{foundIn}
+use Rattle.finding_list.specs.FindingNumbers.{findingNumbers, listNumbers, numbersWritten}
+
+numbers-length : (fs : List Finding) → length (listNumbers fs) ≡ 4 * length fs
+unfolding listNumbers
+numbers-length [] = refl
+numbers-length (f ∷ fs) = omega (arith, numbers-length fs)
+
+numbers-append : (fs gs : List Finding) → listNumbers (fs ++ gs) ≡ listNumbers fs ++ listNumbers gs
+unfolding listNumbers
+numbers-append [] gs = refl
+numbers-append (f ∷ fs) gs = ap (λ (l : List ℕ). findingNumbers f ++ l) (numbers-append fs gs)
+
+numbers-one : (f : Finding) → listNumbers (f ∷ []) ≡ findingNumbers f
+unfolding listNumbers
+numbers-one f = refl
+
+pub none-put : (fs : List Finding) (old : List ℕ) → old ≡ splice 0 (listNumbers (take 0 fs)) old
+unfolding listNumbers
+none-put fs old = sym (splice-none 0 old)
+
+module _ (fs : List Finding) (old : List ℕ) where
+  pub next-put : (k : ℕ) (f : Finding) (out : List ℕ) → k < length fs → 4 * k + 4 ≤ length old → f ≡ getD fs k f → out ≡ splice 0 (listNumbers (take k fs)) old
+      → splice (4 * k) (findingNumbers f) out ≡ splice 0 (listNumbers (take (k + 1) fs)) old
+  next-put k f out h room e is =
+      let before : length (take k fs) ≡ k = length-take-le k fs (omega arith) in
+      let size : length (listNumbers (take k fs)) ≡ 4 * k = numbers-length (take k fs) ∙ ap (λ (n : ℕ). 4 * n) before in
+      let place : 4 * k ≡ 0 + length (listNumbers (take k fs)) = omega (arith, size) in
+      let more : listNumbers (take (k + 1) fs) ≡ listNumbers (take k fs) ++ findingNumbers f =
+      rw (add-one k, take-suc fs k f h, numbers-append) (ap (λ (x : Finding). listNumbers (take k fs) ++ listNumbers (x ∷ [])) (sym e) ∙ ap (λ (l : List ℕ). listNumbers (take k fs) ++ l) (numbers-one f)) in
+      ap (splice (4 * k) (findingNumbers f)) is
+      ∙ ap (λ (n : ℕ). splice n (findingNumbers f) (splice 0 (listNumbers (take k fs)) old)) place
+      ∙ splice-then 0 (listNumbers (take k fs)) (findingNumbers f) old (omega (arith, size))
+      ∙ ap (λ (l : List ℕ). splice 0 l old) (sym more)
+
+  pub all-put : (count : ℕ) (o : Outcome) (out : List ℕ) → take count fs ≡ foundIn (length old / 4) o → out ≡ splice 0 (listNumbers (take count fs)) old → out ≡ numbersWritten old o
+  all-put count o out found is = is ∙ splice-front (listNumbers (take count fs)) old ∙ ap (λ (l : List Finding). listNumbers l ++ drop (length (listNumbers l)) old) found

@@ -1,0 +1,24 @@
+// The findings of a chunk in a lent list, as crate finding_list writes them.
+ghost use mathlib.Core.Path.{_≡_};
+ghost use Prim.Native.Nat.{_/_};
+ghost use lib.ListN.{length};
+ghost use Rattle.format.specs.ReadChunk.{read};
+ghost use Rattle.finding_plan.specs.Listed.{shownFindings};
+ghost use Rattle.boundary.specs.Status.{limitsOf, status, written};
+ghost use Rattle.finding_list.specs.FindingNumbers.{ofFindings, numbersWritten};
+use finding_list::list_findings;
+
+// Ruled out: success that writes nothing, a refusal that writes, findings in another order.
+#[no_mangle]
+pub extern "C" fn lafzimdo_findings(
+    chunk: &[u8],
+    limits: &[u64; 9],
+    list: &mut [u64],
+    out: &mut [u64; 2],
+) -> u64
+    ensures { λ r. ⌜ r ≡ status (ofFindings (shownFindings (length (now (list .entry)) / 4) (read (limitsOf (now (limits .entry))) (now (chunk .entry))))) ⌝ }
+    ensures { λ _. ⌜ now (out .exit) ≡ written (ofFindings (shownFindings (length (now (list .entry)) / 4) (read (limitsOf (now (limits .entry))) (now (chunk .entry))))) (now (out .entry)) ⌝ }
+    ensures { λ _. ⌜ now (list .exit) ≡ numbersWritten (now (list .entry)) (read (limitsOf (now (limits .entry))) (now (chunk .entry))) ⌝ }
+{
+    list_findings(chunk, limits, list, out)
+}

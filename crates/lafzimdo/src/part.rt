@@ -1,0 +1,139 @@
+// Parts at a place: no pass over the chunk, each costs what its part costs. What each answers is in specs/PartNumbers.antt of crate parts_at.
+ghost use mathlib.Core.Path.{_≡_};
+ghost use Rattle.boundary.specs.Status.{status, written};
+ghost use Rattle.parts_at.specs.PartNumbers.{headAt, tailAt, wordAt, constantAt, upvalueAt, deltaAt, anchorAt, localAt, stringAt};
+use parts_at::entry::anchor_at;
+use parts_at::entry::constant_at;
+use parts_at::entry::delta_at;
+use parts_at::entry::local_at;
+use parts_at::entry::string_at;
+use parts_at::entry::upvalue_at;
+use parts_at::entry::word_at;
+use parts_at::function::head_at;
+use parts_at::function::tail_at;
+
+// The function that begins there, up to the functions that nest in it. Ruled out: the fields of the function around it, an array that is touched where the answer is a refusal.
+#[no_mangle]
+pub extern "C" fn lafzimdo_head_at(
+    chunk: &[u8],
+    limits: &[u64; 9],
+    place: usize,
+    out: &mut [u64; 16],
+) -> u64
+    ensures { λ r. ⌜ r ≡ status (headAt (now (limits .entry)) place (now (chunk .entry))) ⌝ }
+    ensures { λ _. ⌜ now (out .exit) ≡ written (headAt (now (limits .entry)) place (now (chunk .entry))) (now (out .entry)) ⌝ }
+{
+    head_at(chunk, limits, place, out)
+}
+
+// A function behind the functions that nest in it. Ruled out: deltas counted as anchors, the function's end before its last name.
+#[no_mangle]
+pub extern "C" fn lafzimdo_tail_at(
+    chunk: &[u8],
+    limits: &[u64; 9],
+    place: usize,
+    out: &mut [u64; 9],
+) -> u64
+    ensures { λ r. ⌜ r ≡ status (tailAt (now (limits .entry)) place (now (chunk .entry))) ⌝ }
+    ensures { λ _. ⌜ now (out .exit) ≡ written (tailAt (now (limits .entry)) place (now (chunk .entry))) (now (out .entry)) ⌝ }
+{
+    tail_at(chunk, limits, place, out)
+}
+
+// Ruled out: high byte first, a word behind the end of the chunk.
+#[no_mangle]
+pub extern "C" fn lafzimdo_word_at(
+    chunk: &[u8],
+    _limits: &[u64; 9],
+    place: usize,
+    out: &mut [u64; 2],
+) -> u64
+    ensures { λ r. ⌜ r ≡ status (wordAt place (now (chunk .entry))) ⌝ }
+    ensures { λ _. ⌜ now (out .exit) ≡ written (wordAt place (now (chunk .entry))) (now (out .entry)) ⌝ }
+{
+    word_at(chunk, place, out)
+}
+
+// Ruled out: a short string shown as a long one, a string above its limit.
+#[no_mangle]
+pub extern "C" fn lafzimdo_constant_at(
+    chunk: &[u8],
+    limits: &[u64; 9],
+    place: usize,
+    out: &mut [u64; 4],
+) -> u64
+    ensures { λ r. ⌜ r ≡ status (constantAt (now (limits .entry)) place (now (chunk .entry))) ⌝ }
+    ensures { λ _. ⌜ now (out .exit) ≡ written (constantAt (now (limits .entry)) place (now (chunk .entry))) (now (out .entry)) ⌝ }
+{
+    constant_at(chunk, limits, place, out)
+}
+
+// Ruled out: instack and idx exchanged, two bytes an upvalue.
+#[no_mangle]
+pub extern "C" fn lafzimdo_upvalue_at(
+    chunk: &[u8],
+    _limits: &[u64; 9],
+    place: usize,
+    out: &mut [u64; 4],
+) -> u64
+    ensures { λ r. ⌜ r ≡ status (upvalueAt place (now (chunk .entry))) ⌝ }
+    ensures { λ _. ⌜ now (out .exit) ≡ written (upvalueAt place (now (chunk .entry))) (now (out .entry)) ⌝ }
+{
+    upvalue_at(chunk, place, out)
+}
+
+// Ruled out: a byte from 128 up shown as it stands.
+#[no_mangle]
+pub extern "C" fn lafzimdo_delta_at(
+    chunk: &[u8],
+    _limits: &[u64; 9],
+    place: usize,
+    out: &mut [u64; 2],
+) -> u64
+    ensures { λ r. ⌜ r ≡ status (deltaAt place (now (chunk .entry))) ⌝ }
+    ensures { λ _. ⌜ now (out .exit) ≡ written (deltaAt place (now (chunk .entry))) (now (out .entry)) ⌝ }
+{
+    delta_at(chunk, place, out)
+}
+
+// Ruled out: pc and line exchanged, the place behind pc given as the one behind.
+#[no_mangle]
+pub extern "C" fn lafzimdo_anchor_at(
+    chunk: &[u8],
+    _limits: &[u64; 9],
+    place: usize,
+    out: &mut [u64; 3],
+) -> u64
+    ensures { λ r. ⌜ r ≡ status (anchorAt place (now (chunk .entry))) ⌝ }
+    ensures { λ _. ⌜ now (out .exit) ≡ written (anchorAt place (now (chunk .entry))) (now (out .entry)) ⌝ }
+{
+    anchor_at(chunk, place, out)
+}
+
+// With its name as it is spelt. Ruled out: an absent name shown as an empty one, startpc and endpc exchanged.
+#[no_mangle]
+pub extern "C" fn lafzimdo_local_at(
+    chunk: &[u8],
+    limits: &[u64; 9],
+    place: usize,
+    out: &mut [u64; 6],
+) -> u64
+    ensures { λ r. ⌜ r ≡ status (localAt (now (limits .entry)) place (now (chunk .entry))) ⌝ }
+    ensures { λ _. ⌜ now (out .exit) ≡ written (localAt (now (limits .entry)) place (now (chunk .entry))) (now (out .entry)) ⌝ }
+{
+    local_at(chunk, limits, place, out)
+}
+
+// Ruled out: an absent string shown as an empty one, a place before its size.
+#[no_mangle]
+pub extern "C" fn lafzimdo_string_at(
+    chunk: &[u8],
+    limits: &[u64; 9],
+    place: usize,
+    out: &mut [u64; 4],
+) -> u64
+    ensures { λ r. ⌜ r ≡ status (stringAt (now (limits .entry)) place (now (chunk .entry))) ⌝ }
+    ensures { λ _. ⌜ now (out .exit) ≡ written (stringAt (now (limits .entry)) place (now (chunk .entry))) (now (out .entry)) ⌝ }
+{
+    string_at(chunk, limits, place, out)
+}

@@ -1,0 +1,26 @@
+-- `parts_at::entry::delta_at` meets its contract: by what was read (under whatever limits). Assumes nothing.
+use mathlib.Core.Path.{refl, _∙_, ap}
+use mathlib.Core.List.{[], _∷_}
+use borrow.Author.Needs.{needs}
+use lib.ListN.{drop}
+use Rattle.format.specs.ReadFields.{field}
+use Rattle.reader.specs.Shown.{shownU8}
+use Rattle.boundary.specs.Status.{limitsOf}
+use Rattle.boundary.proofs.Calls.{call-refuses, call-answers}
+use Rattle.parts_at.specs.PartNumbers.{ofDeltaAt}
+use Rattle.parts_at.proofs.entry.delta_at.Statement.{statement}
+use Rattle.parts_at.proofs.entry.delta_at.Tie as tie
+
+pub delta-at-spec : {M : Type 1} → statement M
+delta-at-spec =
+    tie.close
+    (tie.spec
+    (λ c κs. search needs) (λ c. search needs) (λ c κs. search needs) (λ c. search needs) (λ c κs. search needs) (λ c κs. search needs)
+    (λ c.
+    let k = c .before .before .before .before in
+    let a = k .before .before .args in
+    call-refuses ofDeltaAt (λ L. shownU8 (field 1 (a .place) (drop (a .place) (a .chunk .now)))) (a .out .now) (λ i. limitsOf []) (k .read-u8 .ensures) (c .before .before .answer .given .1) refl (c .refused .ensures))
+    (λ c.
+    let k = c .before .before .before .before .before in
+    let a = k .before .before .args in
+    call-answers ofDeltaAt (λ L. shownU8 (field 1 (a .place) (drop (a .place) (a .chunk .now)))) (a .out .now) (λ i. limitsOf []) (k .read-u8 .ensures) (c .before .before .before .answer2 .given .1) refl (c .two .ensures ∙ ap (λ n. n ∷ c .before .before .before .answer2 .given .0 .1 .0 .at ∷ []) (c .before .delta-number .ensures))))

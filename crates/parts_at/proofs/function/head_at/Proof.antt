@@ -1,0 +1,24 @@
+-- `parts_at::function::head_at` meets its contract: by what was read. Assumes nothing.
+use mathlib.Core.Path.{refl}
+use borrow.Author.Needs.{needs}
+use lib.ListN.{drop}
+use Rattle.chunk.specs.Parts as parts
+use Rattle.chunk.specs.PartsShown.{shownHead}
+use Rattle.boundary.proofs.Calls.{call-refuses, call-answers}
+use Rattle.parts_at.specs.PartNumbers.{ofHead}
+use Rattle.parts_at.proofs.function.head_at.Statement.{statement}
+use Rattle.parts_at.proofs.function.head_at.Tie as tie
+
+pub head-at-spec : {M : Type 1} → statement M
+head-at-spec =
+    tie.close
+    (tie.spec
+    (λ c κs. search needs) (λ c κs. search needs) (λ c. search needs) (λ c κs. search needs) (λ c. search needs) (λ c κs. search needs)
+    (λ c.
+    let k = c .before .before .before .before in
+    let a = k .before .before .before .args in
+    call-refuses ofHead (λ L. shownHead (parts.head L 0 (a .place) (drop (a .place) (a .chunk .now)))) (a .out .now) (k .before .limits-of .ensures) (k .read-head .ensures) (c .before .before .answer .given .1) refl (c .refused .ensures))
+    (λ c.
+    let k = c .before .before .before .before in
+    let a = k .before .before .before .args in
+    call-answers ofHead (λ L. shownHead (parts.head L 0 (a .place) (drop (a .place) (a .chunk .now)))) (a .out .now) (k .before .limits-of .ensures) (k .read-head .ensures) (c .before .before .answer2 .given .1) refl (c .head-numbers .ensures)))

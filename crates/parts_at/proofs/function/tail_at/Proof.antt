@@ -1,0 +1,24 @@
+-- `parts_at::function::tail_at` meets its contract: by what was read. Assumes nothing.
+use mathlib.Core.Path.{refl}
+use borrow.Author.Needs.{needs}
+use lib.ListN.{drop}
+use Rattle.chunk.specs.Parts as parts
+use Rattle.chunk.specs.PartsShown.{shownTail}
+use Rattle.boundary.proofs.Calls.{call-refuses, call-answers}
+use Rattle.parts_at.specs.PartNumbers.{ofTail}
+use Rattle.parts_at.proofs.function.tail_at.Statement.{statement}
+use Rattle.parts_at.proofs.function.tail_at.Tie as tie
+
+pub tail-at-spec : {M : Type 1} → statement M
+tail-at-spec =
+    tie.close
+    (tie.spec
+    (λ c κs. search needs) (λ c κs. search needs) (λ c. search needs) (λ c κs. search needs) (λ c. search needs) (λ c κs. search needs)
+    (λ c.
+    let k = c .before .before .before .before in
+    let a = k .before .before .before .args in
+    call-refuses ofTail (λ L. shownTail (parts.tail (L .«max_string_bytes») (a .place) (drop (a .place) (a .chunk .now)))) (a .out .now) (k .before .limits-of .ensures) (k .read-tail .ensures) (c .before .before .answer .given .1) refl (c .refused .ensures))
+    (λ c.
+    let k = c .before .before .before .before in
+    let a = k .before .before .before .args in
+    call-answers ofTail (λ L. shownTail (parts.tail (L .«max_string_bytes») (a .place) (drop (a .place) (a .chunk .now)))) (a .out .now) (k .before .limits-of .ensures) (k .read-tail .ensures) (c .before .before .answer2 .given .1) refl (c .tail-numbers .ensures)))

@@ -1,0 +1,154 @@
+-- What is answered of a part that is read at a place: its numbers, and the place behind it.
+--     headAt limits place chunk, tailAt ..             a function before and behind the functions that nest in it
+--     wordAt place chunk, constantAt limits place ..   an entry
+-- Bytes before the place are not looked at. `head` counts the instructions of the functions before; here there are none.
+use mathlib.Core.List.{List, [], _∷_, _++_}
+use Prim.Native.Nat.{ℕ}
+use lib.ListN.{drop}
+use mir.Syntax.{w8}
+use mir.Val.{toZ}
+use Rattle.reader.specs.declared.field.U8Result.{U8Result}
+use Rattle.reader.specs.declared.field.U8Result.the-variants as u8
+use Rattle.reader.specs.declared.field.U32Result.{U32Result}
+use Rattle.reader.specs.declared.field.U32Result.the-variants as u32
+use Rattle.reader.specs.declared.string.OptionString.{OptionString}
+use Rattle.reader.specs.declared.string.StringResult.{StringResult}
+use Rattle.reader.specs.declared.string.StringResult.the-variants as string
+use Rattle.lists.specs.declared.constant.ConstantResult.{ConstantResult}
+use Rattle.lists.specs.declared.constant.ConstantResult.the-variants as constant
+use Rattle.lists.specs.declared.debug.AnchorResult.{AnchorResult}
+use Rattle.lists.specs.declared.debug.AnchorResult.the-variants as anchor
+use Rattle.lists.specs.declared.debug.LocalResult.{LocalResult}
+use Rattle.lists.specs.declared.debug.LocalResult.the-variants as local
+use Rattle.entries.specs.declared.code.UpvalueResult.{UpvalueResult}
+use Rattle.entries.specs.declared.code.UpvalueResult.the-variants as upvalue
+use Rattle.chunk.specs.declared.parts.Head.{Head}
+use Rattle.chunk.specs.declared.parts.HeadResult.{HeadResult}
+use Rattle.chunk.specs.declared.parts.HeadResult.the-variants as head
+use Rattle.chunk.specs.declared.parts.Tail.{Tail}
+use Rattle.chunk.specs.declared.parts.TailResult.{TailResult}
+use Rattle.chunk.specs.declared.parts.TailResult.the-variants as tail
+use Rattle.format.specs.Form.{Bytes}
+use Rattle.format.specs.ReadFields as fields
+use Rattle.format.specs.ReadChunk as chunk
+use Rattle.reader.specs.Shown.{shownU8, shownU32, shownString}
+use Rattle.lists.specs.Readers.{rawLocal}
+use Rattle.lists.specs.Shown.{shownConstant, shownAnchor, shownLocal}
+use Rattle.entries.specs.Shown.{shownUpvalue}
+use Rattle.chunk.specs.Parts as parts
+use Rattle.chunk.specs.PartsShown.{shownHead, shownTail}
+use Rattle.boundary.specs.Status.{limitsOf, Answer, done, refuses, complement}
+use Rattle.numbers.specs.Numbers.{presentNumber, placeNumber, lengthNumber, stringNumbers, constantNumbers, upvalueNumbers, anchorNumbers}
+
+-- numbers, and the place behind
+abbrev pub upTo : List ℕ → ℕ → List ℕ
+upTo l to = l ++ (to ∷ [])
+
+-- ## A function in two parts
+-- of each list how many entries it has, and the place of the first
+abbrev pub headNumbers : Head → List ℕ
+headNumbers h =
+    presentNumber (h .front .source)
+    ∷ placeNumber (h .front .source)
+    ∷ lengthNumber (h .front .source)
+    ∷ h .front .lines .«line_defined»
+    ∷ h .front .lines .«last_line_defined»
+    ∷ h .front .sizes .numparams
+    ∷ h .front .sizes .«is_vararg»
+    ∷ h .front .sizes .maxstacksize
+    ∷ h .lists .instructions .count
+    ∷ h .lists .instructions .place
+    ∷ h .lists .constants .count
+    ∷ h .lists .constants .place
+    ∷ h .lists .upvalues .count
+    ∷ h .lists .upvalues .place
+    ∷ h .protos .count
+    ∷ h .protos .place
+    ∷ []
+
+-- (the place behind is that of the nested functions)
+abbrev pub ofHead : HeadResult → Answer
+ofHead (head.Ok h to) = done (headNumbers h)
+ofHead (head.Err q) = refuses q
+
+abbrev pub tailNumbers : Tail → ℕ → List ℕ
+tailNumbers t to =
+    t .«line_info» .count
+    ∷ t .«line_info» .place
+    ∷ t .«abs_line_info» .count
+    ∷ t .«abs_line_info» .place
+    ∷ t .«loc_vars» .count
+    ∷ t .«loc_vars» .place
+    ∷ t .«upvalue_names» .count
+    ∷ t .«upvalue_names» .place
+    ∷ to
+    ∷ []
+
+abbrev pub ofTail : TailResult → Answer
+ofTail (tail.Ok t to) = done (tailNumbers t (to .at))
+ofTail (tail.Err q) = refuses q
+
+-- ## Entries
+abbrev pub ofWordAt : U32Result → Answer
+ofWordAt (u32.Ok w to) = done (w ∷ to .at ∷ [])
+ofWordAt (u32.Err q) = refuses q
+
+abbrev pub ofConstantAt : ConstantResult → Answer
+ofConstantAt (constant.Ok k to) = done (upTo (constantNumbers k) (to .at))
+ofConstantAt (constant.Err q) = refuses q
+
+abbrev pub ofUpvalueAt : UpvalueResult → Answer
+ofUpvalueAt (upvalue.Ok u to) = done (upTo (upvalueNumbers u) (to .at))
+ofUpvalueAt (upvalue.Err q) = refuses q
+
+-- a byte as a signed number, and that in 64 bits
+abbrev pub deltaNumber : ℕ → ℕ
+deltaNumber b = complement (toZ w8 b)
+
+abbrev pub ofDeltaAt : U8Result → Answer
+ofDeltaAt (u8.Ok b to) = done (deltaNumber b ∷ to .at ∷ [])
+ofDeltaAt (u8.Err q) = refuses q
+
+abbrev pub ofAnchorAt : AnchorResult → Answer
+ofAnchorAt (anchor.Ok a to) = done (upTo (anchorNumbers a) (to .at))
+ofAnchorAt (anchor.Err q) = refuses q
+
+-- with its name as it is spelt: an absent one is absent
+abbrev pub localNumbersAt : OptionString → ℕ → ℕ → ℕ → List ℕ
+localNumbersAt t startpc endpc to = presentNumber t ∷ placeNumber t ∷ lengthNumber t ∷ startpc ∷ endpc ∷ to ∷ []
+
+abbrev pub ofLocalAt : LocalResult → Answer
+ofLocalAt (local.Ok t startpc endpc to) = done (localNumbersAt t startpc endpc (to .at))
+ofLocalAt (local.Err q) = refuses q
+
+abbrev pub ofStringAt : StringResult → Answer
+ofStringAt (string.Ok t to) = done (upTo (stringNumbers t) (to .at))
+ofStringAt (string.Err q) = refuses q
+
+-- ## What each call answers
+abbrev pub headAt : List ℕ → ℕ → Bytes → Answer
+headAt limits place s = ofHead (shownHead (parts.head (limitsOf limits) 0 place (drop place s)))
+
+abbrev pub tailAt : List ℕ → ℕ → Bytes → Answer
+tailAt limits place s = ofTail (shownTail (parts.tail (limitsOf limits .«max_string_bytes») place (drop place s)))
+
+abbrev pub wordAt : ℕ → Bytes → Answer
+wordAt place s = ofWordAt (shownU32 (fields.field 4 place (drop place s)))
+
+abbrev pub constantAt : List ℕ → ℕ → Bytes → Answer
+constantAt limits place s = ofConstantAt (shownConstant (chunk.constant (limitsOf limits .«max_string_bytes») place (drop place s)))
+
+abbrev pub upvalueAt : ℕ → Bytes → Answer
+upvalueAt place s = ofUpvalueAt (shownUpvalue (chunk.upvalue place (drop place s)))
+
+abbrev pub deltaAt : ℕ → Bytes → Answer
+deltaAt place s = ofDeltaAt (shownU8 (fields.field 1 place (drop place s)))
+
+abbrev pub anchorAt : ℕ → Bytes → Answer
+anchorAt place s = ofAnchorAt (shownAnchor (chunk.anchor place (drop place s)))
+
+abbrev pub localAt : List ℕ → ℕ → Bytes → Answer
+localAt limits place s = ofLocalAt (shownLocal (rawLocal (limitsOf limits .«max_string_bytes») place (drop place s)))
+
+abbrev pub stringAt : List ℕ → ℕ → Bytes → Answer
+stringAt limits place s = ofStringAt (shownString (fields.string (limitsOf limits .«max_string_bytes») place (drop place s)))
