@@ -4,6 +4,9 @@ use lafzimdo::Limits;
 use std::fs;
 use std::path::{Path, PathBuf};
 
+pub mod run;
+pub mod undump;
+
 /// A file of the repository.
 pub fn file(name: &str) -> PathBuf {
     Path::new(env!("CARGO_MANIFEST_DIR")).join("../..").join(name)
