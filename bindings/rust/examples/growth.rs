@@ -9,8 +9,11 @@ use std::time::{Duration, Instant};
 
 const MB: usize = 1 << 20;
 
+/// Makes a chunk of about so many bytes.
+type Make = fn(usize) -> Vec<u8>;
+
 fn main() -> ExitCode {
-    let kinds: [(&str, fn(usize) -> Vec<u8>); 5] = [
+    let kinds: [(&str, Make); 5] = [
         ("tiny functions", tiny),
         ("nested 200 deep", nested),
         ("one large function", large),

@@ -26,7 +26,7 @@ pub struct Chunk<'a> {
     warnings: [Option<Warning>; 2],
     functions: usize,
     trailing: (u64, u64),
-    index: OnceLock<Index<'a>>,
+    index: OnceLock<Index>,
 }
 
 impl<'a> Chunk<'a> {
@@ -86,7 +86,7 @@ impl<'a> Chunk<'a> {
         &self.indexed().rows
     }
 
-    fn indexed(&self) -> &Index<'a> {
+    fn indexed(&self) -> &Index {
         self.index.get_or_init(|| Index::new(&self.input, self.functions))
     }
 

@@ -49,7 +49,7 @@ struct Places {
 
 impl<'a> Function<'a> {
     /// The function of a number below the number of functions: the part before its nested functions is read, and the part behind them.
-    pub(crate) fn new(input: Input<'a>, index: &Index<'a>, number: usize) -> Function<'a> {
+    pub(crate) fn new(input: Input<'a>, index: &Index, number: usize) -> Function<'a> {
         let row = index.rows[number];
         let head = granted(ffi::head_at(input.bytes, &input.limits, row.start()));
         let tail_place = index.tail(number, head[15] as usize);
@@ -61,7 +61,7 @@ impl<'a> Function<'a> {
             fields: Fields {
                 depth: row.depth(),
                 parent: row.parent(),
-                source: index.source(number),
+                source: index.source(&input, number),
                 line_defined: head[3],
                 last_line_defined: head[4],
                 numparams: head[5] as u8,

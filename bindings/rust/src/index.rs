@@ -1,5 +1,4 @@
 //! The index of a chunk: where its functions are, and what is found from that once for all of them.
-use crate::entries;
 use crate::ffi;
 use crate::input::{granted, Input};
 
@@ -63,38 +62,44 @@ impl Row {
     }
 }
 
-/// The rows, and for each function what would else be looked for again and again.
+/// The rows, and for each function what would else be looked for again and again. It holds places, not parts of the chunk, so that a chunk's lifetime can be shortened.
 #[derive(Debug, Clone)]
-pub(crate) struct Index<'a> {
+pub(crate) struct Index {
     pub(crate) rows: Vec<Row>,
     /// Where its last nested function ends, 0 where there is none.
     nested_end: Vec<u32>,
-    /// Its source: an absent one is its parent's.
-    sources: Vec<Option<&'a [u8]>>,
+    /// Place and length of its source, if there is one: an absent one is its parent's.
+    sources: Vec<Option<(u32, u32)>>,
 }
 
-impl<'a> Index<'a> {
+impl Index {
     /// The index of a chunk that was read and has so many functions.
-    pub(crate) fn new(input: &Input<'a>, functions: usize) -> Index<'a> {
+    pub(crate) fn new(input: &Input<'_>, functions: usize) -> Index {
         let mut numbers = vec![[0; 12]; functions];
         granted(ffi::index(input.bytes, &input.limits, &mut numbers));
         let rows: Vec<Row> = numbers.into_iter().map(Row).collect();
-        let mut nested_end = vec![0; functions];
-        let mut sources: Vec<Option<&[u8]>> = Vec::with_capacity(functions);
-        for (number, row) in rows.iter().enumerate() {
-            let (own, _) = entries::string(input, row.start());
-            let parent = if number == 0 { None } else { sources[row.parent()] };
-            sources.push(own.or(parent));
-            // Functions come in the order their bytes begin, so that the last of a parent is written last.
-            if number != 0 {
-                nested_end[row.parent()] = row.0[1];
-            }
+        let mut index = Index { nested_end: vec![0; functions], sources: Vec::with_capacity(functions), rows };
+        for function in 0..functions {
+            index.add(input, function);
         }
-        Index { rows, nested_end, sources }
+        index
     }
 
-    pub(crate) fn source(&self, function: usize) -> Option<&'a [u8]> {
-        self.sources[function]
+    /// Adds a function. Functions come in the order their bytes begin: a parent before its nested ones, the last of which is added last.
+    fn add(&mut self, input: &Input<'_>, function: usize) {
+        let row = self.rows[function];
+        let [present, place, len, _] = granted(ffi::string_at(input.bytes, &input.limits, row.start()));
+        let own = (present != 0).then_some((place as u32, len as u32));
+        if function == 0 {
+            self.sources.push(own);
+        } else {
+            self.sources.push(own.or(self.sources[row.parent()]));
+            self.nested_end[row.parent()] = row.0[1];
+        }
+    }
+
+    pub(crate) fn source<'a>(&self, input: &Input<'a>, function: usize) -> Option<&'a [u8]> {
+        self.sources[function].map(|(place, len)| input.string(place.into(), len.into()))
     }
 
     /// Where the part behind the nested functions begins; `nested_at` is where these begin.

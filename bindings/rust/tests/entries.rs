@@ -104,3 +104,13 @@ fn a_chunk_may_be_shared_by_threads() {
         assert_eq!(both.map(|one| one.join().unwrap()), [248, 248]);
     });
 }
+
+#[test]
+fn a_chunk_may_live_shorter_than_its_bytes() {
+    fn shorter<'a>(chunk: Chunk<'static>, _: &'a str) -> Chunk<'a> {
+        chunk
+    }
+    const BYTES: &[u8] = include_bytes!("../../../samples/recentre.luac");
+    let name = String::from("recentre");
+    assert_eq!(shorter(Chunk::read(BYTES, Limits::ceilings()).unwrap(), &name).function_count(), 7);
+}
