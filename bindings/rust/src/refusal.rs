@@ -137,4 +137,15 @@ mod tests {
         assert_eq!(refusal(1 + 32 * 46).to_string(), "refused 1 at 45: the file is cut short (CORE-TRUNC-001)");
         assert_eq!(refusal(22).to_string(), "refused 22: the file is longer than max_input_bytes");
     }
+
+    /// In the library's own list, in the order of the numbers: `Name(usize),` with a place, `Name,` without one.
+    #[test]
+    fn names_are_the_librarys() {
+        let list = include_str!("../../../crates/format/src/refusal.rt");
+        let (_, list) = list.split_once("pub enum Refusal {").unwrap();
+        let (list, _) = list.split_once('}').unwrap();
+        let names = list.lines().map(str::trim).filter(|line| !line.is_empty() && !line.starts_with("//"));
+        let ours = (1..=28).map(|number| format!("{:?},", refusal(number + 32)).replace("(0)", "(usize)"));
+        assert_eq!(names.collect::<Vec<_>>(), ours.collect::<Vec<_>>());
+    }
 }

@@ -173,3 +173,20 @@ pub fn encode(fields: &Instruction) -> Result<u32, Refusal> {
     let Instruction { opcode, a, k, b, c, bx, sbx, ax, sj, .. } = *fields;
     ffi::encode(opcode, a, k, b, c, bx, sbx, ax, sj)
 }
+
+#[cfg(test)]
+mod tests {
+    use super::*;
+
+    #[test]
+    fn names_are_the_librarys() {
+        let list = include_str!("../../../crates/opcodes/src/opcode.rt");
+        let (_, list) = list.split_once("pub enum Opcode54 {").unwrap();
+        let (list, _) = list.split_once('}').unwrap();
+        let names = list
+            .split(',')
+            .map(|name| name.trim().to_uppercase().replace("SELFOP", "SELF"))
+            .filter(|name| !name.is_empty());
+        assert_eq!(names.collect::<Vec<_>>(), NAMES);
+    }
+}

@@ -35,8 +35,8 @@ all that is not printable ASCII. A float is followed by its bits.
         operands: "FILE OUT",
         short: "writes the archive copy of the chunk to OUT",
         long: "\
-The archive copy holds all that was read, spelt in one way: format 0, numbers in their shortest form,
-the source only in the main function. Trailing bytes are kept. OUT is - for standard output.
+The archive copy spells what was read in one way: format 0, numbers in their shortest form, a source only
+in the main function. Trailing bytes are kept. OUT is - for standard output.
 A file that exists is not overwritten unless --force is given. OUT is opened when the copy is made, so
 that a chunk that is refused leaves it as it was.
 
@@ -106,7 +106,7 @@ pub fn all() -> String {
         text += &format!("  {:<6} {:<22} {}\n", topic.name, topic.operands, topic.short);
     }
     text += "  help   [COMMAND]              this help, or that on one command\n\n";
-    text + OPTIONS + "  -V, --version (without a command) prints the version\n\n" + STATUSES
+    text + OPTIONS + "`lafzimdo --version` (-V) prints the version.\n\n" + STATUSES
 }
 
 /// The help on one command.
