@@ -52,33 +52,33 @@ impl<'a> Function<'a> {
     pub(crate) fn new(input: Input<'a>, index: &Index, number: usize) -> Function<'a> {
         let row = index.rows[number];
         let head = granted(ffi::head_at(input.bytes, &input.limits, row.start()));
-        let tail_place = index.tail(number, head[15] as usize);
-        let tail = granted(ffi::tail_at(input.bytes, &input.limits, tail_place));
-        Function {
-            input,
-            number,
-            row,
-            fields: Fields {
-                depth: row.depth(),
-                parent: row.parent(),
-                source: index.source(&input, number),
-                line_defined: head[3],
-                last_line_defined: head[4],
-                numparams: head[5] as u8,
-                is_vararg: head[6] as u8,
-                maxstacksize: head[7] as u8,
-                counts: Counts::of_numbers([head[8], head[10], head[12], head[14], tail[0], tail[2], tail[4], tail[6]]),
-            },
-            places: Places {
-                instructions: head[9] as usize,
-                constants: head[11] as usize,
-                upvalues: head[13] as usize,
-                line_info: tail[1] as usize,
-                abs_line_info: tail[3] as usize,
-                loc_vars: tail[5] as usize,
-                upvalue_names: tail[7] as usize,
-            },
-        }
+        // The source is in the index, with those of parents.
+        let [_, _, _, line_defined, last_line_defined, numparams, is_vararg, maxstacksize, lists @ ..] = head;
+        let [instructions, words_at, constants, constants_at, upvalues, upvalues_at, protos, nested_at] = lists;
+        let tail_at = index.tail(number, nested_at as usize);
+        let tail = granted(ffi::tail_at(input.bytes, &input.limits, tail_at));
+        let [deltas, deltas_at, anchors, anchors_at, locals, locals_at, names, names_at, _] = tail;
+        let fields = Fields {
+            depth: row.depth(),
+            parent: row.parent(),
+            source: index.source(&input, number),
+            line_defined,
+            last_line_defined,
+            numparams: numparams as u8,
+            is_vararg: is_vararg as u8,
+            maxstacksize: maxstacksize as u8,
+            counts: Counts::of_numbers([instructions, constants, upvalues, protos, deltas, anchors, locals, names]),
+        };
+        let places = Places {
+            instructions: words_at as usize,
+            constants: constants_at as usize,
+            upvalues: upvalues_at as usize,
+            line_info: deltas_at as usize,
+            abs_line_info: anchors_at as usize,
+            loc_vars: locals_at as usize,
+            upvalue_names: names_at as usize,
+        };
+        Function { input, number, row, fields, places }
     }
 
     /// Its number: functions are numbered from main, 0, in the order their bytes begin.
