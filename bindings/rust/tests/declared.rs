@@ -1,6 +1,7 @@
 //! src/ffi.rs declares the calls as include/lafzimdo.h does: the same calls, with the same types and lengths of arrays, in the same order.
 mod common;
 
+use lafzimdo::Limits;
 use std::collections::BTreeMap;
 
 type Calls = BTreeMap<String, Vec<String>>;
@@ -73,4 +74,12 @@ fn as_in_the_header() {
         assert_eq!(header.get(name), Some(types), "{name}");
     }
     assert_eq!(header.keys().collect::<Vec<_>>(), ours.keys().collect::<Vec<_>>());
+}
+
+#[test]
+fn ceilings_as_in_the_header() {
+    let header = common::text("include/lafzimdo.h");
+    let (_, ceilings) = header.split_once("#define LAFZIMDO_CEILINGS {").unwrap();
+    let numbers: Vec<&str> = ceilings.split_once('}').unwrap().0.split(", ").collect();
+    assert_eq!(common::limits(&numbers), Limits::ceilings());
 }
