@@ -20,7 +20,7 @@ pub(crate) fn lines(function: &Function<'_>) -> Result<Vec<u64>, Refusal> {
     if fields.counts.line_info == 0 {
         return Ok(vec![0; instructions]);
     }
-    // A delta at or behind the last instruction's pc moves no line that is asked for.
+    // A delta behind the last instruction moves no line.
     let deltas: Vec<i8> = function.deltas().take(instructions).collect();
     Ok(by_deltas(fields.line_defined, &deltas, &anchors, instructions))
 }

@@ -3,8 +3,9 @@ mod common;
 
 use common::run::{fresh, program, run, run_on};
 use common::{chunk, file, function};
-use std::fs;
-use std::process::Stdio;
+use std::fs::{self, Permissions};
+use std::os::unix::fs::{symlink, PermissionsExt};
+use std::process::{Command, Stdio};
 
 const COMMANDS: [&str; 5] = ["list", "dump", "copy", "check", "lines"];
 
@@ -133,6 +134,47 @@ fn copies() {
     assert!(!none.exists());
     run(&["copy", &recentre(), "no/such/folder/file"]).says(3, "no/such/folder/file: ");
     assert_eq!(run(&["copy", &recentre(), "-"]).stdout, bytes);
+}
+
+#[test]
+fn a_file_that_is_replaced() {
+    let (path, link) = (fresh("replaced.luac"), fresh("link.luac"));
+    fs::write(&path, "old").unwrap();
+    fs::set_permissions(&path, Permissions::from_mode(0o640)).unwrap();
+    symlink(&path, &link).unwrap();
+    assert_eq!(run(&["copy", "--force", &recentre(), link.to_str().unwrap()]).text(0), "");
+    assert!(fs::symlink_metadata(&link).unwrap().is_symlink());
+    assert_eq!(fs::metadata(&path).unwrap().permissions().mode() & 0o777, 0o640);
+    assert_eq!(fs::read(&path).unwrap(), fs::read(recentre()).unwrap());
+    let folder = fs::read_dir(env!("CARGO_TARGET_TMPDIR")).unwrap();
+    assert!(folder.flatten().all(|file| !file.file_name().to_str().unwrap().starts_with("replaced.luac.")));
+    assert_eq!(run(&["copy", "--force", &recentre(), "/dev/null"]).text(0), "");
+    assert!(!fs::metadata("/dev/null").unwrap().is_file());
+    run(&["copy", "--force", &recentre(), "/dev/full"]).says(3, "/dev/full: ");
+}
+
+/// As a full disk: no file may grow beyond one block.
+#[test]
+fn a_copy_that_cannot_be_finished() {
+    let (there, none) = (fresh("there.luac"), fresh("not_there.luac"));
+    fs::write(&there, "precious").unwrap();
+    for path in [&there, &none] {
+        let mut shell = Command::new("sh");
+        shell.args([
+            "-c",
+            "trap '' XFSZ; ulimit -f 1; exec \"$@\"",
+            "sh",
+            env!("CARGO_BIN_EXE_lafzimdo"),
+            "copy",
+            "--force",
+        ]);
+        let output = shell.arg(recentre()).arg(path).output().unwrap();
+        assert_eq!(output.status.code(), Some(3), "{}", String::from_utf8_lossy(&output.stderr));
+    }
+    assert_eq!(fs::read(&there).unwrap(), b"precious");
+    assert!(!none.exists());
+    let folder = fs::read_dir(env!("CARGO_TARGET_TMPDIR")).unwrap();
+    assert!(folder.flatten().all(|file| !file.file_name().to_str().unwrap().starts_with("there.luac.")));
 }
 
 #[test]

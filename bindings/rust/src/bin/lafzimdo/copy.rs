@@ -2,8 +2,10 @@
 use crate::file::Input;
 use crate::trouble::{printed, Trouble};
 use std::ffi::{OsStr, OsString};
-use std::fs::{self, OpenOptions};
+use std::fs::{self, OpenOptions, Permissions};
 use std::io::{self, Write};
+use std::path::{Path, PathBuf};
+use std::process;
 
 pub fn run(input: &Input, out: &OsString, force: bool) -> Result<u8, Trouble> {
     let bytes = input.bytes()?;
@@ -17,22 +19,37 @@ pub fn run(input: &Input, out: &OsString, force: bool) -> Result<u8, Trouble> {
     Ok(0)
 }
 
-/// Writes a file; one that was begun here and cannot be finished is removed again.
-fn write(name: &OsString, copy: &[u8], force: bool) -> io::Result<()> {
-    let mut options = OpenOptions::new();
-    options.write(true);
-    let mut file =
-        if force { options.create(true).truncate(true).open(name) } else { options.create_new(true).open(name) }
-            .map_err(|error| {
-                if error.kind() == io::ErrorKind::AlreadyExists {
-                    io::Error::new(error.kind(), "it exists already; --force overwrites it")
-                } else {
-                    error
-                }
-            })?;
-    let written = file.write_all(copy);
-    if written.is_err() && !force {
-        let _ = fs::remove_file(name);
+fn write(name: &OsStr, copy: &[u8], force: bool) -> io::Result<()> {
+    match fs::metadata(name) {
+        Ok(old) if force && old.is_file() => replace(name, old.permissions(), copy),
+        // A device or a pipe.
+        Ok(_) if force => fs::write(name, copy),
+        _ => create(Path::new(name), copy).map_err(|error| match error.kind() {
+            io::ErrorKind::AlreadyExists => io::Error::new(error.kind(), "it exists already; --force overwrites it"),
+            _ => error,
+        }),
     }
-    written
+}
+
+/// Writes a file that is not there yet; one that cannot be finished is removed again.
+fn create(path: &Path, copy: &[u8]) -> io::Result<()> {
+    let mut file = OpenOptions::new().write(true).create_new(true).open(path)?;
+    file.write_all(copy).map_err(|error| removed(path, error))
+}
+
+/// Puts the copy in the place of a file, all of it or nothing: it is written beside the file, and takes its name when it is there.
+fn replace(name: &OsStr, permissions: Permissions, copy: &[u8]) -> io::Result<()> {
+    let path = fs::canonicalize(name)?;
+    let mut beside = path.clone().into_os_string();
+    beside.push(format!(".{}", process::id()));
+    let beside = PathBuf::from(beside);
+    create(&beside, copy)?;
+    let named = fs::set_permissions(&beside, permissions).and_then(|()| fs::rename(&beside, path));
+    named.map_err(|error| removed(&beside, error))
+}
+
+/// The error, with the file removed that it left.
+fn removed(path: &Path, error: io::Error) -> io::Error {
+    let _ = fs::remove_file(path);
+    error
 }

@@ -37,8 +37,8 @@ all that is not printable ASCII. A float is followed by its bits.
         long: "\
 The archive copy spells what was read in one way: format 0, numbers in their shortest form, a source only
 in the main function. Trailing bytes are kept. OUT is - for standard output.
-A file that exists is not overwritten unless --force is given. OUT is opened when the copy is made, so
-that a chunk that is refused leaves it as it was.
+A file that exists is kept unless --force is given, and then it is replaced as a whole: a chunk that is
+refused, or a full disk, leaves it as it was.
 
   -f, --force   overwrite OUT
 ",
