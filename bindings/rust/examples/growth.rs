@@ -1,11 +1,11 @@
 //! How the cost of going through everything in a chunk grows with it: `cargo run --release --offline --example growth`.
 //!
-//! For each kind of chunk a line for each size: its bytes, functions and entries, the time to read it and the time to go through every function, entry and line, and that
-//! time by the byte. Linear growth keeps the last column as it is. Exit status 1 where it grows by more than half from 1 to 16 MB.
+//! For each kind of chunk a line for each size: its bytes, functions and entries, the time to read it and the time to read it and go through every function,
+//! entry and line, and that time by the byte. Linear growth keeps the last column as it is. Exit status 1 where it grows by more than half from 1 to 16 MB.
 use lafzimdo::{Chunk, Limits};
 use std::hint::black_box;
 use std::process::ExitCode;
-use std::time::{Duration, Instant};
+use std::time::Duration;
 
 const MB: usize = 1 << 20;
 
@@ -34,8 +34,8 @@ fn main() -> ExitCode {
 
 /// Prints the line of a chunk, and gives nanoseconds by the byte.
 fn measured(name: &str, bytes: &[u8]) -> f64 {
-    let (chunk, reading) = best(|| Chunk::read(bytes, Limits::ceilings()).expect("it is well formed"));
-    let (entries, all) = best(|| gone_through(&Chunk::read(bytes, Limits::ceilings()).expect("it is well formed")));
+    let (chunk, reading) = timed(|| Chunk::read(bytes, Limits::ceilings()).expect("it is well formed"));
+    let (entries, all) = timed(|| gone_through(&Chunk::read(bytes, Limits::ceilings()).expect("it is well formed")));
     let by_byte = all.as_nanos() as f64 / bytes.len() as f64;
     let (reading, all) = (reading.as_secs_f64() * 1e3, all.as_secs_f64() * 1e3);
     let functions = chunk.function_count();
@@ -43,21 +43,24 @@ fn measured(name: &str, bytes: &[u8]) -> f64 {
     by_byte
 }
 
-/// The shortest of three runs.
-fn best<T>(run: impl Fn() -> T) -> (T, Duration) {
-    let timed = || {
-        let start = Instant::now();
+/// The mean of so many runs that the kernel's clock, which ticks every few milliseconds, is fine enough.
+fn timed<T>(run: impl Fn() -> T) -> (T, Duration) {
+    let start = spent();
+    let mut runs = 0;
+    loop {
         let value = run();
-        (value, start.elapsed())
-    };
-    (0..2).fold(timed(), |best, _| {
-        let again = timed();
-        if again.1 < best.1 {
-            again
-        } else {
-            best
+        runs += 1;
+        let all = spent() - start;
+        if runs >= 3 && all.as_millis() >= 300 {
+            return (value, all / runs);
         }
-    })
+    }
+}
+
+/// The time that this thread has spent on a processor so far, which other programs change less than the time of day; the first number of the kernel's line, in nanoseconds.
+fn spent() -> Duration {
+    let line = std::fs::read_to_string("/proc/thread-self/schedstat").expect("this is Linux");
+    Duration::from_nanos(line.split(' ').next().and_then(|number| number.parse().ok()).expect("it is a number"))
 }
 
 /// How many entries there are, each of which is read.
