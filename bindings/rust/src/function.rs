@@ -1,0 +1,151 @@
+//! A function of a chunk.
+use crate::entries::{self, Entries};
+use crate::entry::{Anchor, Constant, Local, Upvalue};
+use crate::ffi;
+use crate::index::{Counts, Index, Row};
+use crate::input::{granted, Input};
+use crate::lines;
+use crate::refusal::Refusal;
+
+/// A function's fields.
+#[derive(Debug, Clone, Copy, PartialEq, Eq, Hash)]
+#[allow(missing_docs)]
+pub struct Fields<'a> {
+    /// How deep it is nested; main is 0.
+    pub depth: usize,
+    /// The number of the function that it is nested in; main's is 0.
+    pub parent: usize,
+    /// Its source; an absent one is its parent's.
+    pub source: Option<&'a [u8]>,
+    pub line_defined: u64,
+    pub last_line_defined: u64,
+    pub numparams: u8,
+    pub is_vararg: u8,
+    pub maxstacksize: u8,
+    pub counts: Counts,
+}
+
+/// A function of a chunk that was read, with its lists. It has been found once, and its lists go on from there.
+#[derive(Debug, Clone)]
+pub struct Function<'a> {
+    input: Input<'a>,
+    number: usize,
+    row: Row,
+    fields: Fields<'a>,
+    places: Places,
+}
+
+/// Where each list begins.
+#[derive(Debug, Clone)]
+struct Places {
+    instructions: usize,
+    constants: usize,
+    upvalues: usize,
+    line_info: usize,
+    abs_line_info: usize,
+    loc_vars: usize,
+    upvalue_names: usize,
+}
+
+impl<'a> Function<'a> {
+    /// The function of a number below the number of functions: the part before its nested functions is read, and the part behind them.
+    pub(crate) fn new(input: Input<'a>, index: &Index, number: usize) -> Function<'a> {
+        let row = index.rows[number];
+        let head = granted(ffi::head_at(input.bytes, &input.limits, row.start()));
+        // The source is in the index, with those of parents.
+        let [_, _, _, line_defined, last_line_defined, numparams, is_vararg, maxstacksize, lists @ ..] = head;
+        let [instructions, words_at, constants, constants_at, upvalues, upvalues_at, protos, nested_at] = lists;
+        let tail_at = index.tail(number, nested_at as usize);
+        let tail = granted(ffi::tail_at(input.bytes, &input.limits, tail_at));
+        let [deltas, deltas_at, anchors, anchors_at, locals, locals_at, names, names_at, _] = tail;
+        let fields = Fields {
+            depth: row.depth(),
+            parent: row.parent(),
+            source: index.source(&input, number),
+            line_defined,
+            last_line_defined,
+            numparams: numparams as u8,
+            is_vararg: is_vararg as u8,
+            maxstacksize: maxstacksize as u8,
+            counts: Counts::of_numbers([instructions, constants, upvalues, protos, deltas, anchors, locals, names]),
+        };
+        let places = Places {
+            instructions: words_at as usize,
+            constants: constants_at as usize,
+            upvalues: upvalues_at as usize,
+            line_info: deltas_at as usize,
+            abs_line_info: anchors_at as usize,
+            loc_vars: locals_at as usize,
+            upvalue_names: names_at as usize,
+        };
+        Function { input, number, row, fields, places }
+    }
+
+    /// Its number: functions are numbered from main, 0, in the order their bytes begin.
+    pub fn number(&self) -> usize {
+        self.number
+    }
+
+    /// Where it begins in the chunk.
+    pub fn start(&self) -> usize {
+        self.row.start()
+    }
+
+    /// The place just behind its last byte.
+    pub fn end(&self) -> usize {
+        self.row.end()
+    }
+
+    /// Its fields.
+    pub fn fields(&self) -> &Fields<'a> {
+        &self.fields
+    }
+
+    /// Its source; an absent one is its parent's.
+    pub fn source(&self) -> Option<&'a [u8]> {
+        self.fields.source
+    }
+
+    /// Its instruction words ([`decode`](crate::decode) takes one apart).
+    pub fn instructions(&self) -> Entries<'a, u32> {
+        Entries::new(self.input, self.fields.counts.instructions, self.places.instructions, entries::word)
+    }
+
+    /// Its constants.
+    pub fn constants(&self) -> Entries<'a, Constant<'a>> {
+        Entries::new(self.input, self.fields.counts.constants, self.places.constants, entries::constant)
+    }
+
+    /// Its upvalues.
+    pub fn upvalues(&self) -> Entries<'a, Upvalue> {
+        Entries::new(self.input, self.fields.counts.upvalues, self.places.upvalues, entries::upvalue)
+    }
+
+    /// Its line information: how far each instruction's line is from the one before.
+    pub fn deltas(&self) -> Entries<'a, i8> {
+        Entries::new(self.input, self.fields.counts.line_info, self.places.line_info, entries::delta)
+    }
+
+    /// Its absolute line information.
+    pub fn anchors(&self) -> Entries<'a, Anchor> {
+        Entries::new(self.input, self.fields.counts.abs_line_info, self.places.abs_line_info, entries::anchor)
+    }
+
+    /// Its local variables.
+    pub fn locals(&self) -> Entries<'a, Local<&'a [u8]>> {
+        Entries::new(self.input, self.fields.counts.loc_vars, self.places.loc_vars, entries::local)
+    }
+
+    /// The names of its upvalues; there may be more or fewer of them than upvalues.
+    pub fn upvalue_names(&self) -> Entries<'a, Option<&'a [u8]>> {
+        Entries::new(self.input, self.fields.counts.upvalue_names, self.places.upvalue_names, entries::string)
+    }
+
+    /// The line of each instruction, in one pass over deltas and anchors.
+    ///
+    /// [`Chunk::line`](crate::Chunk::line) is the proved call, which answers any pc and is a pass over the file each time. This one is computed by this crate, by the same rules,
+    /// and is tested against that call. Refused with 25 as that call is.
+    pub fn lines(&self) -> Result<Vec<u64>, Refusal> {
+        lines::lines(self)
+    }
+}
