@@ -1,13 +1,16 @@
 // The cases of a run: which kind each is, by its number and the seed alone.
 use crate::bounds::{limits, CEILINGS};
-use crate::case::Case;
+use crate::case::{Case, Limits};
 use crate::chance::Chance;
 use crate::damage::hurt;
-use crate::functions_made::tree;
+use crate::functions_made::{long_function, tree};
 use crate::make::{number, Made, Spelling, FORMAT, LARGEST};
 
 /// One in so many stands near 10,000 findings: such a case takes long.
 const STOPS: usize = 2000;
+/// One in so many has a list of hundreds or thousands of entries.
+const LONG: usize = 400;
+const LONGEST_KEPT: usize = 4000;
 const MOST_FINDINGS: usize = 10_000;
 /// MOVE and LOADK of a register beyond a stack of 2; LOADK's constant is not there either.
 const WARNED: u32 = 9 << 7;
@@ -18,17 +21,23 @@ pub struct Cases {
     seed: u64,
     /// What luac made of the samples.
     real: Vec<Vec<u8>>,
+    /// The kept chunks, with their limits.
+    kept: Vec<(Vec<u8>, Limits)>,
 }
 
 impl Cases {
-    /// From the lines of oracle/samples/compiled.txt.
-    pub fn new(seed: u64, compiled: &str) -> Cases {
+    /// From the texts of oracle/samples/compiled.txt and crates/vectors/stdin.
+    pub fn new(seed: u64, compiled: &str, requests: &str) -> Cases {
         let lines = compiled.lines().filter(|line| !line.starts_with('#'));
-        let mut real: Vec<Vec<u8>> =
-            lines.map(|line| hex::decode(line.rsplit(' ').next().expect("a chunk")).expect("hex")).collect();
+        let mut real: Vec<Vec<u8>> = lines.map(last_word).collect();
         // Short ones are drawn more often.
         real.sort_by_key(Vec::len);
-        Cases { seed, real }
+        let chunks = requests.lines().filter(|line| line.starts_with(|first: char| first.is_ascii_digit()));
+        let kept = chunks
+            .map(|line| (last_word(line), first_numbers(line)))
+            .filter(|(chunk, _)| chunk.len() <= LONGEST_KEPT)
+            .collect();
+        Cases { seed, real, kept }
     }
 
     pub fn case(&self, index: u64) -> Case {
@@ -37,21 +46,44 @@ impl Cases {
         if chance.one_in(STOPS) {
             return Case { chunk: near_the_stop(&mut chance), limits: stop_limits(&mut chance), ask };
         }
+        if chance.one_in(LONG) {
+            let chunk = long(&mut chance);
+            return Case { limits: limits(&mut chance, &chunk), chunk, ask };
+        }
+        let mut own = None;
         let mut chunk = match chance.below(40) {
             0..=3 => self.real(&mut chance),
             4 => far_deltas(&mut chance),
+            5 | 6 => {
+                let (chunk, limits) = &self.kept[chance.below(self.kept.len())];
+                own = Some(*limits);
+                chunk.clone()
+            }
             _ => made(&mut chance),
         };
         if chance.below(100) < 38 {
             hurt(&mut chance, &mut chunk);
         }
-        Case { limits: limits(&mut chance, &chunk), chunk, ask }
+        let drawn = limits(&mut chance, &chunk);
+        Case { limits: own.filter(|_| chance.one_in(2)).unwrap_or(drawn), chunk, ask }
     }
 
     fn real(&self, chance: &mut Chance) -> Vec<u8> {
         let end = chance.of(&[20, 20, 40, 40, 60, self.real.len()]).min(self.real.len());
         self.real[chance.below(end)].clone()
     }
+}
+
+/// The chunk at the end of a line.
+fn last_word(line: &str) -> Vec<u8> {
+    let word = line.rsplit(' ').next().expect("a chunk");
+    hex::decode(word.trim_matches('-')).expect("hex")
+}
+
+/// The nine limits at the start of a line.
+fn first_numbers(line: &str) -> Limits {
+    let mut words = line.split(' ').map(|word| word.parse().expect("a limit"));
+    std::array::from_fn(|_| words.next().expect("nine limits"))
 }
 
 fn spelt(chance: &mut Chance, main: &Made) -> Vec<u8> {
@@ -68,6 +100,12 @@ fn spelt(chance: &mut Chance, main: &Made) -> Vec<u8> {
 
 fn made(chance: &mut Chance) -> Vec<u8> {
     let main = tree(chance);
+    spelt(chance, &main)
+}
+
+/// One list is long.
+fn long(chance: &mut Chance) -> Vec<u8> {
+    let main = long_function(chance);
     spelt(chance, &main)
 }
 

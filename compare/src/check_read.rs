@@ -145,15 +145,16 @@ fn lines(asked: &mut Asked, judged: &Judged, function: usize, all: bool) -> Resu
         proto.abs_line_info.get(asked.chance.below(proto.abs_line_info.len().max(1))).map_or(64, |anchor| anchor.pc);
     sought.push(near.wrapping_add(asked.chance.below(3)).wrapping_sub(1));
     sought.push(asked.chance.number() as usize >> asked.chance.below(64));
-    if is_refused(proto) {
-        asked.tally.refused(25);
-    }
     for pc in sought {
         asked.tally.lines += 1;
+        let line = judge("the Rust's line", || proto.get_line_for_pc(pc));
         let expected = if is_refused(proto) {
+            // docs/DIFFERENCES.md: here the Rust may overflow, and nothing of its answer is asked.
+            asked.tally.refused(25);
+            asked.tally.stopped_lines += u64::from(line.is_err());
             Err(25)
         } else {
-            Ok([judge("the Rust's line", || proto.get_line_for_pc(pc))? as u64])
+            Ok([line? as u64])
         };
         asked.entry(&LINE, function, pc, expected)?;
     }

@@ -177,6 +177,23 @@ pub fn function(chance: &mut Chance, nested: Vec<Made>) -> Made {
     made
 }
 
+/// A function in which one list is long. 256 upvalues are 0 in byte 31 of the copy.
+pub fn long_function(chance: &mut Chance) -> Made {
+    let mut made = function(chance, Vec::new());
+    let count = chance.of(&[126, 127, 128, 129, 254, 255, 256, 257, 400, 1000, 3000]);
+    match chance.below(8) {
+        0 => made.words = (0..count).map(|pc| word(chance, &made, pc, count)).collect(),
+        1 => made.constants = (0..count).map(|_| constant(chance)).collect(),
+        2 => made.upvalues = (0..count).map(|_| [chance.byte(), 0, 0]).collect(),
+        3 => made.nested = (0..count).map(|_| tiny(chance)).collect(),
+        4 => made.deltas = (0..count).map(|_| delta(chance)).collect(),
+        5 => made.anchors = (0..count).map(|pc| [pc as u64, line(chance)]).collect(),
+        6 => made.locals = (0..count).map(|_| (name(chance), [odd_number(chance), 0])).collect(),
+        _ => made.names = (0..count).map(|_| name(chance)).collect(),
+    }
+    made
+}
+
 /// The smallest function.
 fn tiny(chance: &mut Chance) -> Made {
     Made { bytes: [0, 0, chance.below(3) as u8], ..Made::default() }

@@ -25,20 +25,20 @@ struct Progress {
 
 fn main() -> ExitCode {
     let mut words = std::env::args().skip(1);
-    let compiled = words.next().expect("the compiled samples");
-    let compiled = std::fs::read_to_string(compiled).expect("the compiled samples");
+    let mut text = || std::fs::read_to_string(words.next().expect("a file")).expect("a file that can be read");
+    let (compiled, requests) = (text(), text());
     let first = words.next().unwrap_or("1".to_string());
     // A panic of the Rust is told as a difference, once.
     std::panic::set_hook(Box::new(|_| {}));
     if first == "self-test" {
-        return on_stack(move || test(&Cases::new(1, &compiled)));
+        return on_stack(move || test(&Cases::new(1, &compiled, &requests)));
     }
     let number = |word: String| word.parse().ok();
     let (Some(seed), Some(count)) = (number(first), number(words.next().unwrap_or("1000000".to_string()))) else {
         eprintln!("usage: compare/run [SEED] [COUNT] | self-test");
         return ExitCode::from(2);
     };
-    on_stack(move || run(&Cases::new(seed, &compiled), seed, count))
+    on_stack(move || run(&Cases::new(seed, &compiled, &requests), seed, count))
 }
 
 fn on_stack(work: impl FnOnce() -> ExitCode + Send + 'static) -> ExitCode {

@@ -12,6 +12,8 @@ pub struct Tally {
     cases_with: [u64; 7],
     warnings: [u64; 3],
     functions: u64,
+    /// Lines that are refused with 25 and at which the Rust itself stops: its sum leaves 64 bits.
+    pub stopped_lines: u64,
     pub entries: u64,
     pub lines: u64,
     pub words: u64,
@@ -50,6 +52,7 @@ impl Tally {
         }
         self.cases += other.cases;
         self.functions += other.functions;
+        self.stopped_lines += other.stopped_lines;
         self.entries += other.entries;
         self.lines += other.lines;
         self.words += other.words;
@@ -62,6 +65,7 @@ impl Tally {
         println!("cases      {}", self.cases);
         row("refused", refusals(1, 22));
         row("of a call", refusals(23, 26));
+        println!("           lines refused with 25 at which the Rust stops: {}", self.stopped_lines);
         row("of a word", refusals(27, 28));
         row("verdict", VERDICTS.iter().zip(self.verdicts).map(|(name, count)| format!("{name}: {count}")).collect());
         row("warnings", self.warnings.iter().enumerate().map(|(i, count)| format!("{i}: {count}")).collect());
