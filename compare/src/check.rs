@@ -12,6 +12,9 @@ use crate::limits::read;
 use crate::tally::Tally;
 use std::panic::{catch_unwind, AssertUnwindSafe};
 
+/// The name under which it is told that a call wrote to the chunk.
+pub const CHUNK: &str = "the chunk itself";
+
 /// What a comparison goes on with: the case, the library's calls, what is counted, and chance for what is asked of it.
 pub struct Asked<'a> {
     pub case: &'a Case,
@@ -23,7 +26,7 @@ pub struct Asked<'a> {
 pub fn check(case: &Case, lender: &mut Lender, tally: &mut Tally) -> Result<(), Difference> {
     let limits = case.resource_limits();
     let mut asked = Asked { case, lender, tally, chance: Chance::new(case.ask) };
-    let before = case.chunk.clone();
+    let mut before = case.chunk.clone();
     match judge("the Rust's reading", || read(&limits, &case.chunk))? {
         Err(refusal) => {
             asked.tally.refused(refusal.number);
@@ -38,8 +41,11 @@ pub fn check(case: &Case, lender: &mut Lender, tally: &mut Tally) -> Result<(), 
     }
     places(&mut asked, &limits)?;
     words(&mut asked)?;
+    if asked.lender.alters(CHUNK) {
+        before.push(0);
+    }
     if before != case.chunk {
-        return Err(Difference::new("the chunk itself", &[], "untouched", "touched"));
+        return Err(Difference::new(CHUNK, &[], "untouched", "touched"));
     }
     asked.tally.cases += 1;
     Ok(())

@@ -115,6 +115,11 @@ impl Lender {
         untouched(call, at, &space, items)
     }
 
+    /// Whether the self-test changes this.
+    pub fn alters(&self, what: &str) -> bool {
+        self.alteration.is_some_and(|alteration| alteration.call == what)
+    }
+
     /// Changes the answer as the self-test asks.
     fn alter<T: Filled, const N: usize>(
         &self,
