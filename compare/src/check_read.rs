@@ -173,7 +173,7 @@ fn no_function(asked: &mut Asked, functions: usize) -> Result<(), Difference> {
         3 => asked.entry(&UPVALUE, function, entry, Err(23)),
         4 => asked.entry(&DELTA, function, entry, Err(23)),
         5 => asked.entry(&ANCHOR, function, entry, Err(23)),
-        6 => asked.local(function, entry, asked.case.ask as usize % 3, Err(23)),
+        6 => asked.local(function, entry, 1, Err(23)),
         7 => asked.entry(&UPVALUE_NAME, function, entry, Err(23)),
         _ => asked.numbered(&FUNCTION, function, Err(23)),
     }
