@@ -1,10 +1,12 @@
 #!/bin/sh
 # Builds the judge: target/oracle/oracle, from the Rust sources at LUAD_SRC (default: shared/docs/src beside the repository).
 # Nothing is fetched and nothing of the sources is kept: they are linked into target/oracle and compiled where they lie.
+# For a fuzzer the Rust is compiled with more words for rustc (LUAD_FLAGS), and then into another folder (ORACLE_LIB).
 set -eu
 here=$(cd "$(dirname "$0")" && pwd)
 top=$(dirname "$here")
 out=$top/target/oracle
+lib=${ORACLE_LIB:-$out}
 
 fail() {
     echo "oracle/build.sh: $*" >&2
@@ -14,7 +16,7 @@ fail() {
 src=${LUAD_SRC:-$top/../shared/docs/src}
 [ -d "$src/crates" ] || fail "no Rust sources at $src; set LUAD_SRC"
 src=$(cd "$src" && pwd)
-mkdir -p "$out"
+mkdir -p "$out" "$lib"
 ln -sfn "$src/crates/luad-core/src" "$out/luad-core"
 ln -sfn "$src/crates/luad-dialect-lua54/src" "$out/luad-dialect-lua54"
 
@@ -31,13 +33,15 @@ left=$(grep -c 'truncate_and_dedup_diagnostics(' "$copy" || true)
 build() {
     kind=$1 name=$2 file=$3
     shift 3
-    rustc --edition 2021 -O -C overflow-checks=on --crate-type "$kind" --crate-name "$name" --out-dir "$out" -L "$out" "$@" "$here/$file"
+    rustc --edition 2021 -O -C overflow-checks=on --crate-type "$kind" --crate-name "$name" --out-dir "$lib" -L "$lib" "$@" "$here/$file"
 }
 build proc-macro derives standins/derives.rs
 build lib serde standins/serde.rs --extern derives
 build lib schemars standins/schemars.rs --extern derives
 build lib sha2 standins/sha2.rs
 build lib hex standins/hex.rs
-build lib luad_core standins/luad_core.rs --extern serde --extern schemars --extern hex
-build lib luad_dialect_lua54 standins/luad_dialect_lua54.rs --extern serde --extern schemars --extern sha2 --extern hex --extern luad_core
-build bin oracle src/main.rs --extern hex --extern luad_core --extern luad_dialect_lua54
+# shellcheck disable=SC2086
+build lib luad_core standins/luad_core.rs ${LUAD_FLAGS:-} --extern serde --extern schemars --extern hex
+# shellcheck disable=SC2086
+build lib luad_dialect_lua54 standins/luad_dialect_lua54.rs ${LUAD_FLAGS:-} --extern serde --extern schemars --extern sha2 --extern hex --extern luad_core
+[ -n "${ORACLE_LIB:-}" ] || build bin oracle src/main.rs --extern hex --extern luad_core --extern luad_dialect_lua54

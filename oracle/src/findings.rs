@@ -6,27 +6,46 @@ use luad_core::id::StableId;
 use luad_core::model::Chunk;
 use luad_dialect_lua54::{validator, validator_untruncated};
 
+/// A finding as it is shown; the number is a jump's target, an opcode, a register or an index.
+pub struct Finding<'a> {
+    pub function: usize,
+    pub pc: usize,
+    pub rule: &'a str,
+    pub number: i64,
+    pub severity: Severity,
+}
+
 pub fn put_findings(out: &mut String, chunk: &Chunk, functions: &[Function]) {
-    let mut number = 0;
-    for finding in put_verdict(out, chunk) {
-        put_finding(out, &finding, functions, &mut number);
+    let (verdict, list) = judged(chunk);
+    put_counted(out, verdict, &list);
+    for finding in findings(&list, functions) {
+        let Finding { function, pc, rule, number, severity } = finding;
+        put!(out, "finding {function} {pc} {rule} {number} {}\n", severity_name(severity));
     }
 }
 
-/// The verdict and the number of findings; the findings are what it gives back.
-pub fn put_verdict(out: &mut String, chunk: &Chunk) -> Vec<Diagnostic> {
+/// The verdict and the number of findings.
+pub fn put_verdict(out: &mut String, chunk: &Chunk) {
+    let (verdict, list) = judged(chunk);
+    put_counted(out, verdict, &list);
+}
+
+fn put_counted(out: &mut String, verdict: Verdict, list: &[Diagnostic]) {
+    put!(out, "verdict {}\nfindings {}\n", name(verdict), list.len());
+}
+
+/// The verdict and the diagnostics that are findings.
+pub fn judged(chunk: &Chunk) -> (Verdict, Vec<Diagnostic>) {
     let (verdict, _) = validator::validate_chunk_lua54(chunk);
     let (verdict_of_copy, mut list) = validator_untruncated::validate_chunk_lua54(chunk);
     assert_eq!(verdict, verdict_of_copy, "the two validators disagree");
-    put!(out, "verdict {}\n", name(verdict));
 
     // The list begins with the warnings of reading, and may end with the note that it was stopped: neither is a finding.
     list.drain(..chunk.diagnostics.len());
     if list.last().is_some_and(|last| last.code == "CORE-LIMIT-003") {
         list.pop();
     }
-    put!(out, "findings {}\n", list.len());
-    list
+    (verdict, list)
 }
 
 fn name(verdict: Verdict) -> &'static str {
@@ -38,21 +57,27 @@ fn name(verdict: Verdict) -> &'static str {
     }
 }
 
-/// One finding. Functions are gone through in their order, so the search goes on from the last finding's function.
-fn put_finding(out: &mut String, finding: &Diagnostic, functions: &[Function], number: &mut usize) {
-    let StableId::Instruction { proto, pc } = &finding.target else {
-        panic!("{} is at no instruction", finding.code);
-    };
-    while functions[*number].proto.path != *proto {
-        *number += 1;
-    }
-    let rule = finding.code.strip_prefix("L54-VAL-").expect("a rule of the validator");
-    let severity = match finding.severity {
+fn severity_name(severity: Severity) -> &'static str {
+    match severity {
         Severity::Error => "error",
         Severity::Warning => "warning",
-        Severity::Info => panic!("{rule} is a mere note"),
-    };
-    put!(out, "finding {number} {pc} {rule} {} {severity}\n", offending_number(&finding.message));
+        Severity::Info => panic!("a finding is a mere note"),
+    }
+}
+
+/// The findings of a list. Functions are gone through in their order, so the search goes on from the last finding's function.
+pub fn findings<'a>(list: &'a [Diagnostic], functions: &'a [Function]) -> impl Iterator<Item = Finding<'a>> {
+    let mut function = 0;
+    list.iter().map(move |finding| {
+        let StableId::Instruction { proto, pc } = &finding.target else {
+            panic!("{} is at no instruction", finding.code);
+        };
+        while functions[function].proto.path != *proto {
+            function += 1;
+        }
+        let rule = finding.code.strip_prefix("L54-VAL-").expect("a rule of the validator");
+        Finding { function, pc: *pc, rule, number: offending_number(&finding.message), severity: finding.severity }
+    })
 }
 
 /// In each of the seven messages the offending number is the first number.

@@ -5,9 +5,9 @@ use luad_core::model::Chunk;
 use luad_core::reader::SafeReader;
 use luad_dialect_lua54::chunk::decode_chunk_lua54;
 
-const NESTING_CEILING: usize = 200;
-const DIAGNOSTICS_CEILING: usize = 10_000;
-const CEILING: usize = 16_777_216;
+pub const NESTING_CEILING: usize = 200;
+pub const DIAGNOSTICS_CEILING: usize = 10_000;
+pub const CEILING: usize = 16_777_216;
 
 /// The chunk that these bytes spell, or the first refusal of 21, 22 and 1 to 20.
 pub fn read(limits: &ResourceLimits, bytes: &[u8]) -> Result<Chunk, Refusal> {

@@ -42,12 +42,17 @@ pub fn put_line(out: &mut String, number: usize, proto: &Prototype) {
         put!(out, "line {number} refused 25\n");
         return;
     }
-    let longest = proto.instructions.len().max(proto.line_info.len()).max(proto.abs_line_info.len());
     put!(out, "line {number}");
-    put_pcs(out, proto, (0..MOST_PCS.min(longest + 2)).chain(FAR_PCS));
+    put_pcs(out, proto, pcs(proto));
 }
 
-fn is_refused(proto: &Prototype) -> bool {
+/// The pcs that are looked up for a function of a chunk.
+pub fn pcs(proto: &Prototype) -> impl Iterator<Item = usize> {
+    let longest = proto.instructions.len().max(proto.line_info.len()).max(proto.abs_line_info.len());
+    (0..MOST_PCS.min(longest + 2)).chain(FAR_PCS)
+}
+
+pub fn is_refused(proto: &Prototype) -> bool {
     proto.line_defined >= FIRST_REFUSED_LINE
         || proto.abs_line_info.iter().any(|anchor| anchor.line >= FIRST_REFUSED_LINE)
 }

@@ -2,9 +2,10 @@
 use crate::text::put;
 use luad_core::diagnostic::Diagnostic;
 
+#[derive(Clone, Copy)]
 pub struct Refusal {
-    number: u8,
-    place: Option<usize>,
+    pub number: u8,
+    pub place: Option<usize>,
 }
 
 impl Refusal {

@@ -27,7 +27,8 @@ fn put_encoding(out: &mut String, fields: RawInstruction54) {
     out.push('\n');
 }
 
-fn encode(fields: RawInstruction54) -> Result<u32, Refusal> {
+/// The word of these fields, or refusal 28 or 27.
+pub fn encode(fields: RawInstruction54) -> Result<u32, Refusal> {
     let opcode = fields.opcode.ok_or(Refusal::without_place(28))?;
     if !in_range(opcode.mode(), &fields) {
         return Err(Refusal::without_place(27));

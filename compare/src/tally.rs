@@ -1,0 +1,85 @@
+// What was asked, counted: cases by refusal, verdict and rule, and the answers compared.
+use crate::judged::{Judged, RULES, VERDICTS};
+
+#[derive(Default)]
+pub struct Tally {
+    pub cases: u64,
+    /// By number: of a chunk 1 to 22, of a call 23 to 26, of a word 27 and 28.
+    refusals: [u64; 29],
+    verdicts: [u64; 3],
+    /// Findings of each rule, and cases that have one.
+    findings: [u64; 7],
+    cases_with: [u64; 7],
+    warnings: [u64; 3],
+    functions: u64,
+    /// Lines that are refused with 25 and at which the Rust itself stops: its sum leaves 64 bits.
+    pub stopped_lines: u64,
+    pub entries: u64,
+    pub lines: u64,
+    pub words: u64,
+    pub parts: u64,
+}
+
+impl Tally {
+    pub fn refused(&mut self, number: u8) {
+        self.refusals[usize::from(number)] += 1;
+    }
+
+    pub fn read(&mut self, judged: &Judged) {
+        self.verdicts[judged.verdict as usize] += 1;
+        self.warnings[usize::from(judged.summary[10] != 0) + usize::from(judged.summary[12] != 0)] += 1;
+        self.functions += judged.functions.len() as u64;
+        let mut rules = [0; 7];
+        for finding in judged.findings.chunks_exact(4) {
+            rules[finding[2] as usize - 1] += 1;
+        }
+        for (i, count) in rules.iter().enumerate() {
+            self.findings[i] += count;
+            self.cases_with[i] += u64::from(*count > 0);
+        }
+    }
+
+    pub fn add(&mut self, other: &Tally) {
+        let lists = [
+            (&mut self.refusals[..], &other.refusals[..]),
+            (&mut self.verdicts, &other.verdicts),
+            (&mut self.findings, &other.findings),
+            (&mut self.cases_with, &other.cases_with),
+            (&mut self.warnings, &other.warnings),
+        ];
+        for (sums, counts) in lists {
+            sums.iter_mut().zip(counts).for_each(|(sum, count)| *sum += count);
+        }
+        self.cases += other.cases;
+        self.functions += other.functions;
+        self.stopped_lines += other.stopped_lines;
+        self.entries += other.entries;
+        self.lines += other.lines;
+        self.words += other.words;
+        self.parts += other.parts;
+    }
+
+    pub fn print(&self) {
+        let row = |title: &str, counts: Vec<String>| println!("{title:9}  {}", counts.join("  "));
+        let refusals = |from: usize, to: usize| (from..=to).map(|i| format!("{i}: {}", self.refusals[i])).collect();
+        println!("cases      {}", self.cases);
+        row("refused", refusals(1, 22));
+        row("of a call", refusals(23, 26));
+        println!("           lines refused with 25 at which the Rust stops: {}", self.stopped_lines);
+        row("of a word", refusals(27, 28));
+        row("verdict", VERDICTS.iter().zip(self.verdicts).map(|(name, count)| format!("{name}: {count}")).collect());
+        row("warnings", self.warnings.iter().enumerate().map(|(i, count)| format!("{i}: {count}")).collect());
+        row(
+            "rule",
+            RULES
+                .iter()
+                .zip(self.cases_with.iter().zip(self.findings))
+                .map(|(name, (cases, all))| format!("{name}: {cases} ({all})"))
+                .collect(),
+        );
+        println!(
+            "compared   functions: {}  entries by number: {}  parts at a place: {}  lines: {}  words: {}",
+            self.functions, self.entries, self.parts, self.lines, self.words
+        );
+    }
+}
