@@ -1,6 +1,7 @@
 #!/bin/sh
 # Builds the judge: target/oracle/oracle, from the Rust sources at LUAD_SRC (default: shared/docs/src beside the repository).
 # Nothing is fetched and nothing of the sources is kept: they are linked into target/oracle and compiled where they lie.
+# bench/run has it built elsewhere (ORACLE_OUT), without overflow checks (ORACLE_OVERFLOW=off).
 set -eu
 here=$(cd "$(dirname "$0")" && pwd)
 top=$(dirname "$here")
@@ -28,10 +29,12 @@ left=$(grep -c 'truncate_and_dedup_diagnostics(' "$copy" || true)
 [ "$left" = 0 ] || fail "the call of truncate_and_dedup_diagnostics is not a line by itself"
 
 # Overflow stops the judge rather than giving a wrapped answer.
+overflow=${ORACLE_OVERFLOW:-on}
+built=${ORACLE_OUT:-$out}
 build() {
     kind=$1 name=$2 file=$3
     shift 3
-    rustc --edition 2021 -O -C overflow-checks=on --crate-type "$kind" --crate-name "$name" --out-dir "$out" -L "$out" "$@" "$here/$file"
+    rustc --edition 2021 -O -C overflow-checks="$overflow" --crate-type "$kind" --crate-name "$name" --out-dir "$built" -L "$built" "$@" "$here/$file"
 }
 build proc-macro derives standins/derives.rs
 build lib serde standins/serde.rs --extern derives
