@@ -138,7 +138,7 @@ module _ (s : Bytes) (L : ResourceLimits) (from : Skimmed) (n left : ℕ) where
   pub starts : Rest from n
   starts w e i =
       λ j. shownSkim (record { number = sym e j; instructions = sym i j; depth = w .depth; parent = w .parent; source = w .source })
-          (forest n (entered L left) (record { number = sym e j; instructions = sym i j; depth = w .depth; parent = w .parent; source = w .source }) (from .next .at) (drop (from .next .at) s))
+      (forest n (entered L left) (record { number = sym e j; instructions = sym i j; depth = w .depth; parent = w .parent; source = w .source }) (from .next .at) (drop (from .next .at) s))
 
   module _ (k : Skimmed) (more : ℕ) (rest : Rest k more) where
     pub ends-at : more ≤ 0 → (w : grammar.Where) → from .number ≡ w .number → from .instructions ≡ w .instructions → skim.Ok k ≡ all w
