@@ -1,7 +1,8 @@
 #!/bin/sh
 # Builds the judge: target/oracle/oracle, from the Rust sources at LUAD_SRC (default: shared/docs/src beside the repository).
 # Nothing is fetched and nothing of the sources is kept: they are linked into target/oracle and compiled where they lie.
-# For a fuzzer the Rust is compiled with more words for rustc (LUAD_FLAGS), and then into another folder (ORACLE_LIB).
+# Into another folder (ORACLE_LIB), without the program, it is compiled for a fuzzer with more words for rustc (LUAD_FLAGS), and for bench/run without overflow
+# checks (ORACLE_OVERFLOW=off).
 set -eu
 here=$(cd "$(dirname "$0")" && pwd)
 top=$(dirname "$here")
@@ -30,10 +31,11 @@ left=$(grep -c 'truncate_and_dedup_diagnostics(' "$copy" || true)
 [ "$left" = 0 ] || fail "the call of truncate_and_dedup_diagnostics is not a line by itself"
 
 # Overflow stops the judge rather than giving a wrapped answer.
+overflow=${ORACLE_OVERFLOW:-on}
 build() {
     kind=$1 name=$2 file=$3
     shift 3
-    rustc --edition 2021 -O -C overflow-checks=on --crate-type "$kind" --crate-name "$name" --out-dir "$lib" -L "$lib" "$@" "$here/$file"
+    rustc --edition 2021 -O -C overflow-checks="$overflow" --crate-type "$kind" --crate-name "$name" --out-dir "$lib" -L "$lib" "$@" "$here/$file"
 }
 build proc-macro derives standins/derives.rs
 build lib serde standins/serde.rs --extern derives

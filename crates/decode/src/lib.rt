@@ -9,7 +9,6 @@ ghost use Rattle.decode.specs.Loaded.{shownMain};
 use chunk::walk::WalkResult;
 use chunk::walk::Walked;
 use chunk::walk::Where;
-use chunk::walk::read_function;
 use cursor::Cursor;
 use format::header::Header;
 use format::limits::ResourceLimits;
@@ -21,6 +20,7 @@ use prototype::row::OptionRow;
 use reader::field::U8Result;
 use reader::field::read_u8;
 use reader::string::OptionString;
+use skim::outer::read_wanted;
 
 // A chunk up to its trailing bytes: what its header shows, the header's warning, where the chunk ends, how many functions it has, and the row of the one that was wanted, if there is one of that number.
 pub struct Loaded {
@@ -70,7 +70,7 @@ pub fn read_main(s: &[u8], limits: ResourceLimits, wanted: usize) -> LoadedResul
                     next: first,
                 } => {
                     let place = outermost();
-                    let functions = read_function(
+                    let functions = read_wanted(
                         s,
                         limits,
                         place,

@@ -9,8 +9,8 @@ use cursor::short;
 use format::refusal::Refusal;
 use little::wide;
 
-// Ruled out: low group first, a number that is cut short reported as overflow.
-pub fn read_varint_lua54(s: &[u8], cursor: Cursor) -> U64Result
+// A number of any length.
+fn read_groups(s: &[u8], cursor: Cursor) -> U64Result
     ensures { λ r. ⌜ r ≡ shownU64 (number (cursor .at) (drop (cursor .at) (now (s .entry)))) ⌝ }
 {
     let mut value: u64 = 0;
@@ -30,4 +30,23 @@ pub fn read_varint_lua54(s: &[u8], cursor: Cursor) -> U64Result
         value = value * 128 + byte;
     }
     U64Result::Err(short(1, i))
+}
+
+// A number. Most are one byte, so that is tried first; apart from the loop it is short enough to stand in every caller.
+// Ruled out: low group first, a number that is cut short reported as overflow.
+pub fn read_varint_lua54(s: &[u8], cursor: Cursor) -> U64Result
+    ensures { λ r. ⌜ r ≡ shownU64 (number (cursor .at) (drop (cursor .at) (now (s .entry)))) ⌝ }
+{
+    let at = cursor.at;
+    if s.len() <= at {
+        return U64Result::Err(short(1, at));
+    }
+    let byte = wide(s[at]) as u64;
+    if byte >= 128 {
+        return U64Result::Ok {
+            value: byte - 128,
+            next: Cursor { at: at + 1 },
+        };
+    }
+    read_groups(s, cursor)
 }

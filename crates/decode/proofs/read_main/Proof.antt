@@ -9,8 +9,8 @@ use Rattle.decode.proofs.Answers.{header-refused, byte-refused, functio
 use Rattle.decode.proofs.read_main.Statement.{statement}
 use Rattle.decode.proofs.read_main.Tie as tie
 
-read-function-requires : tie.Need-read-function-requires
-read-function-requires c κs =
+read-wanted-requires : tie.Need-read-wanted-requires
+read-wanted-requires c κs =
     let b = c .before .before .before .before .before .before .before .before .before .before in
     let nesting = b .pre .0 in
     let number : c .outermost .result .number ≤ 16777216 = rw (c .outermost .ensures) (omega arith) in
@@ -42,7 +42,7 @@ returns-3 c =
     let j = k .forgotten2 .given .0 in
     functions-refused (a .s .now) (a .limits) (a .wanted) (g .0) (g .1 .0) (g .1 .1 .0) (sym (h .front2 .given .1) ∙ b .parse-header-lua54 .ensures)
     (j .0) (j .1 .0) (sym (k .forgotten2 .given .1) ∙ k .before .before .read-u8 .ensures)
-    _ (sym (c .before .functions .given .1) ∙ f .read-function .ensures outermost (f .before .outermost .ensures))
+    _ (sym (c .before .functions .given .1) ∙ f .read-wanted .ensures outermost (f .before .outermost .ensures))
 
 returns-4 : tie.Need-returns-4
 returns-4 c =
@@ -57,7 +57,7 @@ returns-4 c =
     ap answer.Ok (c .put-together .ensures)
     ∙ chunk-read (a .s .now) (a .limits) (a .wanted) (g .0) (g .1 .0) (g .1 .1 .0) (sym (h .front2 .given .1) ∙ b .parse-header-lua54 .ensures)
     (j .0) (j .1 .0) (sym (k .forgotten2 .given .1) ∙ k .before .before .read-u8 .ensures)
-    (n .functions2 .given .0 .0) (sym (n .functions2 .given .1) ∙ f .read-function .ensures outermost (f .before .outermost .ensures))
+    (n .functions2 .given .0 .0) (sym (n .functions2 .given .1) ∙ f .read-wanted .ensures outermost (f .before .outermost .ensures))
 
 pub read-main-spec : {M : Type 1} → statement M
 read-main-spec =
@@ -66,7 +66,7 @@ read-main-spec =
     (λ c κs. search needs) (λ c. search needs) (λ c. search needs)
     (λ c κs. search needs) (λ c. search needs) (λ c. search needs)
     (λ c κs. search needs)
-    read-function-requires
+    read-wanted-requires
     (λ c. search needs) (λ c. search needs)
     (λ c κs. search needs)
     returns

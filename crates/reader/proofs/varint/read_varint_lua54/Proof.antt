@@ -1,59 +1,40 @@
--- `reader::varint::read_varint_lua54` meets its contract. The invariant: the whole number is what is read from here on, behind the groups so far (`format`'s `Steps`).
--- Assumes nothing.
-use mathlib.Core.Path.{_≡_, refl, sym, _∙_, ap}
-use Prim.Native.Nat.{_-_}
+-- `reader::varint::read_varint_lua54` meets its contract: no byte, a number of one byte, or any other. Assumes nothing.
+use mathlib.Core.Path.{_≡_, sym, _∙_, ap}
+use Prim.Native.Nat.{ℕ, _<_, _≤_, _+_, _-_, _*_}
 use native.Mathlib.Omega.{arith}
 use borrow.Author.Needs.{needs}
-use lib.ListN.{length, drop}
+use lib.ListN.{length, drop, getD}
+use Rattle.format.specs.Form.{Bytes}
+use Rattle.format.specs.Read.{ok}
 use Rattle.format.specs.ReadFields.{groups}
-use Rattle.format.proofs.Steps.{groups-short, groups-overflow, groups-last, groups-more}
+use Rattle.format.proofs.Steps.{groups-short, groups-last}
 use Rattle.reader.specs.Shown.{shownU64}
 use Rattle.reader.proofs.varint.read_varint_lua54.Statement.{statement}
 use Rattle.reader.proofs.varint.read_varint_lua54.Tie as tie
 
-abbrev Inv-loop : tie.InvT-loop
-Inv-loop s value₀ i₀ value i = groups 0 i₀ (drop i₀ s) ≡ groups value i (drop i s)
+one-byte : (s : Bytes) (i x : ℕ) → i < length s → x ≡ getD s i 0 → 128 ≤ x → x < 256 → groups 0 i (drop i s) ≡ ok (x - 128) (i + 1) (drop (i + 1) s)
+one-byte s i x h byte l m =
+    let e : 0 * 128 + (x - 128) ≡ x - 128 = omega arith in
+    groups-last s i 0 h x byte (omega arith) l m ∙ ap (λ v. ok v (i + 1) (drop (i + 1) s)) e
 
-abbrev μ-loop : tie.MeasureT-loop
-μ-loop s value₀ i₀ value i = length s - i
-
-returns : tie.Need-returns Inv-loop μ-loop
+returns : tie.Need-returns
 returns c =
-    let s = c .before .before .before .before .args .s .now in
-    let l = c .before .before .loop in
-    sym (ap shownU64 (l .inv ∙ groups-overflow s (l .i) (l .value) (omega arith) (omega arith)))
+    let a = c .before .before .before .args in
+    rw (c .short .ensures) (sym (ap shownU64 (groups-short (a .s .now) (a .cursor .at) 0 (omega arith))))
 
-returns-2 : tie.Need-returns-2 Inv-loop μ-loop
+returns-2 : tie.Need-returns-2
 returns-2 c =
-    let s = c .before .before .before .before .before .before .before .args .s .now in
-    let l = c .before .before .before .before .before .loop in
+    let a = c .before .before .before .before .before .args in
     let w = c .before .wide in
-    sym (ap shownU64 (l .inv ∙ groups-last s (l .i) (l .value) (omega arith) (w .result) (w .ensures .0) (omega arith) (omega arith) (omega arith)))
-
-loop-again : tie.Need-loop-again Inv-loop μ-loop
-loop-again c =
-    let s = c .before .before .before .before .before .before .before .args .s .now in
-    let l = c .before .before .before .before .before .loop in
-    let w = c .before .wide in
-    l .inv ∙ groups-more s (l .i) (l .value) (omega arith) (w .result) (w .ensures .0) (omega arith) (omega arith)
-
-returns-3 : tie.Need-returns-3 Inv-loop μ-loop
-returns-3 c =
-    let s = c .before .before .before .before .args .s .now in
-    let l = c .before .before .loop in
-    rw (c .short .ensures) (sym (ap shownU64 (l .inv ∙ groups-short s (l .i) (l .value) (omega arith))))
+    sym (ap shownU64 (one-byte (a .s .now) (a .cursor .at) (w .result) (omega arith) (w .ensures .0) (omega arith) (omega arith)))
 
 pub read-varint-lua54-spec : {M : Type 1} → statement M
 read-varint-lua54-spec =
     tie.close
     (tie.spec
-    Inv-loop
-    μ-loop
-    (λ c. refl)
-    returns
-    (λ c. search needs) (λ c κs. search needs) (λ c. search needs) (λ c. search needs) (λ c. search needs) (λ c. search needs)
-    returns-2
-    (λ c. search needs) (λ c. search needs) (λ c. search needs)
-    loop-again
     (λ c κs. search needs)
-    returns-3)
+    returns
+    (λ c. search needs) (λ c κs. search needs) (λ c. search needs) (λ c. search needs)
+    returns-2
+    (λ c κs. search needs)
+    (λ c. search needs))

@@ -1,0 +1,170 @@
+/* Measures every call on every file, and prints tables. Nothing here passes or fails: a person reads the ratios.
+ *     measure ROUNDS compare FILE ..     all calls on each file, and the goals' ratios
+ *     measure ROUNDS growth FILE ..      the library's calls on files of growing size: processor time for each byte
+ * In a round every call is made once, one after the other; the shortest of all rounds counts. */
+#define _GNU_SOURCE
+#include "calls.h"
+
+#include <fcntl.h>
+#include <stdio.h>
+#include <stdlib.h>
+#include <string.h>
+#include <sys/mman.h>
+#include <sys/stat.h>
+#include <unistd.h>
+
+enum { MEMCPY, SKIP, SUMMARY, INDEX, COPY, VERDICT, FINDINGS, LINE, LOAD, DUMP, CALLS };
+static const char *const names[CALLS] = {"memcpy", "C reader", "summary", "index", "copy", "verdict", "findings", "line", "lua_load", "lua_dump"};
+static const call runs[CALLS] = {run_memcpy, run_skip, run_summary, run_index, run_copy, run_verdict, run_findings, run_line, run_load, run_dump};
+#define FIRST_OWN SUMMARY
+#define LAST_OWN LINE
+
+#define MOST_FILES 64
+static double best[MOST_FILES][CALLS];
+static struct rust rust[MOST_FILES];
+static int rust_ended[MOST_FILES];
+static struct set sets[MOST_FILES];
+static int files;
+
+/* What the Rust takes is far above what is compared with it: few rounds do. */
+#define RUST_ROUNDS 2
+/* A timed stretch is at least this long. */
+#define SHORTEST 0.002
+
+static void fail(const char *what) {
+    perror(what);
+    exit(1);
+}
+
+static void load_set(struct set *set, const char *path) {
+    int file = open(path, O_RDONLY);
+    struct stat about;
+    if (file < 0 || fstat(file, &about) < 0) fail(path);
+    const uint8_t *bytes = mmap(NULL, about.st_size, PROT_READ, MAP_PRIVATE | MAP_POPULATE, file, 0);
+    if (bytes == MAP_FAILED) fail(path);
+    close(file);
+    const char *slash = strrchr(path, '/');
+    set->name = slash ? slash + 1 : path;
+    for (const uint8_t *at = bytes; at < bytes + about.st_size; at += 8 + set->chunks[set->count - 1].len) {
+        struct chunk c = {.bytes = at + 8};
+        memcpy(&c.len, at, 8);
+        set->chunks = realloc(set->chunks, (set->count + 1) * sizeof c);
+        if (!set->chunks) fail("memory");
+        set->chunks[set->count++] = c;
+        set->bytes += c.len;
+    }
+}
+
+/* Long enough for the clock: by what the C reader takes. */
+static unsigned repeats(struct set *set) {
+    set->repeats = 1;
+    double once = run_skip(set);
+    return once * 16 < SHORTEST ? (unsigned)(SHORTEST / once) + 1 : 1;
+}
+
+static void measure(int file, int rounds, int with_rust) {
+    struct set *set = sets + file;
+    make_ready(set);
+    set->repeats = repeats(set);
+    for (int call = 0; call < CALLS; call++) best[file][call] = 1e9;
+    for (int round = 0; round < rounds; round++) {
+        for (int call = 0; call < CALLS; call++) {
+            double took = runs[call](set);
+            if (took < best[file][call]) best[file][call] = took;
+        }
+        if (!with_rust || round >= RUST_ROUNDS || (round > 0 && !rust_ended[file])) continue;
+        struct rust took;
+        rust_ended[file] = run_rust(set, &took);
+        if (rust_ended[file] && (round == 0 || took.decode < rust[file].decode)) rust[file] = took;
+    }
+}
+
+static size_t functions(const struct set *set) {
+    size_t n = 0;
+    for (size_t i = 0; i < set->count; i++) n += set->chunks[i].functions;
+    return n;
+}
+
+static void show_times(void) {
+    printf("Milliseconds for a file, the shortest of all rounds:\n\n| file | bytes | functions |");
+    for (int call = 0; call < CALLS; call++) printf(" %s |", names[call]);
+    printf(" Rust decode | encode | validate |\n|---|--:|--:|");
+    for (int call = 0; call < CALLS + 3; call++) printf("--:|");
+    printf("\n");
+    for (int f = 0; f < files; f++) {
+        printf("| %s | %zu | %zu |", sets[f].name, sets[f].bytes, functions(sets + f));
+        for (int call = 0; call < CALLS; call++) printf(" %.3f |", best[f][call] * 1e3);
+        if (rust_ended[f]) printf(" %.0f | %.0f | %.0f |\n", rust[f].decode * 1e3, rust[f].encode * 1e3, rust[f].validate * 1e3);
+        else printf(" out of memory | | |\n");
+    }
+}
+
+static double slowest(int file) {
+    double most = 0;
+    for (int call = FIRST_OWN; call <= LAST_OWN; call++)
+        if (best[file][call] > most) most = best[file][call];
+    return most;
+}
+
+static void show_goals(void) {
+    printf("\nRatios (above 1: the library is faster), and the goal for each:\n\n"
+           "| file | lua_load / summary | lua_load / verdict | lua_dump / copy | load and dump / copy | C reader / summary | Rust decode / slowest call |\n"
+           "|---|--:|--:|--:|--:|--:|--:|\n| goal | 3 | 1 | 1 | | 0.67 | 50 |\n");
+    for (int f = 0; f < files; f++) {
+        const double *b = best[f];
+        printf("| %s | %.2f | %.2f | %.2f | %.2f | %.2f |", sets[f].name, b[LOAD] / b[SUMMARY], b[LOAD] / b[VERDICT], b[DUMP] / b[COPY],
+               (b[LOAD] + b[DUMP]) / b[COPY], b[SKIP] / b[SUMMARY]);
+        if (rust_ended[f]) printf(" %.0f |\n", rust[f].decode / slowest(f));
+        else printf(" |\n");
+    }
+    printf("\nIn times of the C reader (below 1: faster):\n\n| file |");
+    for (int call = FIRST_OWN; call <= LAST_OWN; call++) printf(" %s |", names[call]);
+    printf("\n|---|");
+    for (int call = FIRST_OWN; call <= LAST_OWN; call++) printf("--:|");
+    printf("\n");
+    for (int f = 0; f < files; f++) {
+        printf("| %s |", sets[f].name);
+        for (int call = FIRST_OWN; call <= LAST_OWN; call++) printf(" %.2f |", best[f][call] / best[f][SKIP]);
+        printf("\n");
+    }
+}
+
+/* Picoseconds for a byte; behind the files of one kind, their name up to the dash, the last against the first. */
+static void show_growth(void) {
+    printf("Picoseconds for a byte:\n\n| file |");
+    for (int call = 0; call < CALLS; call++) printf(" %s |", names[call]);
+    printf("\n|---|");
+    for (int call = 0; call < CALLS; call++) printf("--:|");
+    printf("\n");
+    int first = 0;
+    for (int f = 0; f < files; f++) {
+        size_t kind = strcspn(sets[f].name, "-");
+        printf("| %s |", sets[f].name);
+        for (int call = 0; call < CALLS; call++) printf(" %.0f |", best[f][call] / sets[f].bytes * 1e12);
+        printf("\n");
+        if (f + 1 < files && strncmp(sets[f].name, sets[f + 1].name, kind + 1) == 0) continue;
+        printf("| last / first |");
+        for (int call = 0; call < CALLS; call++) printf(" %.2f |", best[f][call] / sets[f].bytes / (best[first][call] / sets[first].bytes));
+        printf("\n");
+        first = f + 1;
+    }
+}
+
+int main(int count, char **words) {
+    if (count < 4 || count - 3 > MOST_FILES) {
+        fprintf(stderr, "usage: measure ROUNDS compare|growth FILE ..\n");
+        return 2;
+    }
+    int rounds = atoi(words[1]), growth = strcmp(words[2], "growth") == 0;
+    double load[3] = {0};
+    files = count - 3;
+    getloadavg(load, 3);
+    printf("%d rounds; load before: %.2f", rounds, load[0]);
+    for (int f = 0; f < files; f++) load_set(sets + f, words[f + 3]);
+    for (int f = 0; f < files; f++) measure(f, rounds, !growth);
+    getloadavg(load, 3);
+    printf(", behind: %.2f\n\n", load[0]);
+    if (growth) show_growth();
+    else show_times(), show_goals();
+    return 0;
+}

@@ -1,0 +1,6 @@
+/* A plain reader of chunks in C, to measure against: it passes over a chunk and tests its structure. */
+#include <stddef.h>
+#include <stdint.h>
+
+/* How many functions a chunk has; -1 where it is refused. The limits are those of lafzimdo.h. */
+int64_t skip_chunk(const uint8_t *chunk, size_t len, const uint64_t limits[9]);

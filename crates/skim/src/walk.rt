@@ -1,0 +1,96 @@
+// The walk: as that of `chunk`, without rows, sources, depths and parents.
+ghost use mathlib.Core.Path.{_≡_};
+ghost use Prim.Native.Nat.{_≤_};
+ghost use lib.ListN.{drop};
+ghost use Rattle.format.specs.GrammarChunk as grammar;
+ghost use Rattle.format.specs.ReadChunk.{forest, function};
+ghost use Rattle.chunk.specs.Walk.{entered};
+ghost use Rattle.skim.specs.Skim.{shownSkim};
+use cursor::Cursor;
+use format::limits::ResourceLimits;
+use format::refusal::Refusal;
+use prototype::parts::HeadResult;
+use prototype::parts::TailResult;
+use prototype::parts::read_head;
+use prototype::parts::read_tail;
+
+// Where a walk stands: the number of the next function, and the instructions of all before it.
+pub struct Skimmed {
+    pub next: Cursor,
+    pub number: usize,
+    pub instructions: usize,
+}
+
+pub enum SkimResult {
+    Ok(Skimmed),
+    Err(Refusal),
+}
+
+// Passes over a function and all that nest in it, at most `left` deep. Ruled out: nested functions that are not counted, instructions that are counted twice.
+pub fn skim_function(s: &[u8], limits: ResourceLimits, left: usize, from: Skimmed) -> SkimResult
+    requires { ⌜ (limits .«max_total_prototypes» ≤ 16777216) × (limits .«max_total_instructions» ≤ 16777216) × (from .number ≤ 16777216) ⌝ }
+    ensures { λ r. ⌜ ((w : grammar.Where) → from .number ≡ w .number → from .instructions ≡ w .instructions → r ≡ shownSkim w (function limits left w (from .next .at) (drop (from .next .at) (now (s .entry))))) ⌝ }
+{
+    let begins = read_head(s, limits, from.instructions, from.next);
+    match begins {
+        HeadResult::Err(refusal) => SkimResult::Err(refusal),
+        HeadResult::Ok {
+            head: head,
+            next: behind,
+        } => {
+            let first = Skimmed {
+                next: behind,
+                number: from.number + 1,
+                instructions: from.instructions + head.lists.instructions.count,
+            };
+            let inner = skim_functions(s, limits, head.protos.count, left, first);
+            match inner {
+                SkimResult::Err(refusal) => SkimResult::Err(refusal),
+                SkimResult::Ok(nested) => {
+                    let ends = read_tail(s, limits.max_string_bytes, nested.next);
+                    match ends {
+                        TailResult::Err(refusal) => SkimResult::Err(refusal),
+                        TailResult::Ok { tail: _, next } => SkimResult::Ok(Skimmed {
+                            next: next,
+                            number: nested.number,
+                            instructions: nested.instructions,
+                        }),
+                    }
+                }
+            }
+        }
+    }
+}
+
+// Passes over n functions one after the other, each nested in a function below which functions nest at most `left` deep.
+pub fn skim_functions(
+    s: &[u8],
+    limits: ResourceLimits,
+    n: usize,
+    left: usize,
+    from: Skimmed,
+) -> SkimResult
+    requires { ⌜ (limits .«max_total_prototypes» ≤ 16777216) × (limits .«max_total_instructions» ≤ 16777216) ⌝ }
+    ensures { λ r. ⌜ ((w : grammar.Where) → from .number ≡ w .number → from .instructions ≡ w .instructions → r ≡ shownSkim w (forest n (entered limits left) w (from .next .at) (drop (from .next .at) (now (s .entry))))) ⌝ }
+{
+    let mut skimmed = from;
+    let mut more = n;
+    while more > 0 {
+        let at = skimmed.next.at;
+        if left == 0 {
+            return SkimResult::Err(Refusal::NestingDepth(at));
+        }
+        if limits.max_total_prototypes < skimmed.number {
+            return SkimResult::Err(Refusal::TotalPrototypes(at));
+        }
+        let one = skim_function(s, limits, left - 1, skimmed);
+        match one {
+            SkimResult::Err(refusal) => return SkimResult::Err(refusal),
+            SkimResult::Ok(later) => {
+                skimmed = later;
+            }
+        }
+        more -= 1;
+    }
+    SkimResult::Ok(skimmed)
+}
