@@ -1,5 +1,5 @@
 #!/usr/bin/env python3
-# Compares the static library's answers with the kept answers of the Rust (crates/vectors), line by line; the lines of single findings are left out. Needs `rt staticlib lafzimdo`
+# Compares the static library's answers with the kept answers of the Rust (crates/vectors), line by line. Needs `rt staticlib lafzimdo`
 # (or a library in the folder LAFZIMDO_LIB) and a C compiler. Says how many answers agree; exit status 1 on a difference.
 import collections
 import os
@@ -24,7 +24,7 @@ def kind(request):
 
 requests = [l for l in (top / "crates/vectors/stdin").read_text().split("\n") if l and l[0] != "#"]
 rust = answers((top / "crates/vectors/stdout").read_text())
-asked = [(q, [l for l in a if not l.startswith("finding ")]) for q, a in zip(requests, rust) if a != ["bad request"]]
+asked = [(q, a) for q, a in zip(requests, rust) if a != ["bad request"]]
 out = subprocess.run([program], input="\n".join(q for q, _ in asked) + "\n", capture_output=True, text=True, check=True).stdout
 ours = answers(out)
 differ = collections.Counter()
