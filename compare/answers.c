@@ -1,21 +1,17 @@
 /* Answers the requests of docs/PROTOCOL.md on standard input by the static library. On a refusal `out` and lent memory must be as they were, and lent memory behind what is
- * written always; where they are not, a line says so. Each answer ends with a line `end`. */
-#include <inttypes.h>
-#include <stdio.h>
-#include <stdlib.h>
-#include <string.h>
-
-#include "../include/lafzimdo.h"
+ * written always; where they are not, a line says so. Each answer ends with a line `end`.
+ * With the argument `parts` functions and entries are shown by the calls on parts at a place. */
+#include "answers.h"
 
 #define BEFORE 0xa5
-#define OUT 18
 
-static uint64_t out[OUT];
-static uint8_t chunk[1 << 20];
-static size_t len;
-static uint64_t limits[9];
+uint64_t out[OUT];
+uint8_t chunk[1 << 20];
+size_t len;
+uint64_t limits[9];
+static int by_parts;
 
-static void fill(void) { memset(out, BEFORE, sizeof out); }
+void fill(void) { memset(out, BEFORE, sizeof out); }
 
 /* Whether so many bytes from `at` on are as they were filled. */
 static int untouched(const void *at, size_t n) {
@@ -31,7 +27,7 @@ static void refusal(uint64_t r) {
 }
 
 /* Whether the call answered, in n numbers; a refusal is printed. */
-static int answered(uint64_t r, int n) {
+int answered(uint64_t r, int n) {
     int from = r ? 0 : n;
     if (!untouched(out + from, (OUT - from) * sizeof *out)) printf("out is touched\n");
     if (!r) return 1;
@@ -82,17 +78,17 @@ static int lends(const struct lender *c, size_t n) {
 }
 
 /* ---- What is printed */
-static void hex(const uint8_t *at, uint64_t n) {
+void hex(const uint8_t *at, uint64_t n) {
     for (uint64_t i = 0; i < n; i++) printf("%02x", at[i]);
 }
 
-static void string(const uint64_t *s) {
+void string(const uint64_t *s) {
     if (!s[0]) printf("-");
     else { printf("x"); hex(chunk + s[1], s[2]); }
     printf("\n");
 }
 
-static void constant(void) {
+void constant(void) {
     switch (out[0]) {
     case 0: printf("k nil\n"); break;
     case 1: printf("k false\n"); break;
@@ -234,7 +230,9 @@ static void whole(void) {
     if (out[0] != s[7]) printf("another number of functions\n");
     uint32_t *rows = malloc(s[7] * 48);
     memcpy(rows, lent, s[7] * 48);
-    for (uint64_t f = 0; f < s[7]; f++) function(f, rows + 12 * f);
+    if (by_parts) functions_by_parts(rows, s[7]);
+    else
+        for (uint64_t f = 0; f < s[7]; f++) function(f, rows + 12 * f);
     for (uint64_t f = 0; f < s[7]; f++) {
         printf("row");
         for (int i = 0; i < 12; i++) printf(" %" PRIu32, rows[12 * f + i]);
@@ -300,8 +298,9 @@ static void ask_encode(char *at) {
     encode(y, sbx, strtoll(at, &at, 10));
 }
 
-int main(void) {
+int main(int argc, char **argv) {
     static char request[1 << 21];
+    by_parts = argc > 1 && !strcmp(argv[1], "parts");
     while (fgets(request, sizeof request, stdin)) {
         char *behind = strchr(request, ' ');
         if (!behind || *request == '#') continue;
