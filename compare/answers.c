@@ -1,21 +1,17 @@
-/* Answers the requests of docs/PROTOCOL.md on standard input by the static library, as far as it has calls: the list of findings is left out. On a refusal `out` and lent memory
- * must be as they were, and lent memory behind what is written always; where they are not, a line says so. Each answer ends with a line `end`. */
-#include <inttypes.h>
-#include <stdio.h>
-#include <stdlib.h>
-#include <string.h>
-
-#include "../include/lafzimdo.h"
+/* Answers the requests of docs/PROTOCOL.md on standard input by the static library. On a refusal `out` and lent memory must be as they were, and lent memory behind what is
+ * written always; where they are not, a line says so. Each answer ends with a line `end`.
+ * With the argument `parts` functions and entries are shown by the calls on parts at a place. */
+#include "answers.h"
 
 #define BEFORE 0xa5
-#define OUT 18
 
-static uint64_t out[OUT];
-static uint8_t chunk[1 << 20];
-static size_t len;
-static uint64_t limits[9];
+uint64_t out[OUT];
+uint8_t chunk[1 << 20];
+size_t len;
+uint64_t limits[9];
+static int by_parts;
 
-static void fill(void) { memset(out, BEFORE, sizeof out); }
+void fill(void) { memset(out, BEFORE, sizeof out); }
 
 /* Whether so many bytes from `at` on are as they were filled. */
 static int untouched(const void *at, size_t n) {
@@ -31,7 +27,7 @@ static void refusal(uint64_t r) {
 }
 
 /* Whether the call answered, in n numbers; a refusal is printed. */
-static int answered(uint64_t r, int n) {
+int answered(uint64_t r, int n) {
     int from = r ? 0 : n;
     if (!untouched(out + from, (OUT - from) * sizeof *out)) printf("out is touched\n");
     if (!r) return 1;
@@ -46,21 +42,23 @@ static size_t of_function, of_entry;
 
 static uint64_t lend_index(size_t n) { return lafzimdo_index(chunk, len, limits, (uint32_t *)lent, n, out); }
 static uint64_t lend_copy(size_t n) { return lafzimdo_copy(chunk, len, limits, lent, n, out); }
+static uint64_t lend_findings(size_t n) { return lafzimdo_findings(chunk, len, limits, (uint64_t *)lent, n, out); }
 static uint64_t lend_name(size_t n) { return lafzimdo_local(chunk, len, limits, of_function, of_entry, lent, n, out); }
 
 struct lender {
     uint64_t (*call)(size_t n);
-    size_t width, unit; /* bytes of an item, items for each of what out[0] counts */
-    int numbers;        /* in `out` */
+    size_t width, unit;   /* bytes of an item, items for each of what is counted */
+    int numbers, counted; /* in `out`: how many, and which counts */
 };
 
-static const struct lender index_call = {lend_index, 4, 12, 1}, copy_call = {lend_copy, 1, 1, 1}, name_call = {lend_name, 1, 1, 3};
+static const struct lender index_call = {lend_index, 4, 12, 1, 0}, copy_call = {lend_copy, 1, 1, 1, 0}, name_call = {lend_name, 1, 1, 3, 0},
+                           findings_call = {lend_findings, 8, 4, 2, 1};
 
 static uint64_t lend(const struct lender *c, size_t n) {
     fill();
     memset(lent, BEFORE, n * c->width + 64);
     uint64_t r = c->call(n);
-    size_t wrote = r ? 0 : out[0] * c->unit * c->width;
+    size_t wrote = r ? 0 : out[c->counted] * c->unit * c->width;
     if (!untouched(lent + wrote, n * c->width + 64 - wrote)) printf("lent memory is touched\n");
     return r;
 }
@@ -68,7 +66,7 @@ static uint64_t lend(const struct lender *c, size_t n) {
 /* Whether the call answers where n items are more than enough. It must answer the same where they are just enough, and 26 where one is missing. */
 static int lends(const struct lender *c, size_t n) {
     if (!answered(lend(c, n), c->numbers)) return 0;
-    size_t need = out[0] * c->unit;
+    size_t need = out[c->counted] * c->unit;
     uint64_t numbers[OUT];
     memcpy(numbers, out, sizeof out);
     memcpy(first, lent, need * c->width);
@@ -80,17 +78,17 @@ static int lends(const struct lender *c, size_t n) {
 }
 
 /* ---- What is printed */
-static void hex(const uint8_t *at, uint64_t n) {
+void hex(const uint8_t *at, uint64_t n) {
     for (uint64_t i = 0; i < n; i++) printf("%02x", at[i]);
 }
 
-static void string(const uint64_t *s) {
+void string(const uint64_t *s) {
     if (!s[0]) printf("-");
     else { printf("x"); hex(chunk + s[1], s[2]); }
     printf("\n");
 }
 
-static void constant(void) {
+void constant(void) {
     switch (out[0]) {
     case 0: printf("k nil\n"); break;
     case 1: printf("k false\n"); break;
@@ -183,13 +181,24 @@ static void lines(size_t f) {
     printf("\n");
 }
 
-static void verdict(void) {
+static uint64_t verdict(void) {
     static const char *const words[] = {"valid-for-analysis", "invalid", "incomplete"};
     fill();
-    if (!answered(lafzimdo_verdict(chunk, len, limits, out), 1)) return;
-    printf("verdict %s\n", words[out[0]]);
+    if (!answered(lafzimdo_verdict(chunk, len, limits, out), 1)) return 3;
+    uint64_t v = out[0];
+    printf("verdict %s\n", words[v]);
     fill();
     if (answered(lafzimdo_finding_count(chunk, len, limits, out), 1)) printf("findings %" PRIu64 "\n", out[0]);
+    return v;
+}
+
+static void findings(uint64_t v) {
+    static const char *const rules[] = {"", "OPCODE-001", "REG-001", "CONST-001", "UPVAL-001", "UPVAL-002", "PROTO-001", "JUMP-001"};
+    if (!lends(&findings_call, 40010)) return;
+    if (out[0] != v) printf("another verdict\n");
+    const uint64_t *y = (const uint64_t *)lent;
+    for (uint64_t i = 0; i < out[1]; i++, y += 4)
+        printf("finding %" PRIu64 " %" PRIu64 " %s %" PRId64 " %s\n", y[0], y[1], rules[y[2]], (int64_t)y[3], y[2] == 2 ? "warning" : "error");
 }
 
 static void copy(void) {
@@ -221,7 +230,9 @@ static void whole(void) {
     if (out[0] != s[7]) printf("another number of functions\n");
     uint32_t *rows = malloc(s[7] * 48);
     memcpy(rows, lent, s[7] * 48);
-    for (uint64_t f = 0; f < s[7]; f++) function(f, rows + 12 * f);
+    if (by_parts) functions_by_parts(rows, s[7]);
+    else
+        for (uint64_t f = 0; f < s[7]; f++) function(f, rows + 12 * f);
     for (uint64_t f = 0; f < s[7]; f++) {
         printf("row");
         for (int i = 0; i < 12; i++) printf(" %" PRIu32, rows[12 * f + i]);
@@ -229,7 +240,7 @@ static void whole(void) {
     }
     free(rows);
     copy();
-    verdict();
+    findings(verdict());
     for (uint64_t f = 0; f < s[7]; f++) lines(f);
 }
 
@@ -287,8 +298,9 @@ static void ask_encode(char *at) {
     encode(y, sbx, strtoll(at, &at, 10));
 }
 
-int main(void) {
+int main(int argc, char **argv) {
     static char request[1 << 21];
+    by_parts = argc > 1 && !strcmp(argv[1], "parts");
     while (fgets(request, sizeof request, stdin)) {
         char *behind = strchr(request, ' ');
         if (!behind || *request == '#') continue;
