@@ -1,5 +1,5 @@
 // The forms in which the calls of a case are asked: with no number, one, two, and with lent space.
-use crate::calls::{lafzimdo_local, Call, Entry, Lending, Numbered, Whole};
+use crate::calls::{Call, Entry, Lending, Numbered, Whole, LOCAL};
 use crate::check::Asked;
 use crate::difference::Difference;
 use crate::lender::{Answer, Filled};
@@ -48,16 +48,7 @@ impl Asked<'_> {
         let case = self.case;
         let at = [function as u64, entry as u64, lent as u64];
         self.lender.agree_lent("lafzimdo_local", &at, lent, expected, |name, out| unsafe {
-            lafzimdo_local(
-                case.chunk.as_ptr(),
-                case.chunk.len(),
-                case.limits.as_ptr(),
-                function,
-                entry,
-                name,
-                lent,
-                out,
-            )
+            LOCAL(case.chunk.as_ptr(), case.chunk.len(), case.limits.as_ptr(), function, entry, name, lent, out)
         })
     }
 

@@ -1,144 +1,37 @@
-// The calls of include/lafzimdo.h.
-extern "C" {
-    pub fn lafzimdo_summary(chunk: *const u8, len: usize, limits: *const u64, out: *mut u64) -> u64;
-    pub fn lafzimdo_function(chunk: *const u8, len: usize, limits: *const u64, function: usize, out: *mut u64) -> u64;
-    pub fn lafzimdo_line(
-        chunk: *const u8,
-        len: usize,
-        limits: *const u64,
-        function: usize,
-        pc: usize,
-        out: *mut u64,
-    ) -> u64;
-    pub fn lafzimdo_copy_length(chunk: *const u8, len: usize, limits: *const u64, out: *mut u64) -> u64;
-    pub fn lafzimdo_verdict(chunk: *const u8, len: usize, limits: *const u64, out: *mut u64) -> u64;
-    pub fn lafzimdo_finding_count(chunk: *const u8, len: usize, limits: *const u64, out: *mut u64) -> u64;
+// The calls of include/lafzimdo.h, each with its name and how many numbers it answers.
+type Status = u64;
 
-    pub fn lafzimdo_instruction(
-        chunk: *const u8,
-        len: usize,
-        limits: *const u64,
-        function: usize,
-        entry: usize,
-        out: *mut u64,
-    ) -> u64;
-    pub fn lafzimdo_constant(
-        chunk: *const u8,
-        len: usize,
-        limits: *const u64,
-        function: usize,
-        entry: usize,
-        out: *mut u64,
-    ) -> u64;
-    pub fn lafzimdo_upvalue(
-        chunk: *const u8,
-        len: usize,
-        limits: *const u64,
-        function: usize,
-        entry: usize,
-        out: *mut u64,
-    ) -> u64;
-    pub fn lafzimdo_delta(
-        chunk: *const u8,
-        len: usize,
-        limits: *const u64,
-        function: usize,
-        entry: usize,
-        out: *mut u64,
-    ) -> u64;
-    pub fn lafzimdo_anchor(
-        chunk: *const u8,
-        len: usize,
-        limits: *const u64,
-        function: usize,
-        entry: usize,
-        out: *mut u64,
-    ) -> u64;
-    pub fn lafzimdo_upvalue_name(
-        chunk: *const u8,
-        len: usize,
-        limits: *const u64,
-        function: usize,
-        entry: usize,
-        out: *mut u64,
-    ) -> u64;
+/// Calls of a chunk and its limits: with nothing else; with a function or a place; with a function and an entry or a pc; with lent space.
+pub type Whole = unsafe extern "C" fn(*const u8, usize, *const u64, *mut u64) -> Status;
+pub type Numbered = unsafe extern "C" fn(*const u8, usize, *const u64, usize, *mut u64) -> Status;
+pub type Entry = unsafe extern "C" fn(*const u8, usize, *const u64, usize, usize, *mut u64) -> Status;
+pub type Lending<T> = unsafe extern "C" fn(*const u8, usize, *const u64, *mut T, usize, *mut u64) -> Status;
 
-    pub fn lafzimdo_local(
-        chunk: *const u8,
-        len: usize,
-        limits: *const u64,
-        function: usize,
-        entry: usize,
-        name: *mut u8,
-        name_len: usize,
-        out: *mut u64,
-    ) -> u64;
-    pub fn lafzimdo_index(
-        chunk: *const u8,
-        len: usize,
-        limits: *const u64,
-        rows: *mut u32,
-        rows_len: usize,
-        out: *mut u64,
-    ) -> u64;
-    pub fn lafzimdo_copy(
-        chunk: *const u8,
-        len: usize,
-        limits: *const u64,
-        copy: *mut u8,
-        copy_len: usize,
-        out: *mut u64,
-    ) -> u64;
-    pub fn lafzimdo_findings(
-        chunk: *const u8,
-        len: usize,
-        limits: *const u64,
-        list: *mut u64,
-        list_len: usize,
-        out: *mut u64,
-    ) -> u64;
-
-    pub fn lafzimdo_decode(word: u32, out: *mut u64) -> u64;
-    pub fn lafzimdo_encode(
-        op: u8,
-        a: u8,
-        k: u8,
-        b: u8,
-        c: u8,
-        bx: u32,
-        sbx: i32,
-        ax: u32,
-        sj: i32,
-        out: *mut u64,
-    ) -> u64;
-
-    pub fn lafzimdo_head_at(chunk: *const u8, len: usize, limits: *const u64, place: usize, out: *mut u64) -> u64;
-    pub fn lafzimdo_tail_at(chunk: *const u8, len: usize, limits: *const u64, place: usize, out: *mut u64) -> u64;
-    pub fn lafzimdo_word_at(chunk: *const u8, len: usize, limits: *const u64, place: usize, out: *mut u64) -> u64;
-    pub fn lafzimdo_constant_at(chunk: *const u8, len: usize, limits: *const u64, place: usize, out: *mut u64) -> u64;
-    pub fn lafzimdo_upvalue_at(chunk: *const u8, len: usize, limits: *const u64, place: usize, out: *mut u64) -> u64;
-    pub fn lafzimdo_delta_at(chunk: *const u8, len: usize, limits: *const u64, place: usize, out: *mut u64) -> u64;
-    pub fn lafzimdo_anchor_at(chunk: *const u8, len: usize, limits: *const u64, place: usize, out: *mut u64) -> u64;
-    pub fn lafzimdo_local_at(chunk: *const u8, len: usize, limits: *const u64, place: usize, out: *mut u64) -> u64;
-    pub fn lafzimdo_string_at(chunk: *const u8, len: usize, limits: *const u64, place: usize, out: *mut u64) -> u64;
-}
-
-pub type Whole = unsafe extern "C" fn(*const u8, usize, *const u64, *mut u64) -> u64;
-pub type Numbered = unsafe extern "C" fn(*const u8, usize, *const u64, usize, *mut u64) -> u64;
-pub type Entry = unsafe extern "C" fn(*const u8, usize, *const u64, usize, usize, *mut u64) -> u64;
-pub type Lending<T> = unsafe extern "C" fn(*const u8, usize, *const u64, *mut T, usize, *mut u64) -> u64;
-
-/// A call with its name, and how many numbers it answers.
 pub struct Call<F, const N: usize> {
     pub name: &'static str,
     pub function: F,
 }
 
+macro_rules! declared {
+    ($name:ident: Whole) => { declared!($name()); };
+    ($name:ident: Numbered) => { declared!($name(number: usize)); };
+    ($name:ident: Entry) => { declared!($name(function: usize, entry: usize)); };
+    ($name:ident: Lending<$item:ty>) => { declared!($name(space: *mut $item, lent: usize)); };
+    ($name:ident($($argument:ident: $type:ty),*)) => {
+        extern "C" {
+            fn $name(chunk: *const u8, len: usize, limits: *const u64, $($argument: $type,)* out: *mut u64) -> Status;
+        }
+    };
+}
+
 macro_rules! calls {
-    ($($constant:ident: $kind:ty, $numbers:literal, $function:ident;)*) => {
-        $(pub const $constant: Call<$kind, $numbers> = Call { name: stringify!($function), function: $function };)*
+    ($($constant:ident: $kind:ident $(<$item:ty>)?, $numbers:literal, $name:ident;)*) => {
+        $(
+            declared!($name: $kind $(<$item>)?);
+            pub const $constant: Call<$kind $(<$item>)?, $numbers> = Call { name: stringify!($name), function: $name };
+        )*
         /// Every call here, and how many numbers it answers.
-        pub const CHUNK_CALLS: &[(&str, usize)] = &[$((stringify!($function), $numbers)),*];
+        pub const CHUNK_CALLS: &[(&str, usize)] = &[$((stringify!($name), $numbers)),*];
     };
 }
 
@@ -167,4 +60,28 @@ calls! {
     ANCHOR_AT: Numbered, 3, lafzimdo_anchor_at;
     LOCAL_AT: Numbered, 6, lafzimdo_local_at;
     STRING_AT: Numbered, 4, lafzimdo_string_at;
+}
+
+declared!(lafzimdo_local(function: usize, entry: usize, name: *mut u8, name_len: usize));
+
+/// The name into lent space; three numbers.
+pub const LOCAL: unsafe extern "C" fn(*const u8, usize, *const u64, usize, usize, *mut u8, usize, *mut u64) -> Status =
+    lafzimdo_local;
+
+extern "C" {
+    /// Twelve numbers, and one.
+    pub fn lafzimdo_decode(word: u32, out: *mut u64) -> Status;
+    #[rustfmt::skip]
+    pub fn lafzimdo_encode(
+        op: u8,
+        a: u8,
+        k: u8,
+        b: u8,
+        c: u8,
+        bx: u32,
+        sbx: i32,
+        ax: u32,
+        sj: i32,
+        out: *mut u64,
+    ) -> Status;
 }
