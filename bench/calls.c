@@ -128,7 +128,7 @@ struct luad_chunk;
 const struct luad_chunk *luad_decode(const uint8_t *bytes, size_t len, const uint64_t *limits);
 size_t luad_encode(const struct luad_chunk *), luad_validate(const struct luad_chunk *), luad_line(const struct luad_chunk *, size_t function, size_t pc);
 
-#define MOST_MEMORY ((rlim_t)12 << 30)
+#define MOST_MEMORY ((rlim_t)6 << 30)
 
 static void rust_child(const struct set *set, int to) {
     struct rlimit memory = {MOST_MEMORY, MOST_MEMORY};

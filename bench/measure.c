@@ -26,8 +26,9 @@ static int rust_ended[MOST_FILES];
 static struct set sets[MOST_FILES];
 static int files;
 
-/* What the Rust takes is far above what is compared with it: few rounds do. */
-#define RUST_ROUNDS 2
+/* What the Rust takes is far above what is compared with it: few rounds do, and one on a long file, which takes it seconds and gigabytes. */
+static int rust_rounds(const struct set *set) { return set->bytes < 4 << 20 ? 2 : 1; }
+
 /* A timed stretch is at least this long. */
 #define SHORTEST 0.002
 
@@ -64,6 +65,7 @@ static unsigned repeats(struct set *set) {
 
 static void measure(int file, int rounds, int with_rust) {
     struct set *set = sets + file;
+    fprintf(stderr, "%s\n", set->name);
     make_ready(set);
     set->repeats = repeats(set);
     for (int call = 0; call < CALLS; call++) best[file][call] = 1e9;
@@ -72,7 +74,7 @@ static void measure(int file, int rounds, int with_rust) {
             double took = runs[call](set);
             if (took < best[file][call]) best[file][call] = took;
         }
-        if (!with_rust || round >= RUST_ROUNDS || (round > 0 && !rust_ended[file])) continue;
+        if (!with_rust || round >= rust_rounds(set) || (round > 0 && !rust_ended[file])) continue;
         struct rust took;
         rust_ended[file] = run_rust(set, &took);
         if (rust_ended[file] && (round == 0 || took.decode < rust[file].decode)) rust[file] = took;
