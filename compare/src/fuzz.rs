@@ -2,11 +2,18 @@
 use compare::bounds::CEILINGS;
 use compare::case::Case;
 use compare::check::check;
-use compare::lender::Lender;
+use compare::lender::{Alteration, Lender, Way};
 use compare::tally::Tally;
-use std::sync::Once;
+use std::sync::OnceLock;
 
-static QUIET: Once = Once::new();
+static ALTERATION: OnceLock<Option<Alteration>> = OnceLock::new();
+
+/// Done once: panics are told as differences, and COMPARE_ALTER names a call whose first number is changed, to see that the target finds it.
+fn prepared() -> Option<Alteration> {
+    std::panic::set_hook(Box::new(|_| {}));
+    let call = std::env::var("COMPARE_ALTER").ok()?;
+    Some(Alteration { call: call.leak(), way: Way::Number(0) })
+}
 
 /// A limit from a byte: itself, or near the ceiling, or at the chunk's length.
 fn limit(byte: u8, ceiling: u64, length: u64) -> u64 {
@@ -37,12 +44,12 @@ fn case(data: &[u8]) -> Option<Case> {
 /// `data` has `size` bytes.
 #[no_mangle]
 pub unsafe extern "C" fn LLVMFuzzerTestOneInput(data: *const u8, size: usize) -> i32 {
-    QUIET.call_once(|| std::panic::set_hook(Box::new(|_| {})));
+    let alteration = *ALTERATION.get_or_init(prepared);
     let data = if size == 0 { &[] } else { std::slice::from_raw_parts(data, size) };
     let Some(case) = case(data) else {
         return 0;
     };
-    if let Err(difference) = check(&case, &mut Lender::default(), &mut Tally::default()) {
+    if let Err(difference) = check(&case, &mut Lender { alteration, asked: 0 }, &mut Tally::default()) {
         eprintln!("differs: {}\n  asked with {}\n{difference}", case.request(), case.ask);
         std::process::abort();
     }
