@@ -15,7 +15,7 @@
 extern "C" {
 #endif
 
-/* Of a refusal: its number, 1 to 28; whether it has a place; the place. */
+/* Of a refusal: its number, 1 to 28; whether it has a place; the place. (A place of 2^32 or more is left out: only a part asked for at such a place can have one.) */
 #define LAFZIMDO_NUMBER(r) ((unsigned)((r) & 31))
 #define LAFZIMDO_HAS_PLACE(r) (((r) >> 5) != 0)
 #define LAFZIMDO_PLACE(r) (((r) >> 5) - 1)
