@@ -1,7 +1,7 @@
 //! `dump`: everything that a chunk holds.
-use crate::file::{out, Input, Out};
+use crate::file::{Input, Out};
 use crate::quoted::{Quoted, QuotedIf};
-use crate::trouble::{printed, Trouble};
+use crate::trouble::Trouble;
 use lafzimdo::{decode, Chunk, Constant, Function, Instruction, Mode};
 use std::fmt;
 use std::io::{self, Write};
@@ -10,10 +10,7 @@ use std::io::{self, Write};
 const IN_A_LINE: usize = 32;
 
 pub fn run(input: &Input) -> Result<u8, Trouble> {
-    let bytes = input.bytes()?;
-    let chunk = input.chunk(&bytes)?;
-    printed(print(&mut out(), &chunk))?;
-    Ok(0)
+    input.print(print)
 }
 
 fn print(out: &mut Out, chunk: &Chunk<'_>) -> io::Result<()> {

@@ -1,5 +1,5 @@
 //! The file that a command works on.
-use crate::trouble::Trouble;
+use crate::trouble::{printed, Trouble};
 use lafzimdo::{Chunk, Limits, Refusal};
 use std::ffi::{OsStr, OsString};
 use std::fs::File;
@@ -30,6 +30,14 @@ impl Input {
     /// The chunk that these bytes are.
     pub fn chunk<'a>(&self, bytes: &'a [u8]) -> Result<Chunk<'a>, Trouble> {
         Chunk::read(bytes, self.limits).map_err(|refusal| self.refused(refusal))
+    }
+
+    /// Reads the chunk and has it printed.
+    pub fn print(&self, print: fn(&mut Out, &Chunk<'_>) -> io::Result<()>) -> Result<u8, Trouble> {
+        let bytes = self.bytes()?;
+        let chunk = self.chunk(&bytes)?;
+        printed(print(&mut out(), &chunk))?;
+        Ok(0)
     }
 
     /// A refusal of the library, of this file.

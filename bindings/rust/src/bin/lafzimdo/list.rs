@@ -1,14 +1,11 @@
 //! `list`: what chunklist prints, of larger files.
-use crate::file::{out, Input, Out};
-use crate::trouble::{printed, Trouble};
+use crate::file::{Input, Out};
+use crate::trouble::Trouble;
 use lafzimdo::Chunk;
 use std::io::{self, Write};
 
 pub fn run(input: &Input) -> Result<u8, Trouble> {
-    let bytes = input.bytes()?;
-    let chunk = input.chunk(&bytes)?;
-    printed(print(&mut out(), &chunk))?;
-    Ok(0)
+    input.print(print)
 }
 
 fn print(out: &mut Out, chunk: &Chunk<'_>) -> io::Result<()> {
