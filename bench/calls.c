@@ -10,8 +10,8 @@
 #include <time.h>
 #include <unistd.h>
 
-#include <lauxlib.h>
-#include <lua.h>
+#include <lua5.4/lauxlib.h>
+#include <lua5.4/lua.h>
 
 #include "../include/lafzimdo.h"
 #include "skip.h"

@@ -1,4 +1,4 @@
--- Lua 5.4's ldebug.c: `luaG_getfuncline` and `getbaseline`, beside 01's rules (Lines.antt).
+-- ldebug.c of Lua 5.4.4: `luaG_getfuncline` and `getbaseline`, beside 01's rules (Lines.antt).
 -- `int` is ℤ here: no sum wraps. An index beyond an array, which C leaves undefined, reads the first anchor or adds nothing: see the premises of proofs/Ldebug.antt.
 use mathlib.Core.List.{List, [], _∷_}
 use Prim.Native.Nat.{ℕ, _+_, _-_, _/_}

@@ -1,6 +1,7 @@
 -- lopcodes.h and lopcodes.c of Lua 5.4.4: the sizes and positions of an instruction's fields, the macros that read and make a word, and each opcode's mode.
 -- A definition has its macro's name, with `-` for `_`, and its macro's text. An Instruction is an unsigned number of 32 bits.
--- Left out are the macros that change a word in place (SET_OPCODE, SETARG_*), and the columns of luaP_opmodes but `mode`.
+-- Left out are what changes a word in place (SET_OPCODE, SETARG_*, MASK0), what asks something of a word or a table that nothing here asks (TESTARG_k, checkopm, int2sC, isOT, isIT), the columns of
+-- luaP_opmodes but `mode` with the macros for them (opmode, getOpMode, test*Mode), and what is for the code generator (MAXINDEXRK, NO_REG, LFIELDS_PER_FLUSH).
 use Prim.Native.Nat.{ℕ, _+_, _-_, _*_, _/_, _%_, _^_}
 use mathlib.Core.List.{List, [], _∷_}
 use lib.Bits.{bitAnd, bitOr}

@@ -3,7 +3,6 @@
 --     limited max n gs     the findings of groups, where there are n diagnostics already
 --     chunkFindings r      of a reading, whose warnings count
 --     verdict              on findings
---     findingsOf           of what the reader gave
 use mathlib.Core.Bool.{Bool, true, false, _||_}
 use mathlib.Core.List.{List, [], _∷_, _++_}
 use Prim.Native.Nat.{ℕ, zero, suc, _+_}
