@@ -4,6 +4,7 @@
 -- (`trailing_bytes` and `string_bytes` show bytes and hold no refusal; `finding_array::chunk_findings` has `findings` with a space of 10,001.)
 --     numbers          each refusal has one of 01's numbers
 --     bytes-first      what the reader refuses is 1 to 20, and no byte behind it matters: a file's refusals come in the order of its bytes
+--     places           a refusal's place is one of the file, or the file's end
 --     ..-kept          a call that refuses leaves lent memory as it was
 -- Assumes nothing.
 use mathlib.Core.Path.{_≡_, refl, sym, _∙_, ap}
@@ -12,9 +13,11 @@ use mathlib.Core.List.{List, [], _∷_, _++_}
 use mathlib.Core.Option.{Option, none, some}
 use Prim.Native.Nat.{ℕ, _≤_, _<_, _^_}
 use native.Mathlib.Omega.{arith}
+use native.Mathlib.Nat.{zero-add}
 use lib.Dec.{leb, ltb}
 use lib.IntN.{ℤ, pos, negsuc, _+ℤ_}
 use lib.ListN.{length, drop}
+use borrow.Author.Tests.{leb-true}
 use Rattle.format.specs.declared.limits.ResourceLimits.{ResourceLimits}
 use Rattle.format.specs.declared.refusal.Refusal.{Refusal}
 use Rattle.format.specs.declared.refusal.Refusal.the-variants as refusals
@@ -53,7 +56,8 @@ use Rattle.instructions.specs.declared.instruction.Encoded.{Encoded}
 use Rattle.instructions.specs.declared.instruction.Encoded.the-variants as word
 use Rattle.instructions.specs.Word.{unbiased, withUnbiased, encodedIABx, encodedIAx, byMode, byOpcode, encoded}
 use Rattle.instructions.proofs.Ranges.{inRange, isWord, ranges}
-use Rattle.demands.proofs.InOrder.{ByFile, Refuses, steady-main}
+use Rattle.decode.proofs.Summaries.{input-ceiling}
+use Rattle.demands.proofs.InOrder.{Inside, inside-more, ByFile, Refuses, steady-main}
 use Rattle.demands.proofs.Refused.{unless, missing, first, byReader, ofChunk, andThen, noFunction, ofFunction, noEntry, largeLine, ofLocal, longName, tooLong, noOpcode, outOfRange}
 use Rattle.demands.proofs.Refused.{inSummary, inFields, inWord, inConstant, inUpvalue, inDelta, inAnchor, inName, inLocal, inLine, inIndex, inCopy, inVerdict, inCount, inFindings, inEncoded}
 
@@ -90,9 +94,29 @@ numbers refusals.FieldRange = (omega arith, omega arith)
 numbers refusals.NoOpcode = (omega arith, omega arith)
 
 -- ## The bytes
--- the reader refuses by 1 to 20 alone; and where it is not for missing bytes (1, 2), whatever stands behind changes nothing
-pub bytes-first : (L : ResourceLimits) (s t : Bytes) (q : Refusal) → main L 0 s ≡ refused q → ByFile q × (2 < reported q .number → main L 0 (s ++ t) ≡ refused q)
-bytes-first L s t q e = let all = steady-main L .more 0 s t in let this : Refuses q (main L 0 (s ++ t)) = rw e at all in (this .by-file, this .stays)
+-- the reader refuses by 1 to 20 alone, at a place of the file; and where it is not for missing bytes (1, 2), whatever stands behind changes nothing
+pub bytes-first : (L : ResourceLimits) (s t : Bytes) (q : Refusal) → main L 0 s ≡ refused q → ByFile (length s) q × (2 < reported q .number → main L 0 (s ++ t) ≡ refused q)
+bytes-first L s t q e =
+    let all = steady-main {low = 0} L .more 0 s t (omega arith) in
+    let this : Refuses (length s) q (main L 0 (s ++ t)) = rw (e, zero-add) at all in
+    (this .by-file, this .stays)
+
+-- a place, if there is one, is at most the file's length; and then that is within its ceiling
+pub places : (L : ResourceLimits) (s : Bytes) (q : Refusal) → read L s ≡ refusal q → Inside (length s) (reported q .place) × Inside 16777216 (reported q .place)
+unfolding read
+places L s q = go (withinCeilings L) refl (leb (length s) (L .«max_input_bytes»)) refl (main L 0 s) refl
+  where
+    go : (within : Bool) → withinCeilings L ≡ within → (short : Bool) → leb (length s) (L .«max_input_bytes») ≡ short → (m : Read Loaded) → main L 0 s ≡ m
+        → pick within (pick short (outcome L m) (refusal refusals.InputBytes)) (refusal refusals.LimitAboveCeiling) ≡ refusal q
+        → Inside (length s) (reported q .place) × Inside 16777216 (reported q .place)
+    go true f true g (ok m to rest) k e = absurd (let z : _≡_ {A = ℕ} 0 1 = cc in omega arith)
+    go true f true g (refused p) k e =
+        let same : p ≡ q = cc in
+        let here = bytes-first L s [] p k .0 .place in
+        let few : length s ≤ 16777216 = omega (arith, leb-true (length s) (L .«max_input_bytes») g, input-ceiling L f) in
+        rw (← same) (here, inside-more few (reported p .place) here)
+    go true f false g m k e = let same : refusals.InputBytes ≡ q = cc in rw (← same) (tt, tt)
+    go false f short g m k e = let same : refusals.LimitAboveCeiling ≡ q = cc in rw (← same) (tt, tt)
 
 -- ## The order, in general
 -- what comes of conditions behind the chunk's
