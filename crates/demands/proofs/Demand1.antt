@@ -1,7 +1,7 @@
 -- Demand 1. Only what 01 lists is refused, and of several conditions the first in 01's order is the one that is reported; lent memory is then as it was.
 -- One theorem for each call: the refusal in its answer is the first of its conditions (Refused.antt), in the order 21, 22, 1 to 20, 23, 24, 25, 26, for words 28, 27.
 -- Each call's contract says that its answer is the definition that stands here on the left. (That every call ends and that nothing wraps is proved with each function.)
--- (`trailing_bytes` and `string_bytes` show bytes and hold no refusal; `finding_array::chunk_findings` has `findings` with a space of 10,001.)
+-- (`trailing_bytes` and `string_bytes` show bytes and hold no refusal; `finding_array::chunk_findings` has `findings` with a space of 10,001, which is always enough: `all-fit`.)
 --     numbers          each refusal has one of 01's numbers
 --     bytes-first      what the reader refuses is 1 to 20, and no byte behind it matters: a file's refusals come in the order of its bytes
 --     places           a refusal's place is one of the file, or the file's end
@@ -17,7 +17,7 @@ use native.Mathlib.Nat.{zero-add}
 use lib.Dec.{leb, ltb}
 use lib.IntN.{ℤ, pos, negsuc, _+ℤ_}
 use lib.ListN.{length, drop}
-use borrow.Author.Tests.{leb-true}
+use borrow.Author.Tests.{leb-true, le-leb}
 use Rattle.format.specs.declared.limits.ResourceLimits.{ResourceLimits}
 use Rattle.format.specs.declared.refusal.Refusal.{Refusal}
 use Rattle.format.specs.declared.refusal.Refusal.the-variants as refusals
@@ -44,6 +44,7 @@ use Rattle.show_local.specs.Locals.{shownLocal, nameWritten}
 use Rattle.rules.specs.declared.finding.Finding.{Finding}
 use Rattle.rules.specs.Findings.{chunkFindings}
 use Rattle.validator.specs.Answers.{shownVerdict, shownCount}
+use Rattle.validator.proofs.Few.{findings-few}
 use Rattle.finding_plan.specs.Listed.{shownFindings, findingsWritten}
 use Rattle.opcodes.specs.declared.opcode.OpMode54.{OpMode54}
 use Rattle.opcodes.specs.declared.opcode.OpMode54.the-variants.{IABC, IABx, IAsBx, IAx, IsJ}
@@ -213,6 +214,10 @@ module _ (L : ResourceLimits) (s : Bytes) where
 
   pub findings : (space : ℕ) → inFindings (shownFindings space (read L s)) ≡ first (ofChunk L s (andThen (read L s) (λ r. tooLong (chunkFindings r .findings) space ∷ [])))
   findings space = into-space shownFindings (λ r. chunkFindings r .findings) inFindings space (λ r. by-room inFindings _ _ refl (leb (length (chunkFindings r .findings)) space) refl) (λ q. refl)
+
+  -- with room for 10,001 there is no 26
+  pub all-fit : inFindings (shownFindings 10001 (read L s)) ≡ first (ofChunk L s [])
+  all-fit = whole-chunk (shownFindings 10001) inFindings (λ r. rw (le-leb _ 10001 (findings-few r))) (λ q. refl)
 
   -- function_fields: then 23
   pub fields : (f : ℕ) → inFields (shownFields (functionOf f (read L s))) ≡ first (ofChunk L s (andThen (read L s) (λ r. noFunction f r ∷ [])))

@@ -5,7 +5,7 @@ use lib.ListN.{replicate}
 use Rattle.rules.specs.declared.finding.Finding.{Finding}
 use Rattle.rules.specs.declared.finding.Rule.the-variants.{Register}
 
--- there are at most 10,001 findings
+-- there are at most 10,001 findings (crates/validator/proofs/Few.antt, `findings-few`)
 abbrev pub LONGEST : ℕ
 LONGEST = 10001
 

@@ -1,4 +1,4 @@
--- There are at most as many findings as the maximum and one more.
+-- There are at most as many findings as the maximum and one more: of a chunk at most 10,001 (`findings-few`).
 -- Assumes nothing.
 use mathlib.Core.Path.{_≡_, refl}
 use mathlib.Core.Bool.{Bool, true, false}
@@ -17,7 +17,8 @@ use Rattle.functions.specs.Rows.{rowsFrom}
 use Rattle.rules.specs.declared.finding.Finding.{Finding}
 use Rattle.validator.specs.declared.scan.Code.{Code}
 use Rattle.rules.proofs.FewFindings.{Few, few-code}
-use Rattle.rules.specs.Findings.{codeGroups, Listing, ended, prepend, limited}
+use Rattle.format.specs.Reading.{Prototype, Reading}
+use Rattle.rules.specs.Findings.{MAX-DIAGNOSTICS, boundsOf, codeGroups, groups, Listing, ended, prepend, limited, chunkFindings}
 use Rattle.rules.specs.declared.finding.OptionFinding.{OptionFinding}
 use Rattle.rules.specs.declared.finding.OptionFinding.the-variants as finding
 use Rattle.validator.specs.declared.search.Position.{Position}
@@ -67,3 +68,12 @@ few-out L s max p =
     let one = listed-one (p .waiting) in
     let rest = at-most max (p .found) (groupsLeft L s p) (few-left s (p .code) (p .number) (rowsFrom L s (p .left) (p .depth) (p .at .at))) in
     omega (arith, length-append (listed (p .waiting)) (goesOn L s max p .findings))
+
+few-groups : (k : ℕ) (ps : List Prototype) → All Few (groups k ps)
+unfolding groups
+few-groups k [] = tt
+few-groups k (p ∷ ps) = (omega arith, all-append Few (codeGroups k (boundsOf p) (p .instructions) 0) (groups (k + 1) ps) (few-code k (boundsOf p) (p .instructions) 0) (few-groups (k + 1) ps))
+
+pub findings-few : (r : Reading) → length (chunkFindings r .findings) ≤ 10001
+unfolding chunkFindings
+findings-few r = at-most MAX-DIAGNOSTICS (length (r .warnings)) (groups 0 (r .functions)) (few-groups 0 (r .functions))
