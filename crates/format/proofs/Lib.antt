@@ -14,6 +14,7 @@ pub mod LdumpChunk
 pub mod LundumpLaws
 pub mod LundumpParts
 pub mod LundumpChunk
+pub mod LundumpCase
 pub mod Cases
 pub mod ChunkCases
 pub mod Below
