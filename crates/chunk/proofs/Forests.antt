@@ -18,6 +18,7 @@ use Rattle.format.specs.Read.{Read, ok, refused, Reader, next, _>>=_, give}
 use Rattle.format.specs.ReadChunk.{forest}
 use Rattle.format.proofs.Exact.{Exact}
 use Rattle.format.proofs.Left.{left}
+use Rattle.format.proofs.Totals.{instructions-append}
 use Rattle.chunk.specs.declared.walk.Where.{Where}
 use Rattle.chunk.specs.declared.walk.Walked.{Walked}
 use Rattle.chunk.specs.declared.walk.WalkResult.{WalkResult}
@@ -45,10 +46,6 @@ shown-append n k [] qs = let e : k + 0 ≡ k = omega arith in rw e
 shown-append n k (p ∷ ps) qs =
     let e : k + 1 + length ps ≡ k + length (p ∷ ps) = omega arith in
     shown-pick (eqb n k) p (lookup n (k + 1) (ps ++ qs)) (lookup n (k + 1) ps) (shownRow (lookup n (k + length (p ∷ ps)) qs)) (shown-append n (k + 1) ps qs ∙ ap (λ j. orRow (shownRow (lookup n (k + 1) ps)) (shownRow (lookup n j qs))) e)
-
-instructions-append : (ps qs : List Prototype) → instructionsOf (ps ++ qs) ≡ instructionsOf ps + instructionsOf qs
-instructions-append [] qs = omega arith
-instructions-append (p ∷ ps) qs = rw (instructions-append ps qs) (omega arith)
 
 -- ## One turn
 -- a walk behind some functions, then the rest of n, each read by r

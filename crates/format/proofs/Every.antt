@@ -5,7 +5,7 @@ use mathlib.Core.List.{List, [], _∷_, _++_}
 use mathlib.Core.Bool.{Bool, true, false}
 use Prim.Native.Nat.{ℕ, zero, suc, _<_, _^_, _-_}
 use lib.ListN.{length}
-use Rattle.format.specs.Form.{Bytes, Form, Then, Is, Here, Given, Nothing, When, Run, Many}
+use Rattle.format.specs.Form.{Bytes, Form, Then, Is, Given, Nothing, When, Run, Many}
 use Rattle.format.specs.GrammarFields.{Number}
 
 pub record Every {A : Type 0} (F : Form A) (P : A → Type 0) : Type 0 where
@@ -44,9 +44,17 @@ abbrev pub All : {A : Type 0} → (A → Type 0) → List A → Type 0
 All P [] = Unit {0}
 All P (x ∷ xs) = P x × All P xs
 
+pub all-any : {A : Type 0} (xs : List A) → All Any xs
+all-any [] = tt
+all-any (x ∷ xs) = (tt, all-any xs)
+
 pub all-append : {A : Type 0} (P : A → Type 0) (xs ys : List A) → All P xs → All P ys → All P (xs ++ ys)
 all-append P [] ys p q = q
 all-append P (x ∷ xs) ys p q = (p .0, all-append P xs ys (p .1) q)
+
+pub all-split : {A : Type 0} (P : A → Type 0) (xs ys : List A) → All P (xs ++ ys) → All P xs × All P ys
+all-split P [] ys p = (tt, p)
+all-split P (x ∷ xs) ys p = let rest = all-split P xs ys (p .1) in ((p .0, rest .0), rest .1)
 
 pub every-many : {A : Type 0} {F : Form A} {P : A → Type 0} (n : ℕ) → Every F P → Every (Many n F) (λ xs. (length xs ≡ n) × All P xs)
 every-many zero one = every-is (refl, tt)

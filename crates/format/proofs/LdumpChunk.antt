@@ -1,25 +1,25 @@
--- The copy of a function behind its source is what ldump.c's `dumpFunction` writes there, where it has as many upvalue names as upvalues and every number fits a
--- size_t, as it does in what was read. So 01 parts from ldump.c in three things: a nested source is absent in the copy, where `dumpFunction` writes one that differs from
--- its parent's; the copy has the upvalue names that were read, where `dumpFunction` writes as many as upvalues; and an absent local name is `?` in the copy.
+-- The copy of a function behind its source is what `dumpFunction` (specs/LdumpFunctions.antt) writes there, where it has as many upvalue names as upvalues and every
+-- number fits a size_t, as it does in what was read. So 01 parts from ldump.c in four things: a nested source is absent in the copy, where C writes one that differs from
+-- its parent's; the copy has the upvalue names that were read, where C writes as many as upvalues; an absent local name is `?` in the copy; and a string constant keeps
+-- the tag that was read, where C writes it by the string's length (that one is within `dumpConstant`). Numbers from 2^31 on are no ints, and so outside the C (`dumpInt`).
 -- Assumes nothing.
-use mathlib.Core.Path.{_≡_, refl, sym, _∙_, ap, ap₂}
-use mathlib.Core.Bool.{Bool, true, false}
+use mathlib.Core.Path.{_≡_, refl, _∙_, ap, ap₂}
+use mathlib.Core.Bool.{true, false}
 use mathlib.Core.List.{List, [], _∷_, _++_, append-assoc, map, flatten}
 use mathlib.Core.Option.{Option, none, some}
-use Prim.Native.Nat.{ℕ, zero, suc, _+_, _-_, _^_, _<_}
+use Prim.Native.Nat.{ℕ, zero, suc, _-_, _^_, _<_}
 use native.Mathlib.Omega.{arith}
 use lib.Dec.{eqb, lit<}
 use lib.ListN.{length}
 use Rattle.format.specs.declared.entry.AbsLineInfo.{AbsLineInfo}
 use Rattle.format.specs.Reading.{ConstantValue, nil, boolean, integer, float, short-string, long-string, LocalVar, Prototype, Reading}
-use Rattle.format.specs.Copy.{fieldBytes, stringBytes, optionBytes, constantBytes, upvalueBytes, anchorBytes, localBytes, listBytes, behindSource}
-use Rattle.format.specs.Shortest.{shortest}
-use Rattle.format.specs.LdumpFunctions.{dumpString, dumpEach, dumpConstant, dumpUpvalue, dumpAbsLineInfo, dumpLocVar, upvalueNames, dumpFunction}
+use Rattle.format.specs.Copy.{fieldBytes, optionBytes, constantBytes, upvalueBytes, anchorBytes, localBytes, listBytes, behindSource}
+use Rattle.format.specs.LdumpFunctions.{dumpString, dumpEach, dumpConstant, dumpAbsLineInfo, dumpLocVar, upvalueNames, dumpFunction}
 use Rattle.format.specs.declared.limits.ResourceLimits.{ResourceLimits}
 use Rattle.format.specs.Form.{Bytes, Form}
 use Rattle.format.specs.GrammarFields.{LuaString, Content, String}
-use Rattle.format.specs.GrammarChunk.{Listed, orElse, Counted, CountedUpTo, Always, Tagged, Constant, Anchor, Local, Where, after, within, inherit, Forest, Body, Function, Loaded, Chunk}
-use Rattle.format.proofs.Every.{Every, any, every-then, every-is, every-given, every-nothing, every-when, every-number, every-run, every-many, All, all-append}
+use Rattle.format.specs.GrammarChunk.{orElse, Counted, CountedUpTo, Always, Tagged, Constant, Anchor, Local, Where, after, within, inherit, Forest, Body, Function, Loaded, Chunk}
+use Rattle.format.proofs.Every.{Every, any, every-then, every-is, every-nothing, every-when, every-number, every-run, every-many, All, all-any, all-append}
 use Rattle.format.proofs.LdumpLaws.{dumped}
 
 abbrev Fits : ℕ → Type 0
@@ -87,10 +87,6 @@ maps-are f g same (x ∷ xs) h = ap₂ _∷_ (same x (h .0)) (maps-are f g same 
 list-is : {A : Type 0} {P : A → Type 0} (f g : A → Bytes) → ((x : A) → P x → f x ≡ g x) → (xs : List A) → ListFits P xs → dumpEach f xs ≡ listBytes g xs
 unfolding listBytes
 list-is f g same xs h = ap₂ _++_ (dumped (length xs) (h .0)) (ap flatten (maps-are f g same xs (h .1)))
-
-all-any : {A : Type 0} (xs : List A) → All (λ x. Unit {0}) xs
-all-any [] = tt
-all-any (x ∷ xs) = (tt, all-any xs)
 
 plain-is : {A : Type 0} (f : A → Bytes) (xs : List A) → Fits (length xs) → dumpEach f xs ≡ listBytes f xs
 plain-is f xs h = list-is f f (λ x _. refl) xs (h, all-any xs)

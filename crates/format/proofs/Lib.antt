@@ -3,6 +3,7 @@ pub mod ExactFields
 pub mod ExactHeader
 pub mod ExactChunk
 pub mod Every
+pub mod Totals
 pub mod Located
 pub mod ReadChunkLaws
 pub mod Left
@@ -12,12 +13,15 @@ pub mod LdumpLaws
 pub mod LdumpChunk
 pub mod LundumpLaws
 pub mod LundumpParts
+pub mod LundumpChunk
+pub mod LundumpCase
 pub mod Cases
 pub mod ChunkCases
 pub mod Below
 pub mod Build
 pub mod FieldBytes
 pub mod Wider
+pub mod WiderIf
 pub mod WiderChunk
 pub mod Copies
 pub mod CopyEntries

@@ -1,14 +1,18 @@
 -- What belongs to a form under some limits belongs to it under larger ones, with the same value: one law for each way to make a form.
--- Lists and entries are here; functions and chunks are in `proofs/WiderChunk.antt`.
+-- Lists and entries are here; functions and chunks are in `proofs/WiderChunk.antt`. At the end: the same bytes in other groups.
 -- Assumes nothing.
+use mathlib.Core.Path.{_≡_, refl, _∙_, ap}
 use mathlib.Core.Bool.{Bool, true, false}
-use mathlib.Core.List.{[], _∷_}
+use mathlib.Core.List.{[], _∷_, _++_, append-assoc}
 use Prim.Native.Nat.{ℕ, zero, suc, _≤_}
 use native.Mathlib.Omega.{arith}
+use native.Mathlib.Nat.{add-zero, add-assoc}
 use lib.Dec.{eqb}
-use Rattle.format.specs.Form.{Bytes, Form, Then, Given, Nothing, When, Many}
+use lib.ListN.{length-append}
+use Rattle.format.specs.Form.{Bytes, Form, Then, Is, Here, Given, Nothing, When, Many}
 use Rattle.format.specs.GrammarFields.{Content, String}
 use Rattle.format.specs.GrammarChunk.{Counted, CountedUpTo, Always, Tagged, Constant, Local}
+use Rattle.format.proofs.Build.{put, skip}
 
 pub record Wider {A : Type 0} (F G : Form A) : Type 0 where
   pub widens : {at : ℕ} {bytes : Bytes} {x : A} → F at bytes x → G at bytes x
@@ -81,3 +85,48 @@ module _ {m n : ℕ} (le : m ≤ n) where
 
   pub local-wider : Wider (Local m) (Local n)
   local-wider = so (always-wider (63 ∷ []))
+
+-- ## The same bytes in other groups
+pub joined : {A : Type 0} {F G H : Form A} → Wider F G → Wider G H → Wider F H
+joined one two = record { widens = λ d. two .widens (one .widens d) }
+
+module _ {A B C : Type 0} {F : Form A} {G : A → Form B} {H : B → Form C} where
+  -- out of a group, and into one
+  pub opened : Wider (Then (Then F G) H) (Then F (λ x. Then (G x) H))
+  opened = record {
+    widens = λ {at} d.
+        let f = d .one in
+        record {
+          value = f .value;
+          front = f .front;
+          back = f .back ++ d .back;
+          whole = cc (append-assoc (f .front) (f .back) (d .back));
+          one = f .one;
+          two = put (f .back) (d .back) (d .value) (f .two) (rw (f .whole, length-append, ← add-assoc) at (d .two));
+        };
+  }
+
+  pub grouped : Wider (Then F (λ x. Then (G x) H)) (Then (Then F G) H)
+  grouped = record {
+    widens = λ d.
+        let g = d .two in
+        record {
+          value = g .value;
+          front = d .front ++ g .front;
+          back = g .back;
+          whole = cc (append-assoc (d .front) (g .front) (g .back));
+          one = put (d .front) (g .front) (d .value) (d .one) (g .one);
+          two = rw (length-append, ← add-assoc) (g .two);
+        };
+  }
+
+-- a first part that has no bytes: a value, the place
+pub known : {A B : Type 0} {x : A} {G : A → Form B} → Wider (Then (Is x) G) (G x)
+known = record {
+  widens = λ {at} {bytes} d.
+      let all : bytes ≡ d .back = d .whole ∙ ap (λ b. b ++ d .back) (d .one .0) in
+      rw (all, d .one .1) (rw (d .one .0, add-zero) at (d .two));
+}
+
+pub at-place : {A : Type 0} {F : Form A} {G : ℕ → Form A} → ((place : ℕ) → Wider F (G place)) → Wider F (Then Here G)
+at-place two = record { widens = λ {at} d. skip at (refl, refl) (two at .widens d) }

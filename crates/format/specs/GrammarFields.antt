@@ -6,7 +6,7 @@ use Prim.Native.Nat.{ℕ, zero, suc, _+_, _*_, _-_, _%_, _^_, _≤_, _<_}
 use lib.ListN.{length}
 use Rattle.format.specs.Form.{Bytes, Below, Form, Then, _>>=_, _>>_, Is, Here, Given, Run}
 
--- ## Fields: n bytes, low byte first. lundump.c's `loadByte` (n is 1), `loadVar` of an Instruction (4), `loadInteger` and `loadNumber` (8)
+-- ## Fields: n bytes, low byte first. lundump.c's `loadByte` (n is 1), `loadVector` in `loadCode` (4), `loadInteger` and `loadNumber` (8)
 abbrev pub little : Bytes → ℕ
 little [] = 0
 little (x ∷ xs) = x + 256 * little xs

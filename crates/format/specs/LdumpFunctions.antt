@@ -13,7 +13,7 @@ use Rattle.format.specs.Reading.{ConstantValue, nil, boolean, integer, f
 use Rattle.format.specs.Copy.{fieldBytes}
 use Rattle.format.specs.Ldump.{dumpSize}
 
--- dumpSize(D, x)
+-- dumpSize(D, x). C's x is an int: numbers from 2^31 on are outside the C
 abbrev pub dumpInt : ℕ → Bytes
 dumpInt x = dumpSize x
 
@@ -32,7 +32,8 @@ dumpEach dump xs = dumpInt (length xs) ++ flatten (map dump xs)
 abbrev pub dumpCode : Prototype → Bytes
 dumpCode f = dumpEach (fieldBytes 4) (f .instructions)
 
--- dumpByte(D, tt); switch (tt) ..
+-- int tt = ttypetag(o); dumpByte(D, tt); switch (tt) .. A string's tag is here the one that was read. C's goes by the length: `loadStringN` makes a string short up to
+-- LUAI_MAXSHORTLEN, 40 bytes, and long above, whatever its tag was
 abbrev pub dumpConstant : ConstantValue → Bytes
 dumpConstant nil = dumpByte 0
 dumpConstant (boolean false) = dumpByte 1

@@ -1,7 +1,10 @@
--- From lundump.c (Lua 5.4.4), close to the text: the order and the parts in which Lua's own loader takes a chunk. Each form has the name of its C function:
--- the bytes that the function takes, and what it makes of them. A Proto is shown as our `Prototype`, and a tree of them as the list of its functions.
--- Where 01 makes ours differ is said at each. `proofs/LundumpParts.antt` shows of the parts that what these take, our grammar takes, with the same value; that a
--- function has the same parts in the same order is to be seen by laying `LoadFunction` beside `Body` (GrammarChunk.antt).
+-- From lundump.c (Lua 5.4.4), close to the text: the order and the parts in which Lua's own loader takes a chunk. A form is the bytes that a C function takes, and
+-- what it makes of them; it has the function's name. A Proto is shown as our `Prototype`, and a tree of them as the list of its functions.
+-- These names are ours: Content, NotNull (a test for NULL), LoadCounted (a count and a loop), LoadTagged (a switch), Debug (what `loadDebug` stores), and, for one turn of a
+-- loop, LoadConstant, LoadUpvalue, LoadAbsLineInfo, LoadVarName, LoadLocVar. At each stand the lines of C that it is for. `Field 8` is `loadInteger` and `loadNumber`;
+-- `Spelt` is `checkliteral`, and a byte or a number that is loaded and compared.
+-- Bytes of a word or a number are in the order of a little-endian machine: C copies them as they lie in memory (`loadVector`).
+-- Where 01 makes ours differ is said at each. What `Undump` takes, our grammar takes, with the same value, where that is within the limits: `proofs/LundumpChunk.antt`.
 -- Not here: memory (what a loader allocates, or writes behind an array's end), and what happens at a tag that is none (`lua_assert(0)`).
 use mathlib.Core.Path.{_≡_}
 use mathlib.Core.Bool.{Bool, true, false}
@@ -29,7 +32,7 @@ LoadInt at bytes v = Below 256 bytes × (loadInt bytes ≡ loaded v [])
 abbrev pub LoadByte : Form ℕ
 LoadByte = Field 1
 
--- if (size == 0) return NULL; else --size bytes
+-- if (size == 0) return NULL; else if (--size <= LUAI_MAXSHORTLEN) .. loadVector(S, buff, size) .. else .. loadVector(S, getstr(ts), size): size bytes either way
 abbrev pub Content : ℕ → Form (Option LuaString)
 Content zero = Is none
 Content (suc size) = do
@@ -52,18 +55,18 @@ LoadString = do
   st ← LoadStringN
   NotNull st
 
--- int n = loadInt(S); .. n of these
-abbrev pub LoadVector : {A : Type 0} → Form A → Form (Listed A)
-LoadVector F = do
+-- int n = loadInt(S); .. for (i = 0; i < n; i++) .., or loadVector(S, .., n): in `loadCode`, `loadConstants`, `loadUpvalues` and three times in `loadDebug`
+abbrev pub LoadCounted : {A : Type 0} → Form A → Form (Listed A)
+LoadCounted F = do
   n ← LoadInt
   place ← Here
   items ← Many n F
   Is (record { place = place; items = items })
 
 abbrev pub LoadCode : Form (Listed ℕ)
-LoadCode = LoadVector (Field 4)
+LoadCode = LoadCounted (Field 4)
 
--- The strings are told apart by their tag, as ours; Lua then keeps a string short or long by its length, whatever its tag.
+-- The strings are told apart by their tag, as ours; C has one case for both, and keeps a string short or long by its length.
 -- switch (t): LUA_VNIL 0, LUA_VFALSE 1, LUA_VTRUE 17, LUA_VNUMINT 3, LUA_VNUMFLT 19, LUA_VSHRSTR 4, LUA_VLNGSTR 20
 abbrev pub LoadTagged : ℕ → Form ConstantValue
 LoadTagged t =
@@ -84,14 +87,16 @@ LoadTagged t =
       Is (long-string st))
     Nothing))))))
 
+-- int t = loadByte(S); switch (t) ..
 abbrev pub LoadConstant : Form ConstantValue
 LoadConstant = do
   t ← LoadByte
   LoadTagged t
 
 abbrev pub LoadConstants : Form (Listed ConstantValue)
-LoadConstants = LoadVector LoadConstant
+LoadConstants = LoadCounted LoadConstant
 
+-- f->upvalues[i].instack = loadByte(S); .idx, .kind
 abbrev pub LoadUpvalue : Form UpvalueDesc
 LoadUpvalue = do
   instack ← LoadByte
@@ -100,9 +105,9 @@ LoadUpvalue = do
   Is (record { instack = instack; idx = idx; kind = kind })
 
 abbrev pub LoadUpvalues : Form (Listed UpvalueDesc)
-LoadUpvalues = LoadVector LoadUpvalue
+LoadUpvalues = LoadCounted LoadUpvalue
 
--- for (i = 0; i < n; i++) loadFunction(S, f->p[i], f->source)
+-- for (i = 0; i < n; i++) .. loadFunction(S, f->p[i], f->source). The count, with which `loadProtos` begins, is loaded in `LoadFunction` here
 abbrev pub LoadProtos : ℕ → (Where → Form (List Prototype)) → Where → Form (List Prototype)
 LoadProtos zero F w = Is []
 LoadProtos (suc n) F w = do
@@ -110,19 +115,21 @@ LoadProtos (suc n) F w = do
   more ← LoadProtos n F (after ps w)
   Is (ps ++ more)
 
--- the anchors and local variables of `loadDebug`. A local's name that is NULL is shown as `?`, as ours
+-- f->abslineinfo[i].pc = loadInt(S); .line
 abbrev pub LoadAbsLineInfo : Form AbsLineInfo
 LoadAbsLineInfo = do
   pc ← LoadInt
   line ← LoadInt
   Is (record { pc = pc; line = line })
 
+-- f->locvars[i].varname = loadStringN(S, f): NULL is shown as `?`, as ours
 abbrev pub LoadVarName : Form LuaString
 LoadVarName = do
   varname ← LoadStringN
   place ← Here
   Is (orElse varname (record { place = place; bytes = 63 ∷ [] }))
 
+-- and .startpc = loadInt(S), .endpc
 abbrev pub LoadLocVar : Form LocalVar
 LoadLocVar = do
   varname ← LoadVarName
@@ -142,12 +149,12 @@ LoadDebug = do
   n ← LoadInt
   lineinfo-at ← Here
   lineinfo ← Run n
-  abslineinfo ← LoadVector LoadAbsLineInfo
-  locvars ← LoadVector LoadLocVar
-  upvalue-names ← LoadVector LoadStringN
+  abslineinfo ← LoadCounted LoadAbsLineInfo
+  locvars ← LoadCounted LoadLocVar
+  upvalue-names ← LoadCounted LoadStringN
   Is (record { lineinfo-at = lineinfo-at; lineinfo = lineinfo; abslineinfo = abslineinfo; locvars = locvars; upvalue-names = upvalue-names })
 
--- if (f->source == NULL) f->source = psource. The first argument bounds how deep functions nest; `Where` is how we number the functions
+-- if (f->source == NULL) f->source = psource. The first argument bounds how deep functions nest, and C has no such bound; `Where` is how we number the functions
 unfoldable pub LoadFunction : ℕ → Where → Form (List Prototype)
 LoadFunction zero w = Nothing
 LoadFunction (suc left) w = do
@@ -197,7 +204,8 @@ LoadFunction (suc left) w = do
     };
   } ∷ p)
 
--- LUA_SIGNATURE, LUAC_VERSION, LUAC_FORMAT, LUAC_DATA, sizes, LUAC_INT, LUAC_NUM. Ours takes any format byte
+-- LUA_SIGNATURE, LUAC_VERSION, LUAC_FORMAT, LUAC_DATA, sizes, LUAC_INT, LUAC_NUM. Ours takes any format byte. In C the signature's first byte was read and compared before,
+-- by the caller (ldo.c's `f_parser`), and here is checkliteral(S, &LUA_SIGNATURE[1], ..)
 abbrev pub CheckHeader : Form Headed
 CheckHeader = do
   Spelt signature
