@@ -2,7 +2,6 @@
 --     Stored           the invariant: the groups of what is left, then what stands from place i on, are the whole; before `at` nothing has changed
 --     stored-none, stored-next, stored-all     where the loop begins; a turn; where it ends
 --     number-stored    the last byte stored behind the groups: the shortest spelling
---     one-byte         the shortest spelling of a number below 128
 -- Assumes nothing.
 use mathlib.Core.Path.{_≡_, refl, sym, _∙_, ap, subst}
 use mathlib.Core.List.{List, [], _∷_, _++_, append-assoc}
@@ -94,14 +93,3 @@ number-stored at v high l out fits e was =
     ∙ ap (λ (k : ℕ). splice (at + k) ((v % 128 + 128) ∷ []) (splice at (groups high (v / 128)) l)) (sym long)
     ∙ splice-then at (groups high (v / 128)) ((v % 128 + 128) ∷ []) l room
     ∙ ap (λ b. splice at b l) (as-groups v high e)
-
-no-groups : (f : ℕ) → groupsOf f 0 ≡ []
-no-groups zero = refl
-no-groups (suc f) = refl
-
-pub one-byte : (v : ℕ) → v < 128 → (v + 128) ∷ [] ≡ shortest v
-unfolding shortest
-one-byte v h =
-    let none : v / 128 ≡ 0 = omega arith in
-    let byte : 128 + v % 128 ≡ v + 128 = omega arith in
-    rw (none, no-groups v, byte)

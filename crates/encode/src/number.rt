@@ -7,7 +7,6 @@ ghost use Rattle.lent.specs.Splice.{splice};
 ghost use Rattle.encode.specs.Put.{Put};
 ghost use Rattle.encode.specs.Groups.{groups};
 use crate::raw::plus;
-use crate::raw::put_byte;
 use shortest::varint_len;
 
 // Stores the n lowest groups of v from `at` on, the lowest last.
@@ -24,8 +23,8 @@ fn store_groups(out: &mut [u8], at: usize, n: usize, v: u64)
     }
 }
 
-// A number of any length.
-fn put_groups(out: &mut [u8], at: usize, v: u64) -> usize
+// A number. Ruled out: low group first, a number below 128 in two bytes.
+pub fn put_varint(out: &mut [u8], at: usize, v: u64) -> usize
     ensures { λ r. ⌜ Put (shortest v) at (now (out .entry)) r (now (out .exit)) ⌝ }
 {
     let len = varint_len(v);
@@ -39,14 +38,4 @@ fn put_groups(out: &mut [u8], at: usize, v: u64) -> usize
     store_groups(out, at, len - 1, v / 128);
     out[last] = (v % 128) as u8 + 128;
     at + len
-}
-
-// A number. Most take one byte, so that is tried first. Ruled out: low group first, a number below 128 in two bytes.
-pub fn put_varint(out: &mut [u8], at: usize, v: u64) -> usize
-    ensures { λ r. ⌜ Put (shortest v) at (now (out .entry)) r (now (out .exit)) ⌝ }
-{
-    if v < 128 {
-        return put_byte(out, at, v as u8 + 128);
-    }
-    put_groups(out, at, v)
 }
