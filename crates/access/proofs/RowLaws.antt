@@ -20,7 +20,7 @@ use Rattle.prototype.specs.declared.row.OptionRow.the-variants as option
 use Rattle.prototype.specs.Row.{rowOf, shownRow, lookup}
 use Rattle.decode.specs.declared.summary.Decoded.{Decoded}
 use Rattle.decode.specs.declared.summary.DecodedResult.the-variants as decoded
-use Rattle.decode.specs.Decoded.{shownOutcome}
+use Rattle.decode.specs.Decoded.{decodedResult}
 use Rattle.entries.specs.Nth.{nth}
 use Rattle.access.specs.declared.row.RowAnswer.{RowAnswer}
 use Rattle.access.specs.declared.row.RowAnswer.the-variants as row
@@ -50,20 +50,20 @@ shown-or none = refl
 shown-or (some p) = refl
 
 module _ (f : ℕ) where
-  pub row-refused : (o : Outcome) (q : Refusal) → decoded.Err q ≡ shownOutcome f o → row.Err q ≡ shownRowAnswer (functionOf f o)
+  pub row-refused : (o : Outcome) (q : Refusal) → decoded.Err q ≡ decodedResult f o → row.Err q ≡ shownRowAnswer (functionOf f o)
   row-refused (shown r) q e = absurd (let z : _≡_ {A = ℕ} 0 1 = cc in omega arith)
   row-refused (refusal p) q e = cc
 
-  by-row : (o : Outcome) (d : Decoded) → decoded.Ok d ≡ shownOutcome f o → rowOr (d .row) ≡ shownRowAnswer (functionOf f o)
+  by-row : (o : Outcome) (d : Decoded) → decoded.Ok d ≡ decodedResult f o → rowOr (d .row) ≡ shownRowAnswer (functionOf f o)
   by-row (shown r) d e =
       let same : d .row ≡ shownRow (lookup f 0 (r .functions)) = cc in
       ap rowOr same ∙ ap (λ p. rowOr (shownRow p)) (lookup-nth f (r .functions)) ∙ shown-or (nth f (r .functions))
   by-row (refusal p) d e = absurd (let z : _≡_ {A = ℕ} 0 1 = cc in omega arith)
 
-  pub row-none : (o : Outcome) (d : Decoded) → decoded.Ok d ≡ shownOutcome f o → d .row ≡ option.None → row.Err NoFunction ≡ shownRowAnswer (functionOf f o)
+  pub row-none : (o : Outcome) (d : Decoded) → decoded.Ok d ≡ decodedResult f o → d .row ≡ option.None → row.Err NoFunction ≡ shownRowAnswer (functionOf f o)
   row-none o d e is = sym (ap rowOr is) ∙ by-row o d e
 
-  pub row-some : (o : Outcome) (d : Decoded) → decoded.Ok d ≡ shownOutcome f o → (x : FunctionRow) → d .row ≡ option.Some x → row.Ok x ≡ shownRowAnswer (functionOf f o)
+  pub row-some : (o : Outcome) (d : Decoded) → decoded.Ok d ≡ decodedResult f o → (x : FunctionRow) → d .row ≡ option.Some x → row.Ok x ≡ shownRowAnswer (functionOf f o)
   row-some o d e x is = sym (ap rowOr is) ∙ by-row o d e
 
 -- ## The lists

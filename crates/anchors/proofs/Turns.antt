@@ -15,13 +15,13 @@ use Rattle.reader.proofs.Shows.{Was, onward}
 use Rattle.anchors.specs.declared.Scan.{Scan}
 use Rattle.anchors.specs.declared.ScanResult.{ScanResult}
 use Rattle.anchors.specs.declared.ScanResult.the-variants as scan
-use Rattle.anchors.specs.Scan.{passed, shownScan}
+use Rattle.anchors.specs.Scan.{passed, scanResult}
 
 -- what is given of a scan and the anchors left, from a place on
 abbrev pub scanFrom : Bytes → ℕ → Bytes → Scan → ℕ → ℕ → ScanResult
-scanFrom ds pc s z left at = shownScan ds pc z (many left anchor at (drop at s))
+scanFrom ds pc s z left at = scanResult ds pc z (many left anchor at (drop at s))
 
-one-passed : (ds : Bytes) (pc : ℕ) (z : Scan) (a : AbsLineInfo) (o : Read (List AbsLineInfo)) → shownScan ds pc z (next o (λ xs. give (a ∷ xs))) ≡ shownScan ds pc (passed ds pc z a) o
+one-passed : (ds : Bytes) (pc : ℕ) (z : Scan) (a : AbsLineInfo) (o : Read (List AbsLineInfo)) → scanResult ds pc z (next o (λ xs. give (a ∷ xs))) ≡ scanResult ds pc (passed ds pc z a) o
 one-passed ds pc z a (ok xs to rest) = refl
 one-passed ds pc z a (refused q) = refl
 
@@ -34,17 +34,17 @@ module _ (ds : Bytes) (pc : ℕ) (s : Bytes) (z : Scan) (left at : ℕ) {whole :
     turn : left ≡ suc (left - 1)
     turn = omega arith
 
-    by-first : whole ≡ shownScan ds pc z (next (anchor at (drop at s)) (λ a. many (left - 1) anchor >>= λ xs. give (a ∷ xs)))
+    by-first : whole ≡ scanResult ds pc z (next (anchor at (drop at s)) (λ a. many (left - 1) anchor >>= λ xs. give (a ∷ xs)))
     by-first = inv ∙ ap (λ n. scanFrom ds pc s z n at) turn
 
     -- an anchor is refused
     pub stops : (q : Refusal) → anchor at (drop at s) ≡ refused q → scan.Err q ≡ whole
-    stops q e = sym (by-first ∙ ap (λ o. shownScan ds pc z (next o (λ a. many (left - 1) anchor >>= λ xs. give (a ∷ xs)))) e)
+    stops q e = sym (by-first ∙ ap (λ o. scanResult ds pc z (next o (λ a. many (left - 1) anchor >>= λ xs. give (a ∷ xs)))) e)
 
     -- an anchor is read
     pub goes-on : {a : AbsLineInfo} {to : ℕ} → Was (anchor at (drop at s)) a to → {y : Scan} → y ≡ passed ds pc z a → whole ≡ scanFrom ds pc s y (left - 1) to
     goes-on {a} {to} w is =
         by-first
-        ∙ ap (λ o. shownScan ds pc z (next o (λ a. many (left - 1) anchor >>= λ xs. give (a ∷ xs)))) (onward exact-anchor s at w)
+        ∙ ap (λ o. scanResult ds pc z (next o (λ a. many (left - 1) anchor >>= λ xs. give (a ∷ xs)))) (onward exact-anchor s at w)
         ∙ one-passed ds pc z a (many (left - 1) anchor to (drop to s))
         ∙ ap (λ y. scanFrom ds pc s y (left - 1) to) (sym is)

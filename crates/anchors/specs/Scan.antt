@@ -44,6 +44,6 @@ scanned deltas pc z (a ∷ more) = scanned deltas pc (passed deltas pc z a) more
 abbrev pub startOf : ℕ → ℕ → Scan
 startOf pc line-defined = record { large = leb (2 ^ 62) line-defined; taking = true; base = record { pc = 0; line = line-defined }; reset = record { pc = 0; line = 0 }; sought = Ahead pc }
 
-abbrev pub shownScan : Bytes → ℕ → Scan → Read (List AbsLineInfo) → ScanResult
-shownScan deltas pc z (ok anchors to rest) = scan.Ok (scanned deltas pc z anchors)
-shownScan deltas pc z (refused q) = scan.Err q
+abbrev pub scanResult : Bytes → ℕ → Scan → Read (List AbsLineInfo) → ScanResult
+scanResult deltas pc z (ok anchors to rest) = scan.Ok (scanned deltas pc z anchors)
+scanResult deltas pc z (refused q) = scan.Err q

@@ -5,7 +5,7 @@ ghost use lib.ListN.{drop};
 ghost use Rattle.format.specs.Pick.{pick};
 ghost use Rattle.format.specs.Read.{many};
 ghost use Rattle.format.specs.ReadChunk.{anchor};
-ghost use Rattle.anchors.specs.Scan.{orLarge, stillTaking, resetBy, seekBy, passed, startOf, shownScan};
+ghost use Rattle.anchors.specs.Scan.{orLarge, stillTaking, resetBy, seekBy, passed, startOf, scanResult};
 use cursor::Cursor;
 use format::entry::AbsLineInfo;
 use format::refusal::Refusal;
@@ -123,7 +123,7 @@ pub fn scan_anchors(
     pc: usize,
     line_defined: usize,
 ) -> ScanResult
-    ensures { λ r. ⌜ r ≡ shownScan (now (deltas .entry)) pc (startOf pc «line_defined») (many n anchor (cursor .at) (drop (cursor .at) (now (s .entry)))) ⌝ }
+    ensures { λ r. ⌜ r ≡ scanResult (now (deltas .entry)) pc (startOf pc «line_defined») (many n anchor (cursor .at) (drop (cursor .at) (now (s .entry)))) ⌝ }
 {
     let mut scan = Scan {
         large: 4611686018427387904 <= line_defined,

@@ -26,7 +26,7 @@ use Rattle.chunk.specs.declared.walk.WalkResult.the-variants as answer
 use Rattle.prototype.specs.declared.row.OptionRow.{OptionRow}
 use Rattle.prototype.specs.declared.row.OptionRow.the-variants as option
 use Rattle.prototype.specs.Row.{shownRow, lookup}
-use Rattle.chunk.specs.Walk.{orRow, shownFrom, shownWalk, shownWhere, further, joinedShown}
+use Rattle.chunk.specs.Walk.{orRow, walkResultFrom, walkResult, shownWhere, further, joinedShown}
 
 -- ## A row among functions
 or-twice : (a b c : OptionRow) → orRow (orRow a b) c ≡ orRow a (orRow b c)
@@ -50,14 +50,14 @@ shown-append n k (p ∷ ps) qs =
 -- ## One turn
 -- a walk behind some functions, then the rest of n, each read by r
 abbrev pub restOf : ℕ → (grammar.Where → Reader (List Prototype)) → ℕ → grammar.Where → Bytes → Walked → WalkResult
-restOf wanted r more w s walked = shownFrom (walked .row) wanted (further w walked) (forest more r (further w walked) (walked .next .at) (drop (walked .next .at) s))
+restOf wanted r more w s walked = walkResultFrom (walked .row) wanted (further w walked) (forest more r (further w walked) (walked .next .at) (drop (walked .next .at) s))
 
 abbrev pub andRest : ℕ → (grammar.Where → Reader (List Prototype)) → ℕ → grammar.Where → Bytes → Walked → WalkResult → WalkResult
 andRest wanted r more w s walked (answer.Err q) = answer.Err q
 andRest wanted r more w s walked (answer.Ok later) = restOf wanted r more w s (joinedShown walked later)
 
 appended : (before : OptionRow) (wanted : ℕ) (w : grammar.Where) (ps : List Prototype) (o : Read (List Prototype))
-    → shownFrom before wanted w (next o (λ more. give (ps ++ more))) ≡ shownFrom (orRow before (shownRow (lookup wanted (w .number) ps))) wanted (after ps w) o
+    → walkResultFrom before wanted w (next o (λ more. give (ps ++ more))) ≡ walkResultFrom (orRow before (shownRow (lookup wanted (w .number) ps))) wanted (after ps w) o
 appended before wanted w ps (refused q) = refl
 appended before wanted w ps (ok qs to rest) =
     let number : w .number + length (ps ++ qs) ≡ w .number + length ps + length qs = rw length-append (omega arith) in
@@ -67,15 +67,15 @@ appended before wanted w ps (ok qs to rest) =
 
 module _ (wanted : ℕ) (r : grammar.Where → Reader (List Prototype)) {F : grammar.Where → Form (List Prototype)} (exact : (w : grammar.Where) → Exact (r w) (F w)) (w : grammar.Where) (s : Bytes) (walked : Walked) where
   turn : (more : ℕ) (o : Read (List Prototype)) → r (further w walked) (walked .next .at) (drop (walked .next .at) s) ≡ o
-      → shownFrom (walked .row) wanted (further w walked) (next o (λ ps. forest more r (after ps (further w walked)) >>= λ more. give (ps ++ more))) ≡ andRest wanted r more w s walked (shownWalk wanted (further w walked) o)
+      → walkResultFrom (walked .row) wanted (further w walked) (next o (λ ps. forest more r (after ps (further w walked)) >>= λ more. give (ps ++ more))) ≡ andRest wanted r more w s walked (walkResult wanted (further w walked) o)
   turn more (refused q) e = refl
   turn more (ok ps to rest) e =
       let behind : rest ≡ drop to s = left (exact (further w walked)) s (walked .next .at) e in
       appended (walked .row) wanted (further w walked) ps (forest more r (after ps (further w walked)) to rest)
-      ∙ ap (λ rest. shownFrom (orRow (walked .row) (shownRow (lookup wanted (walked .number) ps))) wanted (after ps (further w walked)) (forest more r (after ps (further w walked)) to rest)) behind
+      ∙ ap (λ rest. walkResultFrom (orRow (walked .row) (shownRow (lookup wanted (walked .number) ps))) wanted (after ps (further w walked)) (forest more r (after ps (further w walked)) to rest)) behind
 
   pub one-more : (more : ℕ) → 0 < more
-      → restOf wanted r more w s walked ≡ andRest wanted r (more - 1) w s walked (shownWalk wanted (further w walked) (r (further w walked) (walked .next .at) (drop (walked .next .at) s)))
+      → restOf wanted r more w s walked ≡ andRest wanted r (more - 1) w s walked (walkResult wanted (further w walked) (r (further w walked) (walked .next .at) (drop (walked .next .at) s)))
   one-more more h =
       let e : more ≡ suc (more - 1) = omega arith in
       ap (λ n. restOf wanted r n w s walked) e ∙ turn (more - 1) (r (further w walked) (walked .next .at) (drop (walked .next .at) s)) refl

@@ -40,8 +40,8 @@ use Rattle.prototype.specs.declared.parts.TailResult.the-variants as tail-answe
 use Rattle.prototype.specs.declared.row.OptionRow.the-variants as option
 use Rattle.prototype.specs.Row.{rowOf, shownRow, lookup}
 use Rattle.prototype.specs.Parts.{Head, head, Tail, tail, parts, inside, prototypeOf}
-use Rattle.prototype.specs.PartsShown.{headOf, tailOf, shownHead, shownTail}
-use Rattle.chunk.specs.Walk.{shownWhere, entered, shownWalk, inheritShown, insideShown, rowShown, finishedShown}
+use Rattle.prototype.specs.PartsShown.{headOf, tailOf, headResult, tailResult}
+use Rattle.chunk.specs.Walk.{shownWhere, entered, walkResult, inheritShown, insideShown, rowShown, finishedShown}
 use Rattle.prototype.proofs.On.{taken, stopped}
 use Rattle.prototype.proofs.FrontAnswers.{FrontForm, exact-front}
 use Rattle.prototype.proofs.HeadAnswers.{ListsForm, exact-lists}
@@ -95,33 +95,33 @@ every-head L before =
     every-then any λ protos _.
     every-is fits
 
-head-err : (o : Read Head) (q : Refusal) → head-answer.Err q ≡ shownHead o → o ≡ refused q
+head-err : (o : Read Head) (q : Refusal) → head-answer.Err q ≡ headResult o → o ≡ refused q
 head-err (ok x to rest) q e = absurd (let z : _≡_ {A = ℕ} 0 1 = cc in omega arith)
 head-err (refused p) q e = cc
 
-head-ok : (o : Read Head) (h : declared-head.Head) (c : Cursor) → head-answer.Ok h c ≡ shownHead o → Showed headOf o h (c .at)
+head-ok : (o : Read Head) (h : declared-head.Head) (c : Cursor) → head-answer.Ok h c ≡ headResult o → Showed headOf o h (c .at)
 head-ok (ok x to rest) h c e =
     let next : c ≡ cursorAt to = cc in
     record { value = x; was = record { rest = rest; is = rw next }; shows = cc }
 head-ok (refused p) h c e = absurd (let z : _≡_ {A = ℕ} 0 1 = cc in omega arith)
 
-pub in-total : (s : Bytes) (L : ResourceLimits) (before at : ℕ) (h : declared-head.Head) (c : Cursor) → head-answer.Ok h c ≡ shownHead (head L before at (drop at s)) → before + h .lists .instructions .count ≤ L .«max_total_instructions»
+pub in-total : (s : Bytes) (L : ResourceLimits) (before at : ℕ) (h : declared-head.Head) (c : Cursor) → head-answer.Ok h c ≡ headResult (head L before at (drop at s)) → before + h .lists .instructions .count ≤ L .«max_total_instructions»
 in-total s L before at h c e =
     let o = head-ok (head L before at (drop at s)) h c e in
     let split = exact-head L before .sound {at = at} {s = drop at s} (o .was .is) in
     rw (o .shows) (every-head L before .holds at (split .bytes) (o .value) (split .spelt))
 
-pub tail-err : (o : Read Tail) (q : Refusal) → tail-answer.Err q ≡ shownTail o → o ≡ refused q
+pub tail-err : (o : Read Tail) (q : Refusal) → tail-answer.Err q ≡ tailResult o → o ≡ refused q
 tail-err (ok x to rest) q e = absurd (let z : _≡_ {A = ℕ} 0 1 = cc in omega arith)
 tail-err (refused p) q e = cc
 
-pub tail-ok : (o : Read Tail) (t : declared-tail.Tail) (c : Cursor) → tail-answer.Ok t c ≡ shownTail o → Showed tailOf o t (c .at)
+pub tail-ok : (o : Read Tail) (t : declared-tail.Tail) (c : Cursor) → tail-answer.Ok t c ≡ tailResult o → Showed tailOf o t (c .at)
 tail-ok (ok x to rest) t c e =
     let next : c ≡ cursorAt to = cc in
     record { value = x; was = record { rest = rest; is = rw next }; shows = cc }
 tail-ok (refused p) t c e = absurd (let z : _≡_ {A = ℕ} 0 1 = cc in omega arith)
 
-pub walk-err : (wanted : ℕ) (w : grammar.Where) (o : Read (List Prototype)) (q : Refusal) → answer.Err q ≡ shownWalk wanted w o → o ≡ refused q
+pub walk-err : (wanted : ℕ) (w : grammar.Where) (o : Read (List Prototype)) (q : Refusal) → answer.Err q ≡ walkResult wanted w o → o ≡ refused q
 walk-err wanted w (ok x to rest) q e = absurd (let z : _≡_ {A = ℕ} 0 1 = cc in omega arith)
 walk-err wanted w (refused p) q e = cc
 
@@ -134,7 +134,7 @@ pub record WasWalk (wanted : ℕ) (w : grammar.Where) (o : Read (List Prototype)
   pub was : Was o value (walked .next .at)
   pub shows : walked ≡ walkedOf wanted w value (walked .next .at)
 
-pub walk-ok : (wanted : ℕ) (w : grammar.Where) (o : Read (List Prototype)) (walked : Walked) → answer.Ok walked ≡ shownWalk wanted w o → WasWalk wanted w o walked
+pub walk-ok : (wanted : ℕ) (w : grammar.Where) (o : Read (List Prototype)) (walked : Walked) → answer.Ok walked ≡ walkResult wanted w o → WasWalk wanted w o walked
 walk-ok wanted w (ok x to rest) walked e =
     let all : walked ≡ walkedOf wanted w x to = cc in
     let behind : walked .next .at ≡ to = ap (λ k. k .next .at) all in
@@ -188,10 +188,10 @@ module _ (s : Bytes) (L : ResourceLimits) (left wanted : ℕ) (place : Where) (w
   as-begins : head L (w .instructions) at (drop at s) ≡ begins
   as-begins = ap (λ k. head L (k .instructions) at (drop at s)) (sym stands)
 
-  pub head-refused : (q : Refusal) → head-answer.Err q ≡ shownHead begins → answer.Err q ≡ shownWalk wanted w whole
-  head-refused q e = sym (ap (shownWalk wanted w) (by-parts ∙ stopped _ (as-begins ∙ head-err begins q e)))
+  pub head-refused : (q : Refusal) → head-answer.Err q ≡ headResult begins → answer.Err q ≡ walkResult wanted w whole
+  head-refused q e = sym (ap (walkResult wanted w) (by-parts ∙ stopped _ (as-begins ∙ head-err begins q e)))
 
-  module _ (h : declared-head.Head) (c₁ : Cursor) (e₁ : head-answer.Ok h c₁ ≡ shownHead begins) where
+  module _ (h : declared-head.Head) (c₁ : Cursor) (e₁ : head-answer.Ok h c₁ ≡ headResult begins) where
     pub headed : Showed headOf begins h (c₁ .at)
     headed = head-ok begins h c₁ e₁
 
@@ -210,10 +210,10 @@ module _ (s : Bytes) (L : ResourceLimits) (left wanted : ℕ) (place : Where) (w
     as-many : inner ≡ forest (headed .value .protos .count) (entered L left) first (c₁ .at) (drop (c₁ .at) s)
     as-many = ap (λ h. forest (h .protos .count) (entered L left) first (c₁ .at) (drop (c₁ .at) s)) (headed .shows)
 
-    pub nested-refused : (q : Refusal) → answer.Err q ≡ shownWalk wanted first inner → answer.Err q ≡ shownWalk wanted w whole
-    nested-refused q e = sym (ap (shownWalk wanted w) (by-parts ∙ taken _ head-on ∙ stopped _ (sym as-many ∙ walk-err wanted first inner q e)))
+    pub nested-refused : (q : Refusal) → answer.Err q ≡ walkResult wanted first inner → answer.Err q ≡ walkResult wanted w whole
+    nested-refused q e = sym (ap (walkResult wanted w) (by-parts ∙ taken _ head-on ∙ stopped _ (sym as-many ∙ walk-err wanted first inner q e)))
 
-    module _ (nested : Walked) (e₂ : answer.Ok nested ≡ shownWalk wanted first inner) where
+    module _ (nested : Walked) (e₂ : answer.Ok nested ≡ walkResult wanted first inner) where
       pub walked : WasWalk wanted first inner nested
       walked = walk-ok wanted first inner nested e₂
 
@@ -223,12 +223,12 @@ module _ (s : Bytes) (L : ResourceLimits) (left wanted : ℕ) (place : Where) (w
       abbrev pub ends : Read Tail
       ends = tail (L .«max_string_bytes») (nested .next .at) (drop (nested .next .at) s)
 
-      pub tail-refused : (q : Refusal) → tail-answer.Err q ≡ shownTail ends → answer.Err q ≡ shownWalk wanted w whole
-      tail-refused q e = sym (ap (shownWalk wanted w) (by-parts ∙ taken _ head-on ∙ taken _ nested-on ∙ stopped _ (tail-err ends q e)))
+      pub tail-refused : (q : Refusal) → tail-answer.Err q ≡ tailResult ends → answer.Err q ≡ walkResult wanted w whole
+      tail-refused q e = sym (ap (walkResult wanted w) (by-parts ∙ taken _ head-on ∙ taken _ nested-on ∙ stopped _ (tail-err ends q e)))
 
-      pub function-read : (t : declared-tail.Tail) (c₃ : Cursor) → tail-answer.Ok t c₃ ≡ shownTail ends → answer.Ok (finishedShown place at h t c₃ nested wanted) ≡ shownWalk wanted w whole
+      pub function-read : (t : declared-tail.Tail) (c₃ : Cursor) → tail-answer.Ok t c₃ ≡ tailResult ends → answer.Ok (finishedShown place at h t c₃ nested wanted) ≡ walkResult wanted w whole
       function-read t c₃ e₃ =
           let tailed = tail-ok ends t c₃ e₃ in
           (λ i. answer.Ok (finishedShown (stands i) at (headed .shows i) (tailed .shows i) c₃ (walked .shows i) wanted))
           ∙ ap answer.Ok (finish wanted w at (headed .value) (tailed .value) c₃ (walked .value) (nested .next .at))
-          ∙ sym (ap (shownWalk wanted w) (by-parts ∙ taken _ head-on ∙ taken _ nested-on ∙ taken _ (tailed .was .is)))
+          ∙ sym (ap (walkResult wanted w) (by-parts ∙ taken _ head-on ∙ taken _ nested-on ∙ taken _ (tailed .was .is)))

@@ -16,13 +16,13 @@ use Rattle.chunk.specs.declared.walk.Where.{Where}
 use Rattle.chunk.specs.declared.walk.Walked.{Walked}
 use Rattle.chunk.specs.declared.walk.WalkResult.{WalkResult}
 use Rattle.chunk.specs.declared.walk.WalkResult.the-variants as answer
-use Rattle.chunk.specs.Walk.{shownWhere, entered, shownWalk, further, againShown, joinedShown}
+use Rattle.chunk.specs.Walk.{shownWhere, entered, walkResult, further, againShown, joinedShown}
 use Rattle.chunk.proofs.Forests.{restOf, andRest, one-more, no-more}
 use Rattle.chunk.proofs.Functions.{exact-entered, too-deep, too-many, enters}
 
 -- what n functions from a place on show
 abbrev pub all : Bytes → ResourceLimits → ℕ → ℕ → ℕ → ℕ → grammar.Where → WalkResult
-all s L n left wanted from w = shownWalk wanted w (forest n (entered L left) w from (drop from s))
+all s L n left wanted from w = walkResult wanted w (forest n (entered L left) w from (drop from s))
 
 -- those left show it too, behind the walk over the others
 abbrev pub Rest : Bytes → ResourceLimits → Where → ℕ → ℕ → ℕ → ℕ → Walked → ℕ → Type 0
@@ -38,22 +38,22 @@ module _ (s : Bytes) (L : ResourceLimits) (first : Where) (n left wanted from : 
 
   module _ (some : 0 < more) where
     turned : (w : grammar.Where) → first ≡ shownWhere w → all s L n left wanted from w
-        ≡ andRest wanted (entered L left) (more - 1) w s walked (shownWalk wanted (further w walked) (entered L left (further w walked) (walked .next .at) (drop (walked .next .at) s)))
+        ≡ andRest wanted (entered L left) (more - 1) w s walked (walkResult wanted (further w walked) (entered L left (further w walked) (walked .next .at) (drop (walked .next .at) s)))
     turned w p = rest w p ∙ one-more wanted (entered L left) (exact-entered L left) w s walked more some
 
     pub deep : left ≡ 0 → (w : grammar.Where) → first ≡ shownWhere w → answer.Err (NestingDepth (walked .next .at)) ≡ all s L n left wanted from w
-    deep e w p = sym (turned w p ∙ ap (λ o. andRest wanted (entered L left) (more - 1) w s walked (shownWalk wanted (further w walked) o)) (too-deep L left (further w walked) (walked .next .at) (drop (walked .next .at) s) e))
+    deep e w p = sym (turned w p ∙ ap (λ o. andRest wanted (entered L left) (more - 1) w s walked (walkResult wanted (further w walked) o)) (too-deep L left (further w walked) (walked .next .at) (drop (walked .next .at) s) e))
 
     module _ (level : 0 < left) where
       pub many : L .«max_total_prototypes» < walked .number → (w : grammar.Where) → first ≡ shownWhere w → answer.Err (TotalPrototypes (walked .next .at)) ≡ all s L n left wanted from w
-      many h w p = sym (turned w p ∙ ap (λ o. andRest wanted (entered L left) (more - 1) w s walked (shownWalk wanted (further w walked) o)) (too-many L left (further w walked) (walked .next .at) (drop (walked .next .at) s) level h))
+      many h w p = sym (turned w p ∙ ap (λ o. andRest wanted (entered L left) (more - 1) w s walked (walkResult wanted (further w walked) o)) (too-many L left (further w walked) (walked .next .at) (drop (walked .next .at) s) level h))
 
       module _ (h : walked .number ≤ L .«max_total_prototypes») (o : WalkResult)
-          (one : (w : grammar.Where) → againShown first walked ≡ shownWhere w → o ≡ shownWalk wanted w (function L (left - 1) w (walked .next .at) (drop (walked .next .at) s))) where
+          (one : (w : grammar.Where) → againShown first walked ≡ shownWhere w → o ≡ walkResult wanted w (function L (left - 1) w (walked .next .at) (drop (walked .next .at) s))) where
         answered : (w : grammar.Where) → first ≡ shownWhere w → all s L n left wanted from w ≡ andRest wanted (entered L left) (more - 1) w s walked o
         answered w p =
             turned w p
-            ∙ ap (λ o. andRest wanted (entered L left) (more - 1) w s walked (shownWalk wanted (further w walked) o)) (enters L left (further w walked) (walked .next .at) (drop (walked .next .at) s) level h)
+            ∙ ap (λ o. andRest wanted (entered L left) (more - 1) w s walked (walkResult wanted (further w walked) o)) (enters L left (further w walked) (walked .next .at) (drop (walked .next .at) s) level h)
             ∙ sym (ap (andRest wanted (entered L left) (more - 1) w s walked) (one (further w walked) (ap (λ k. againShown k walked) p)))
 
         pub stops : (q : Refusal) → o ≡ answer.Err q → (w : grammar.Where) → first ≡ shownWhere w → answer.Err q ≡ all s L n left wanted from w

@@ -48,17 +48,17 @@ orRow (option.Some r) later = option.Some r
 orRow option.None later = later
 
 -- behind a row that was found before, or none: the functions from w on
-abbrev pub shownFrom : OptionRow → ℕ → grammar.Where → Read (List Prototype) → WalkResult
-shownFrom before wanted w (ok ps to rest) = answer.Ok (record {
+abbrev pub walkResultFrom : OptionRow → ℕ → grammar.Where → Read (List Prototype) → WalkResult
+walkResultFrom before wanted w (ok ps to rest) = answer.Ok (record {
   next = cursorAt to;
   number = w .number + length ps;
   instructions = w .instructions + instructionsOf ps;
   row = orRow before (shownRow (lookup wanted (w .number) ps));
 })
-shownFrom before wanted w (refused q) = answer.Err q
+walkResultFrom before wanted w (refused q) = answer.Err q
 
-abbrev pub shownWalk : ℕ → grammar.Where → Read (List Prototype) → WalkResult
-shownWalk wanted w o = shownFrom option.None wanted w o
+abbrev pub walkResult : ℕ → grammar.Where → Read (List Prototype) → WalkResult
+walkResult wanted w o = walkResultFrom option.None wanted w o
 
 -- ## The same of the code's values
 abbrev pub inheritShown : OptionString → OptionString → OptionString

@@ -7,7 +7,7 @@ ghost use Rattle.format.specs.Pick.{pick};
 ghost use Rattle.format.specs.GrammarChunk as grammar;
 ghost use Rattle.format.specs.ReadChunk.{forest, function};
 ghost use Rattle.prototype.specs.declared.row.OptionRow.the-variants as option;
-ghost use Rattle.chunk.specs.Walk.{shownWhere, entered, shownWalk, inheritShown, insideShown, rowShown, orRow, finishedShown, againShown, joinedShown};
+ghost use Rattle.chunk.specs.Walk.{shownWhere, entered, walkResult, inheritShown, insideShown, rowShown, orRow, finishedShown, againShown, joinedShown};
 use cursor::Cursor;
 use format::limits::ResourceLimits;
 use format::refusal::Refusal;
@@ -165,7 +165,7 @@ pub fn read_function(
     cursor: Cursor,
 ) -> WalkResult
     requires { ⌜ (limits .«max_total_prototypes» ≤ 16777216) × (limits .«max_total_instructions» ≤ 16777216) × (place .number ≤ 16777216) × (place .depth + left ≤ 200) ⌝ }
-    ensures { λ r. ⌜ ((w : grammar.Where) → place ≡ shownWhere w → r ≡ shownWalk wanted w (function limits left w (cursor .at) (drop (cursor .at) (now (s .entry))))) ⌝ }
+    ensures { λ r. ⌜ ((w : grammar.Where) → place ≡ shownWhere w → r ≡ walkResult wanted w (function limits left w (cursor .at) (drop (cursor .at) (now (s .entry))))) ⌝ }
 {
     let begins = read_head(s, limits, place.instructions, cursor);
     match begins {
@@ -239,7 +239,7 @@ fn read_functions(
     cursor: Cursor,
 ) -> WalkResult
     requires { ⌜ (limits .«max_total_prototypes» ≤ 16777216) × (limits .«max_total_instructions» ≤ 16777216) × (first .depth + left ≤ 201) ⌝ }
-    ensures { λ r. ⌜ ((w : grammar.Where) → first ≡ shownWhere w → r ≡ shownWalk wanted w (forest n (entered limits left) w (cursor .at) (drop (cursor .at) (now (s .entry))))) ⌝ }
+    ensures { λ r. ⌜ ((w : grammar.Where) → first ≡ shownWhere w → r ≡ walkResult wanted w (forest n (entered limits left) w (cursor .at) (drop (cursor .at) (now (s .entry))))) ⌝ }
 {
     let mut walked = Walked {
         next: cursor,

@@ -22,7 +22,7 @@ use Rattle.prototype.specs.declared.row.OptionRow.{OptionRow}
 use Rattle.chunk.specs.declared.walk.Walked.{Walked}
 use Rattle.chunk.specs.declared.walk.WalkResult.the-variants as walk
 use Rattle.prototype.specs.Row.{shownRow, lookup}
-use Rattle.chunk.specs.Walk.{shownWalk}
+use Rattle.chunk.specs.Walk.{walkResult}
 use Rattle.chunk.proofs.Functions.{walk-err, walk-ok}
 use Rattle.lent.specs.Splice.{splice}
 use Rattle.lent.proofs.Splices.{splice-length, splice-before}
@@ -52,7 +52,7 @@ put-before {a} {b} {n} {after} {m} {l} {l₁} {l₂} e p q = record {
     size h = omega (arith, simp length-append at h)
 
 -- ## Main and the trailing bytes
-pub functions-stops : (o : Read (List Prototype)) (q : Refusal) {l l′ : Bytes} → walk.Err q ≡ shownWalk 0 outermost o → Answers chunkBytes o l (answer.Err q) l′
+pub functions-stops : (o : Read (List Prototype)) (q : Refusal) {l l′ : Bytes} → walk.Err q ≡ walkResult 0 outermost o → Answers chunkBytes o l (answer.Err q) l′
 functions-stops o q e =
     let is = walk-err 0 outermost o q e in
     record { stops = λ p f. let same : q ≡ p = (let both = sym is ∙ f in cc) in ap answer.Err same; puts = λ x to rest f. absurd (never (sym is ∙ f)) }
@@ -82,7 +82,7 @@ module _ (s : Bytes) (bytes : Below 256 s) (short : length s ≤ 16777216) (L : 
       let behind = length-append (functionsBytes ps) rest in
       omega arith
 
-  pub functions-put : (walked : Walked) (upvalues n : ℕ) → walk.Ok walked ≡ shownWalk 0 outermost functions → upvalues ≡ upvaluesShown (walked .row) → n ≡ length (drop (walked .next .at) s)
+  pub functions-put : (walked : Walked) (upvalues n : ℕ) → walk.Ok walked ≡ walkResult 0 outermost functions → upvalues ≡ upvaluesShown (walked .row) → n ≡ length (drop (walked .next .at) s)
       → {l l₁ l₂ l′ : Bytes} {after m len : ℕ}
       → ((ps : List Prototype) (to : ℕ) (rest : Bytes) → functions ≡ ok ps to rest → Put (functionBytes true ps) 32 l after l₁)
       → Put (headerBytes 0 ++ fieldBytes 1 upvalues) 0 l₁ m l₂

@@ -25,13 +25,13 @@ use Rattle.format.specs.Copy.{copy}
 use Rattle.format.proofs.Exact.{never}
 use Rattle.cursor.specs.declared.Cursor.{Cursor}
 use Rattle.reader.specs.declared.field.U8Result.the-variants as u8
-use Rattle.reader.specs.Shown.{shownU8}
+use Rattle.reader.specs.Shown.{u8Result}
 use Rattle.header.specs.declared.OptionWarning.{OptionWarning}
 use Rattle.header.specs.declared.HeaderResult.the-variants as header-answer
-use Rattle.header.specs.Shown.{shownHeader}
+use Rattle.header.specs.Shown.{headerResult}
 use Rattle.prototype.proofs.On.{taken}
 use Rattle.decode.specs.declared.LoadedResult.the-variants as loaded
-use Rattle.decode.specs.Loaded.{shownMain}
+use Rattle.decode.specs.Loaded.{loadedResult}
 use Rattle.decode.proofs.Answers.{headed, header-on, byte-on}
 use Rattle.lent.specs.Splice.{splice}
 use Rattle.lent.proofs.Splices.{splice-front}
@@ -41,11 +41,11 @@ use Rattle.copy.specs.Copied.{shownLength, shownCopy, copyWritten}
 use Rattle.copy.specs.Answers.{chunkBytes, loadedBytes, PutAll, Answers, Copies}
 
 -- ## Main
-main-err : (o : Read Loaded) (q : Refusal) → loaded.Err q ≡ shownMain 0 o → o ≡ refused q
+main-err : (o : Read Loaded) (q : Refusal) → loaded.Err q ≡ loadedResult 0 o → o ≡ refused q
 main-err (ok x to rest) q e = absurd (let z : _≡_ {A = ℕ} 0 1 = cc in omega arith)
 main-err (refused p) q e = cc
 
-pub main-stops : (o : Read Loaded) (q : Refusal) {l l′ : Bytes} → loaded.Err q ≡ shownMain 0 o → Answers loadedBytes o l (answer.Err q) l′
+pub main-stops : (o : Read Loaded) (q : Refusal) {l l′ : Bytes} → loaded.Err q ≡ loadedResult 0 o → Answers loadedBytes o l (answer.Err q) l′
 main-stops o q e =
     let is = main-err o q e in
     record { stops = λ p f. let same : q ≡ p = (let both = sym is ∙ f in cc) in ap answer.Err same; puts = λ x to rest f. absurd (never (sym is ∙ f)) }
@@ -53,8 +53,8 @@ main-stops o q e =
 abbrev load : Headed → List Prototype → Reader Loaded
 load headed ps = give (record { headed = headed; functions = ps })
 
-module _ (s : Bytes) (L : ResourceLimits) (h : declared.Header) (w : OptionWarning) (c₁ : Cursor) (e₁ : header-answer.Ok h w c₁ ≡ shownHeader (header 0 (drop 0 s)))
-    (v : ℕ) (c₂ : Cursor) (e₂ : u8.Ok v c₂ ≡ shownU8 (byte (c₁ .at) (drop (c₁ .at) s))) where
+module _ (s : Bytes) (L : ResourceLimits) (h : declared.Header) (w : OptionWarning) (c₁ : Cursor) (e₁ : header-answer.Ok h w c₁ ≡ headerResult (header 0 (drop 0 s)))
+    (v : ℕ) (c₂ : Cursor) (e₂ : u8.Ok v c₂ ≡ u8Result (byte (c₁ .at) (drop (c₁ .at) s))) where
   abbrev functions : Read (List Prototype)
   functions = function L (L .«max_nesting_depth») outermost (c₂ .at) (drop (c₂ .at) s)
 

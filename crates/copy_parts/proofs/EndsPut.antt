@@ -16,7 +16,7 @@ use Rattle.chunk.specs.declared.walk.Walked.{Walked}
 use Rattle.chunk.specs.declared.walk.WalkResult.{WalkResult}
 use Rattle.chunk.specs.declared.walk.WalkResult.the-variants as answer
 use Rattle.prototype.specs.Parts.{Tail, tail}
-use Rattle.prototype.specs.PartsShown.{tailOf, shownTail}
+use Rattle.prototype.specs.PartsShown.{tailOf, tailResult}
 use Rattle.chunk.specs.Walk.{finishedShown}
 use Rattle.chunk.proofs.Functions.{tail-err, tail-ok}
 use Rattle.encode.specs.Put.{Put}
@@ -24,10 +24,10 @@ use Rattle.copy_parts.specs.Parts.{tailBytes}
 use Rattle.copy_parts.specs.Ends.{PutsTail, endShown}
 
 module _ (place : Where) (start : ℕ) (h : declared-head.Head) (nested : Walked) {at : ℕ} {l : Bytes} {len : ℕ} {l′ : Bytes} where
-  pub end-stops : (o : Read Tail) (q : Refusal) (r : WalkResult) → tail-answer.Err q ≡ shownTail o → r ≡ answer.Err q → (r ≡ endShown place start h nested o) × PutsTail o at l len l′
+  pub end-stops : (o : Read Tail) (q : Refusal) (r : WalkResult) → tail-answer.Err q ≡ tailResult o → r ≡ answer.Err q → (r ≡ endShown place start h nested o) × PutsTail o at l len l′
   end-stops o q r e is = (is ∙ sym (ap (endShown place start h nested) (tail-err o q e)), record { put = λ t to rest f. absurd (never (sym (tail-err o q e) ∙ f)) })
 
-  pub end-read : (s : Bytes) (limit from : ℕ) (t : declared-tail.Tail) (c : Cursor) (x : Walked) → tail-answer.Ok t c ≡ shownTail (tail limit from (drop from s)) → x ≡ finishedShown place start h t c nested 0
+  pub end-read : (s : Bytes) (limit from : ℕ) (t : declared-tail.Tail) (c : Cursor) (x : Walked) → tail-answer.Ok t c ≡ tailResult (tail limit from (drop from s)) → x ≡ finishedShown place start h t c nested 0
       → ((from to : ℕ) (v : Tail) (rest : Bytes) → tail limit from (drop from s) ≡ ok v to rest → t ≡ tailOf v → Put (tailBytes v) at l len l′)
       → (answer.Ok x ≡ endShown place start h nested (tail limit from (drop from s))) × PutsTail (tail limit from (drop from s)) at l len l′
   end-read s limit from t c x e is p =

@@ -20,14 +20,14 @@ use Rattle.cursor.specs.declared.Cursor.{Cursor}
 use Rattle.reader.specs.declared.string.OptionString.{OptionString}
 use Rattle.reader.specs.declared.string.StringResult.the-variants as string-answer
 use Rattle.cursor.specs.Shown.{cursorAt}
-use Rattle.reader.specs.Shown.{optionString, shownString}
+use Rattle.reader.specs.Shown.{optionString, stringResult}
 use Rattle.reader.proofs.Shows.{Was, string-err, string-ok}
 use Rattle.lists.specs.declared.constant.ConstantValue as declared
 use Rattle.lists.specs.declared.constant.ConstantResult.the-variants as constant-answer
 use Rattle.lists.specs.declared.debug.AnchorResult.the-variants as anchor-answer
 use Rattle.lists.specs.declared.debug.LocalResult.the-variants as local-answer
 use Rattle.lists.specs.Readers.{RawLocal, rawLocal, named}
-use Rattle.lists.specs.Shown.{constantValue, shownConstant, shownAnchor, shownLocal}
+use Rattle.lists.specs.Shown.{constantValue, constantResult, anchorResult, localResult}
 use Rattle.lists.proofs.Constants.{constant-err, constant-ok}
 use Rattle.lists.proofs.DebugInfo.{local-named, local-refused, anchor-err, anchor-ok}
 use Rattle.encode.specs.Put.{Put, Puts}
@@ -43,19 +43,19 @@ pub string-put : (s : Bytes) (t : Option LuaString) (shown : OptionString) {at :
 string-put s t shown h e p = rw (← spelt-is s t h, ← e) (p (rw e (there-is s t h)))
 
 module _ (s : Bytes) (limit at : ℕ) where
-  pub name-not : {q : Refusal} {w behind next : ℕ} {l l′ : Bytes} → string-answer.Err q ≡ shownString (string limit at (drop at s)) → Puts optionBytes (string limit at (drop at s)) w l next behind l′
+  pub name-not : {q : Refusal} {w behind next : ℕ} {l l′ : Bytes} → string-answer.Err q ≡ stringResult (string limit at (drop at s)) → Puts optionBytes (string limit at (drop at s)) w l next behind l′
   name-not {q} e = puts-not (string-err (string limit at (drop at s)) q e)
 
-  pub name-put : {shown : OptionString} {c : Cursor} {w behind : ℕ} {l l′ : Bytes} → string-answer.Ok shown c ≡ shownString (string limit at (drop at s)) → (There s shown → Put (spelt s shown) w l behind l′)
+  pub name-put : {shown : OptionString} {c : Cursor} {w behind : ℕ} {l l′ : Bytes} → string-answer.Ok shown c ≡ stringResult (string limit at (drop at s)) → (There s shown → Put (spelt s shown) w l behind l′)
       → Puts optionBytes (string limit at (drop at s)) w l (c .at) behind l′
   name-put {shown} {c} e p = let o = string-ok (string limit at (drop at s)) shown c e in puts-of (o .was) (string-put s (o .value) shown (at-string {s = s} {at = at} limit .holds (o .was .is)) (o .shows) p)
 
 -- ## Anchors
 module _ (s : Bytes) (at : ℕ) where
-  pub anchor-not : {q : Refusal} {w behind next : ℕ} {l l′ : Bytes} → anchor-answer.Err q ≡ shownAnchor (anchor at (drop at s)) → Puts anchorBytes (anchor at (drop at s)) w l next behind l′
+  pub anchor-not : {q : Refusal} {w behind next : ℕ} {l l′ : Bytes} → anchor-answer.Err q ≡ anchorResult (anchor at (drop at s)) → Puts anchorBytes (anchor at (drop at s)) w l next behind l′
   anchor-not {q} e = puts-not (anchor-err (anchor at (drop at s)) q e)
 
-  pub anchor-put : {a : AbsLineInfo} {c : Cursor} {w w₁ behind : ℕ} {l l₁ l′ : Bytes} → anchor-answer.Ok a c ≡ shownAnchor (anchor at (drop at s)) → Put (shortest (a .pc)) w l w₁ l₁ → Put (shortest (a .line)) w₁ l₁ behind l′
+  pub anchor-put : {a : AbsLineInfo} {c : Cursor} {w w₁ behind : ℕ} {l l₁ l′ : Bytes} → anchor-answer.Ok a c ≡ anchorResult (anchor at (drop at s)) → Put (shortest (a .pc)) w l w₁ l₁ → Put (shortest (a .line)) w₁ l₁ behind l′
       → Puts anchorBytes (anchor at (drop at s)) w l (c .at) behind l′
   anchor-put {a} {c} e p q = puts-of (anchor-ok (anchor at (drop at s)) a c e) (put-then p q)
 
@@ -67,7 +67,7 @@ record WasLocal (o : Read RawLocal) (name : OptionString) (startpc endpc to : �
   start : startpc ≡ value .startpc
   end : endpc ≡ value .endpc
 
-raw-ok : (o : Read RawLocal) (name : OptionString) (startpc endpc : ℕ) (c : Cursor) → local-answer.Ok name startpc endpc c ≡ shownLocal o → WasLocal o name startpc endpc (c .at)
+raw-ok : (o : Read RawLocal) (name : OptionString) (startpc endpc : ℕ) (c : Cursor) → local-answer.Ok name startpc endpc c ≡ localResult o → WasLocal o name startpc endpc (c .at)
 raw-ok (ok l to rest) name startpc endpc c e =
     let next : c ≡ cursorAt to = cc in
     record { value = l; was = record { rest = rest; is = rw next }; name-shown = cc; start = cc; end = cc }
@@ -78,10 +78,10 @@ parts-put : (s : Bytes) (l : RawLocal) (name : OptionString) (startpc endpc : �
 parts-put s l name startpc endpc stands e f g p q r = rw (← name-is s l stands, ← e, ← f, ← g) (put-then (p (rw e (there-is s (l .name) stands))) (put-then q r))
 
 module _ (s : Bytes) (limit at : ℕ) where
-  pub local-not : {q : Refusal} {w behind next : ℕ} {l l′ : Bytes} → local-answer.Err q ≡ shownLocal (rawLocal limit at (drop at s)) → Puts localBytes (local limit at (drop at s)) w l next behind l′
+  pub local-not : {q : Refusal} {w behind next : ℕ} {l l′ : Bytes} → local-answer.Err q ≡ localResult (rawLocal limit at (drop at s)) → Puts localBytes (local limit at (drop at s)) w l next behind l′
   local-not {q} e = puts-not (local-refused limit at (drop at s) q e)
 
-  pub local-put : {name : OptionString} {startpc endpc : ℕ} {c : Cursor} {w w₁ w₂ behind : ℕ} {l l₁ l₂ l′ : Bytes} → local-answer.Ok name startpc endpc c ≡ shownLocal (rawLocal limit at (drop at s))
+  pub local-put : {name : OptionString} {startpc endpc : ℕ} {c : Cursor} {w w₁ w₂ behind : ℕ} {l l₁ l₂ l′ : Bytes} → local-answer.Ok name startpc endpc c ≡ localResult (rawLocal limit at (drop at s))
       → (There s name → Put (speltName s name) w l w₁ l₁) → Put (shortest startpc) w₁ l₁ w₂ l₂ → Put (shortest endpc) w₂ l₂ behind l′ → Puts localBytes (local limit at (drop at s)) w l (c .at) behind l′
   local-put {name} {startpc} {endpc} {c} e p q r =
       let o = raw-ok (rawLocal limit at (drop at s)) name startpc endpc c e in
@@ -91,10 +91,10 @@ module _ (s : Bytes) (limit at : ℕ) where
 
 -- ## Constants
 module _ (s : Bytes) (limit at : ℕ) where
-  pub constant-not : {q : Refusal} {w behind next : ℕ} {l l′ : Bytes} → constant-answer.Err q ≡ shownConstant (constant limit at (drop at s)) → Puts constantBytes (constant limit at (drop at s)) w l next behind l′
+  pub constant-not : {q : Refusal} {w behind next : ℕ} {l l′ : Bytes} → constant-answer.Err q ≡ constantResult (constant limit at (drop at s)) → Puts constantBytes (constant limit at (drop at s)) w l next behind l′
   constant-not {q} e = puts-not (constant-err (constant limit at (drop at s)) q e)
 
-  pub constant-put : {v : declared.ConstantValue} {c : Cursor} {w behind : ℕ} {l l′ : Bytes} → Below 256 s → constant-answer.Ok v c ≡ shownConstant (constant limit at (drop at s))
+  pub constant-put : {v : declared.ConstantValue} {c : Cursor} {w behind : ℕ} {l l′ : Bytes} → Below 256 s → constant-answer.Ok v c ≡ constantResult (constant limit at (drop at s))
       → (Stood s at (c .at) v → Put (valueBytes s at (c .at) v) w l behind l′) → Puts constantBytes (constant limit at (drop at s)) w l (c .at) behind l′
   constant-put {v} {c} bytes e p =
       let o = constant-ok (constant limit at (drop at s)) v c e in

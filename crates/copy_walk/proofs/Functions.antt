@@ -26,8 +26,8 @@ use Rattle.chunk.specs.declared.walk.Walked.{Walked}
 use Rattle.chunk.specs.declared.walk.WalkResult.{WalkResult}
 use Rattle.chunk.specs.declared.walk.WalkResult.the-variants as answer
 use Rattle.prototype.specs.Parts.{Head, head, Tail, prototypeOf}
-use Rattle.prototype.specs.PartsShown.{headOf, tailOf, shownHead, shownTail}
-use Rattle.chunk.specs.Walk.{shownWhere, shownWalk}
+use Rattle.prototype.specs.PartsShown.{headOf, tailOf, headResult, tailResult}
+use Rattle.chunk.specs.Walk.{shownWhere, walkResult}
 use Rattle.prototype.proofs.On.{taken}
 use Rattle.chunk.proofs.Functions.{walk-err, by-parts, begins, headed, head-on, first, inner, walked, nested-on, ends, tail-refused, function-read}
 use Rattle.encode.specs.Put.{Put}
@@ -41,19 +41,19 @@ use Rattle.copy_walk.proofs.Loops.{PutsForest}
 
 -- what a return with a refusal shows, and what is then asked of the memory
 module _ (named : Bool) (place : Where) (s : Bytes) (o : grammar.Where → Read (List Prototype)) (r : WalkResult) (l : Bytes) (len : ℕ) (l′ : Bytes) (q : Refusal) (is : r ≡ answer.Err q) where
-  pub not-read : ((w : grammar.Where) → place ≡ shownWhere w → answer.Err q ≡ shownWalk 0 w (o w))
-      → ((w : grammar.Where) → place ≡ shownWhere w → r ≡ shownWalk 0 w (o w)) × ((w : grammar.Where) → place ≡ shownWhere w → (named ≡ true → w .source ≡ none) → Below 256 s → PutsFunction named (o w) l len l′)
+  pub not-read : ((w : grammar.Where) → place ≡ shownWhere w → answer.Err q ≡ walkResult 0 w (o w))
+      → ((w : grammar.Where) → place ≡ shownWhere w → r ≡ walkResult 0 w (o w)) × ((w : grammar.Where) → place ≡ shownWhere w → (named ≡ true → w .source ≡ none) → Below 256 s → PutsFunction named (o w) l len l′)
   not-read shows = (λ w p. is ∙ shows w p, λ w p _ _. record { put = λ ps to rest f. absurd (never (sym (walk-err 0 w (o w) q (shows w p)) ∙ f)) })
 
 module _ (s : Bytes) (L : ResourceLimits) (left : ℕ) (place : Where) (w : grammar.Where) (stands : place ≡ shownWhere w) (at : ℕ)
-    (h : declared-head.Head) (c₁ : Cursor) (e₁ : head-answer.Ok h c₁ ≡ shownHead (begins s L left 0 place w stands at))
-    (nested : Walked) (e₂ : answer.Ok nested ≡ shownWalk 0 (first s L left 0 place w stands at h c₁ e₁) (inner s L left 0 place w stands at h c₁ e₁)) where
-  pub end-shows : (r : WalkResult) → r ≡ endShown place at h nested (ends s L left 0 place w stands at h c₁ e₁ nested e₂) → r ≡ shownWalk 0 w (function L left w at (drop at s))
+    (h : declared-head.Head) (c₁ : Cursor) (e₁ : head-answer.Ok h c₁ ≡ headResult (begins s L left 0 place w stands at))
+    (nested : Walked) (e₂ : answer.Ok nested ≡ walkResult 0 (first s L left 0 place w stands at h c₁ e₁) (inner s L left 0 place w stands at h c₁ e₁)) where
+  pub end-shows : (r : WalkResult) → r ≡ endShown place at h nested (ends s L left 0 place w stands at h c₁ e₁ nested e₂) → r ≡ walkResult 0 w (function L left w at (drop at s))
   end-shows r e = e ∙ by (ends s L left 0 place w stands at h c₁ e₁ nested e₂) refl
     where
-      by : (o : Read Tail) → ends s L left 0 place w stands at h c₁ e₁ nested e₂ ≡ o → endShown place at h nested o ≡ shownWalk 0 w (function L left w at (drop at s))
-      by (ok t to rest) f = function-read s L left 0 place w stands at h c₁ e₁ nested e₂ (tailOf t) (cursorAt to) (ap shownTail (sym f))
-      by (refused q) f = tail-refused s L left 0 place w stands at h c₁ e₁ nested e₂ q (ap shownTail (sym f))
+      by : (o : Read Tail) → ends s L left 0 place w stands at h c₁ e₁ nested e₂ ≡ o → endShown place at h nested o ≡ walkResult 0 w (function L left w at (drop at s))
+      by (ok t to rest) f = function-read s L left 0 place w stands at h c₁ e₁ nested e₂ (tailOf t) (cursorAt to) (ap tailResult (sym f))
+      by (refused q) f = tail-refused s L left 0 place w stands at h c₁ e₁ nested e₂ q (ap tailResult (sym f))
 
   abbrev those : List Prototype
   those = walked s L left 0 place w stands at h c₁ e₁ nested e₂ .value

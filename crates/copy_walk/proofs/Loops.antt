@@ -24,7 +24,7 @@ use Rattle.chunk.specs.declared.walk.Where.{Where}
 use Rattle.chunk.specs.declared.walk.Walked.{Walked}
 use Rattle.chunk.specs.declared.walk.WalkResult.{WalkResult}
 use Rattle.chunk.specs.declared.walk.WalkResult.the-variants as answer
-use Rattle.chunk.specs.Walk.{shownWhere, entered, shownWalk, further, againShown, joinedShown}
+use Rattle.chunk.specs.Walk.{shownWhere, entered, walkResult, further, againShown, joinedShown}
 use Rattle.chunk.proofs.Functions.{exact-entered, enters, walkedOf}
 use Rattle.encode.specs.Put.{Put}
 use Rattle.encode.proofs.Writes.{put-nothing, put-then}
@@ -55,7 +55,7 @@ module _ (s : Bytes) (L : ResourceLimits) (first : Where) (n left from at₀ : �
       last more z = rw z (record { put = λ ps to rest e. let none : [] ≡ ps = cc in rw (← none) put-nothing })
 
   module _ (some : 0 < more) (level : 0 < left) (few : walked .number ≤ L .«max_total_prototypes») (o : WalkResult) (at′ : ℕ) (l′ : Bytes)
-      (one : (w : grammar.Where) → againShown first walked ≡ shownWhere w → o ≡ shownWalk 0 w (function L (left - 1) w (walked .next .at) (drop (walked .next .at) s)))
+      (one : (w : grammar.Where) → againShown first walked ≡ shownWhere w → o ≡ walkResult 0 w (function L (left - 1) w (walked .next .at) (drop (walked .next .at) s)))
       (its : (w : grammar.Where) → againShown first walked ≡ shownWhere w → Below 256 s → (ps : List Prototype) (to : ℕ) (rest : Bytes) → function L (left - 1) w (walked .next .at) (drop (walked .next .at) s) ≡ ok ps to rest → Put (functionBytes false ps) at l at′ l′) where
     module _ (later : Walked) (is : o ≡ answer.Ok later) where
       by-turn : (w : grammar.Where) → forest more (entered L left) (further w walked) (walked .next .at) (drop (walked .next .at) s)
@@ -70,7 +70,7 @@ module _ (s : Bytes) (L : ResourceLimits) (first : Where) (n left from at₀ : �
         behind : (qs rs : List Prototype) (mid : ℕ) (t : Bytes) (to : ℕ) (rest : Bytes) → entered L left (further w walked) (walked .next .at) (drop (walked .next .at) s) ≡ ok qs mid t
             → forest (more - 1) (entered L left) (after qs (further w walked)) mid t ≡ ok rs to rest → Put (flatten (foldr nest [] (qs ++ rs))) at l b l″
         behind qs rs mid t to rest e₁ e₂ =
-            let shows : answer.Ok later ≡ shownWalk 0 (further w walked) (ok qs mid t) = sym is ∙ one (further w walked) (ap (λ k. againShown k walked) p) ∙ ap (shownWalk 0 (further w walked)) (read ∙ e₁) in
+            let shows : answer.Ok later ≡ walkResult 0 (further w walked) (ok qs mid t) = sym is ∙ one (further w walked) (ap (λ k. againShown k walked) p) ∙ ap (walkResult 0 (further w walked)) (read ∙ e₁) in
             let all-shown : later ≡ walkedOf 0 (further w walked) qs mid = cc in
             let here : t ≡ drop mid s = lefts.left (exact-entered L left (further w walked)) s (walked .next .at) e₁ in
             let alone = entered-single s bytes L left (further w walked) (walked .next .at) .holds e₁ in

@@ -9,7 +9,7 @@ ghost use Rattle.format.specs.Pick.{pick};
 ghost use Rattle.format.specs.Form.{Below};
 ghost use Rattle.format.specs.GrammarChunk as grammar;
 ghost use Rattle.format.specs.ReadChunk.{function};
-ghost use Rattle.chunk.specs.Walk.{shownWhere, shownWalk};
+ghost use Rattle.chunk.specs.Walk.{shownWhere, walkResult};
 ghost use Rattle.copy_walk.specs.Walk.{PutsFunction};
 use chunk::walk::WalkResult;
 use chunk::walk::Walked;
@@ -48,7 +48,7 @@ pub fn copy_function(
     out: &mut [u8],
 ) -> Copied
     requires { ⌜ (limits .«max_total_prototypes» ≤ 16777216) × (limits .«max_total_instructions» ≤ 16777216) × (place .number ≤ 16777216) × (place .depth + left ≤ 200) ⌝ }
-    ensures { λ r. ⌜ ((w : grammar.Where) → place ≡ shownWhere w → r .walk ≡ shownWalk 0 w (function limits left w (cursor .at) (drop (cursor .at) (now (s .entry))))) ⌝ }
+    ensures { λ r. ⌜ ((w : grammar.Where) → place ≡ shownWhere w → r .walk ≡ walkResult 0 w (function limits left w (cursor .at) (drop (cursor .at) (now (s .entry))))) ⌝ }
     ensures { λ r. ⌜ ((w : grammar.Where) → place ≡ shownWhere w → (named ≡ true → w .source ≡ none) → Below 256 (now (s .entry)) → PutsFunction named (function limits left w (cursor .at) (drop (cursor .at) (now (s .entry)))) (now (out .entry)) (r .len) (now (out .exit))) ⌝ }
 {
     let begins = read_head(s, limits, place.instructions, cursor);

@@ -18,13 +18,13 @@ use Rattle.cursor.specs.declared.Cursor.{Cursor}
 use Rattle.cursor.specs.declared.CursorResult.{CursorResult}
 use Rattle.reader.specs.declared.field.U64Result.{U64Result}
 use Rattle.reader.specs.declared.field.U64Result.the-variants as u64
-use Rattle.cursor.specs.Shown.{cursorAt, shownCursor}
-use Rattle.reader.specs.Shown.{shownU64}
+use Rattle.cursor.specs.Shown.{cursorAt, cursorResult}
+use Rattle.reader.specs.Shown.{u64Result}
 use Rattle.reader.proofs.Shows.{Was, onward, u64-err, u64-ok}
 use Rattle.counted.specs.declared.ListResult.{ListResult}
 use Rattle.counted.specs.declared.ListResult.the-variants as list
 use Rattle.lists.specs.Readers.{countUpTo, codeCount, code, Count, protosCount}
-use Rattle.counted.specs.Shown.{listedOf, shownList, shownCount}
+use Rattle.counted.specs.Shown.{listedOf, listResult, countResult}
 use Rattle.counted.proofs.Listing.{CountUpTo, exact-countUpTo, many-sized, behindCount, count-refused, count-read, tested-then}
 
 -- ## Instructions
@@ -35,17 +35,17 @@ module _ (per-proto before total : ℕ) (s : Bytes) (at : ℕ) where
   abbrev within : Read ℕ
   within = codeCount per-proto before total at (drop at s)
 
-  pub size-refused : {z : U64Result} {q : Refusal} → z ≡ u64.Err q → z ≡ shownU64 counted → z ≡ shownU64 within
+  pub size-refused : {z : U64Result} {q : Refusal} → z ≡ u64.Err q → z ≡ u64Result counted → z ≡ u64Result within
   size-refused {q} told e = rw (u64-err counted q (sym told ∙ e)) told
 
-  module _ {z : U64Result} {v : ℕ} {c : Cursor} (told : z ≡ u64.Ok v c) (e : z ≡ shownU64 counted) where
+  module _ {z : U64Result} {v : ℕ} {c : Cursor} (told : z ≡ u64.Ok v c) (e : z ≡ u64Result counted) where
     tested : within ≡ (atMost (before + v) total (TotalInstructions at) >> give v) (c .at) (drop (c .at) s)
     tested = rw (onward (exact-countUpTo per-proto (Instructions at)) s at (u64-ok counted v c (sym told ∙ e)))
 
-    pub too-many : total < before + v → u64.Err (TotalInstructions at) ≡ shownU64 within
+    pub too-many : total < before + v → u64.Err (TotalInstructions at) ≡ u64Result within
     too-many h = rw (tested, lt-leb (before + v) total h)
 
-    pub few-enough : before + v ≤ total → u64.Ok v c ≡ shownU64 within
+    pub few-enough : before + v ≤ total → u64.Ok v c ≡ u64Result within
     few-enough h = rw (tested, le-leb (before + v) total h)
 
   -- the words, behind their count
@@ -67,11 +67,11 @@ module _ (per-proto before total : ℕ) (s : Bytes) (at : ℕ) where
       exact-then (exact-atMost (before + n) total (TotalInstructions first)) λ _.
       exact-give n
 
-  pub code-refused : {z : U64Result} {q : Refusal} → z ≡ u64.Err q → z ≡ shownU64 within → list.Err q ≡ shownList (code per-proto before total at (drop at s))
+  pub code-refused : {z : U64Result} {q : Refusal} → z ≡ u64.Err q → z ≡ u64Result within → list.Err q ≡ listResult (code per-proto before total at (drop at s))
   code-refused told e = rw code-is (count-refused exact-codeCount (many-sized (exact-field 4)) s at told e)
 
-  pub code-read : {z : U64Result} {v : ℕ} {c : Cursor} → z ≡ u64.Ok v c → z ≡ shownU64 within → {x : CursorResult} {y : ListResult} → x ≡ shownCursor (many v (field 4) (c .at) (drop (c .at) s)) → y ≡ listedOf x v (c .at)
-      → y ≡ shownList (code per-proto before total at (drop at s))
+  pub code-read : {z : U64Result} {v : ℕ} {c : Cursor} → z ≡ u64.Ok v c → z ≡ u64Result within → {x : CursorResult} {y : ListResult} → x ≡ cursorResult (many v (field 4) (c .at) (drop (c .at) s)) → y ≡ listedOf x v (c .at)
+      → y ≡ listResult (code per-proto before total at (drop at s))
   code-read told e p q = rw code-is (count-read exact-codeCount (many-sized (exact-field 4)) s at told e p q)
 
 -- ## Nested functions
@@ -82,23 +82,23 @@ countOf (u64.Err q) = list.Err q
 abbrev placed : ℕ → Reader Count
 placed n = here >>= λ place. give (record { count = n; place = place })
 
-count-shown : (o : Read ℕ) → countOf (shownU64 o) ≡ shownCount (next o placed)
+count-shown : (o : Read ℕ) → countOf (u64Result o) ≡ countResult (next o placed)
 count-shown (ok n to rest) = refl
 count-shown (refused q) = refl
 
 module _ (limit : ℕ) (s : Bytes) (at : ℕ) where
-  pub protos-shown : {z y : U64Result} → z ≡ y → z ≡ shownU64 (countUpTo limit (Prototypes at) at (drop at s)) → countOf y ≡ shownCount (protosCount limit at (drop at s))
+  pub protos-shown : {z y : U64Result} → z ≡ y → z ≡ u64Result (countUpTo limit (Prototypes at) at (drop at s)) → countOf y ≡ countResult (protosCount limit at (drop at s))
   protos-shown told e =
       ap countOf (sym told ∙ e)
       ∙ count-shown (countUpTo limit (Prototypes at) at (drop at s))
-      ∙ sym (ap shownCount (tested-then (λ n. leb n limit) (Prototypes at) placed (number at (drop at s))))
+      ∙ sym (ap countResult (tested-then (λ n. leb n limit) (Prototypes at) placed (number at (drop at s))))
 
 -- ## From what was shown back to what was read
-pub count-err : (o : Read Count) (q : Refusal) → list.Err q ≡ shownCount o → o ≡ refused q
+pub count-err : (o : Read Count) (q : Refusal) → list.Err q ≡ countResult o → o ≡ refused q
 count-err (ok n to rest) q e = absurd (let z : _≡_ {A = ℕ} 0 1 = cc in omega arith)
 count-err (refused p) q e = cc
 
-pub count-ok : (o : Read Count) (count place : ℕ) (c : Cursor) → list.Ok count place c ≡ shownCount o → Was o (record { count = count; place = place }) (c .at)
+pub count-ok : (o : Read Count) (count place : ℕ) (c : Cursor) → list.Ok count place c ≡ countResult o → Was o (record { count = count; place = place }) (c .at)
 count-ok (ok n to rest) count place c e =
     let many : count ≡ n .count = cc in
     let first : place ≡ n .place = cc in

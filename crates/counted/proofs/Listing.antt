@@ -27,13 +27,13 @@ use Rattle.cursor.specs.declared.Cursor.{Cursor}
 use Rattle.cursor.specs.declared.CursorResult.{CursorResult}
 use Rattle.reader.specs.declared.field.U64Result.{U64Result}
 use Rattle.reader.specs.declared.field.U64Result.the-variants as u64
-use Rattle.cursor.specs.Shown.{cursorAt, shownCursor}
-use Rattle.reader.specs.Shown.{shownU64}
+use Rattle.cursor.specs.Shown.{cursorAt, cursorResult}
+use Rattle.reader.specs.Shown.{u64Result}
 use Rattle.reader.proofs.Shows.{Was, onward, u64-err, u64-ok}
 use Rattle.counted.specs.declared.ListResult.{ListResult}
 use Rattle.counted.specs.declared.ListResult.the-variants as list
 use Rattle.lists.specs.Readers.{countUpTo}
-use Rattle.counted.specs.Shown.{listedOf, shownList}
+use Rattle.counted.specs.Shown.{listedOf, listResult}
 
 -- ## How many items are read
 pub record Sized {A : Type 0} (r : Reader (List A)) (n : ℕ) : Type 0 where
@@ -50,17 +50,17 @@ abbrev pub behindCount : {A : Type 0} → (ℕ → Reader (List A)) → ℕ → 
 behindCount r n = here >>= λ place. r n >>= λ items. give (record { place = place; items = items })
 
 listed-shown : {A : Type 0} (n place : ℕ) (o : Read (List A)) → ((xs : List A) (to : ℕ) (rest : Bytes) → o ≡ ok xs to rest → length xs ≡ n)
-    → listedOf (shownCursor o) n place ≡ shownList (next o (λ items. give (record { place = place; items = items })))
+    → listedOf (cursorResult o) n place ≡ listResult (next o (λ items. give (record { place = place; items = items })))
 listed-shown n place (ok xs to rest) size = rw (size xs to rest refl)
 listed-shown n place (refused q) size = refl
 
 module _ {A : Type 0} {count : Reader ℕ} {F : Form ℕ} (exact : Exact count F) {r : ℕ → Reader (List A)} (sized : (n : ℕ) → Sized (r n) n) (s : Bytes) (at : ℕ) where
-  pub count-refused : {z : U64Result} {q : Refusal} → z ≡ u64.Err q → z ≡ shownU64 (count at (drop at s)) → list.Err q ≡ shownList ((count >>= behindCount r) at (drop at s))
+  pub count-refused : {z : U64Result} {q : Refusal} → z ≡ u64.Err q → z ≡ u64Result (count at (drop at s)) → list.Err q ≡ listResult ((count >>= behindCount r) at (drop at s))
   count-refused {q} told e = rw (u64-err (count at (drop at s)) q (sym told ∙ e))
 
   -- x is what passing over the items showed
-  pub count-read : {z : U64Result} {v : ℕ} {c : Cursor} → z ≡ u64.Ok v c → z ≡ shownU64 (count at (drop at s)) → {x : CursorResult} {y : ListResult} → x ≡ shownCursor (r v (c .at) (drop (c .at) s)) → y ≡ listedOf x v (c .at)
-      → y ≡ shownList ((count >>= behindCount r) at (drop at s))
+  pub count-read : {z : U64Result} {v : ℕ} {c : Cursor} → z ≡ u64.Ok v c → z ≡ u64Result (count at (drop at s)) → {x : CursorResult} {y : ListResult} → x ≡ cursorResult (r v (c .at) (drop (c .at) s)) → y ≡ listedOf x v (c .at)
+      → y ≡ listResult ((count >>= behindCount r) at (drop at s))
   count-read {v} {c} told e p q =
       rw (onward exact s at (u64-ok (count at (drop at s)) v c (sym told ∙ e)), q, p)
       (listed-shown v (c .at) (r v (c .at) (drop (c .at) s)) (λ xs to rest d. sized v .size (c .at) (drop (c .at) s) d))
@@ -73,17 +73,17 @@ pub exact-countUpTo : (limit : ℕ) (refusal : Refusal) → Exact (countUpTo lim
 exact-countUpTo limit refusal = exact-then exact-number λ n. exact-then (exact-atMost n limit refusal) λ _. exact-give n
 
 module _ (limit : ℕ) (refusal : Refusal) (s : Bytes) (at : ℕ) where
-  pub limit-refused : {z : U64Result} {q : Refusal} → z ≡ u64.Err q → z ≡ shownU64 (number at (drop at s)) → z ≡ shownU64 (countUpTo limit refusal at (drop at s))
+  pub limit-refused : {z : U64Result} {q : Refusal} → z ≡ u64.Err q → z ≡ u64Result (number at (drop at s)) → z ≡ u64Result (countUpTo limit refusal at (drop at s))
   limit-refused {q} told e = rw (u64-err (number at (drop at s)) q (sym told ∙ e)) told
 
-  module _ {z : U64Result} {v : ℕ} {c : Cursor} (told : z ≡ u64.Ok v c) (e : z ≡ shownU64 (number at (drop at s))) where
+  module _ {z : U64Result} {v : ℕ} {c : Cursor} (told : z ≡ u64.Ok v c) (e : z ≡ u64Result (number at (drop at s))) where
     tested : countUpTo limit refusal at (drop at s) ≡ (atMost v limit refusal >> give v) (c .at) (drop (c .at) s)
     tested = rw (onward exact-number s at (u64-ok (number at (drop at s)) v c (sym told ∙ e)))
 
-    pub above-limit : limit < v → u64.Err refusal ≡ shownU64 (countUpTo limit refusal at (drop at s))
+    pub above-limit : limit < v → u64.Err refusal ≡ u64Result (countUpTo limit refusal at (drop at s))
     above-limit h = rw (tested, lt-leb v limit h)
 
-    pub within-limit : v ≤ limit → u64.Ok v c ≡ shownU64 (countUpTo limit refusal at (drop at s))
+    pub within-limit : v ≤ limit → u64.Ok v c ≡ u64Result (countUpTo limit refusal at (drop at s))
     within-limit h = rw (tested, le-leb v limit h)
 
 -- what follows a test, with what was tested handed on
@@ -99,15 +99,15 @@ module _ {A : Type 0} {F : Form A} (limit : ℕ) (refusal : ℕ → Refusal) {r 
   up-to : countedUpTo limit refusal r at (drop at s) ≡ (countUpTo limit (refusal at) >>= behindCount (λ n. many n r)) at (drop at s)
   up-to = tested-then (λ n. leb n limit) (refusal at) (behindCount (λ n. many n r)) (number at (drop at s))
 
-  pub up-to-refused : {z : U64Result} {q : Refusal} → z ≡ u64.Err q → z ≡ shownU64 (countUpTo limit (refusal at) at (drop at s)) → list.Err q ≡ shownList (countedUpTo limit refusal r at (drop at s))
+  pub up-to-refused : {z : U64Result} {q : Refusal} → z ≡ u64.Err q → z ≡ u64Result (countUpTo limit (refusal at) at (drop at s)) → list.Err q ≡ listResult (countedUpTo limit refusal r at (drop at s))
   up-to-refused told e = rw up-to (count-refused (exact-countUpTo limit (refusal at)) (many-sized exact) s at told e)
 
-  pub up-to-read : {z : U64Result} {v : ℕ} {c : Cursor} → z ≡ u64.Ok v c → z ≡ shownU64 (countUpTo limit (refusal at) at (drop at s)) → {x : CursorResult} {y : ListResult} → x ≡ shownCursor (many v r (c .at) (drop (c .at) s)) → y ≡ listedOf x v (c .at)
-      → y ≡ shownList (countedUpTo limit refusal r at (drop at s))
+  pub up-to-read : {z : U64Result} {v : ℕ} {c : Cursor} → z ≡ u64.Ok v c → z ≡ u64Result (countUpTo limit (refusal at) at (drop at s)) → {x : CursorResult} {y : ListResult} → x ≡ cursorResult (many v r (c .at) (drop (c .at) s)) → y ≡ listedOf x v (c .at)
+      → y ≡ listResult (countedUpTo limit refusal r at (drop at s))
   up-to-read told e p q = rw up-to (count-read (exact-countUpTo limit (refusal at)) (many-sized exact) s at told e p q)
 
 -- ## From what was shown back to what was read
-pub list-err : {A : Type 0} (o : Read (Listed A)) (q : Refusal) → list.Err q ≡ shownList o → o ≡ refused q
+pub list-err : {A : Type 0} (o : Read (Listed A)) (q : Refusal) → list.Err q ≡ listResult o → o ≡ refused q
 list-err (ok l to rest) q e = absurd (let z : _≡_ {A = ℕ} 0 1 = cc in omega arith)
 list-err (refused p) q e = cc
 
@@ -117,7 +117,7 @@ pub record WasList {A : Type 0} (o : Read (Listed A)) (count place to : ℕ) : T
   pub counted : count ≡ length (value .items)
   pub placed : place ≡ value .place
 
-pub list-ok : {A : Type 0} (o : Read (Listed A)) (count place : ℕ) (c : Cursor) → list.Ok count place c ≡ shownList o → WasList o count place (c .at)
+pub list-ok : {A : Type 0} (o : Read (Listed A)) (count place : ℕ) (c : Cursor) → list.Ok count place c ≡ listResult o → WasList o count place (c .at)
 list-ok (ok l to rest) count place c e =
     let next : c ≡ cursorAt to = cc in
     record { value = l; was = record { rest = rest; is = rw next }; counted = cc; placed = cc }

@@ -15,10 +15,10 @@ abbrev pub listedOf : CursorResult → ℕ → ℕ → ListResult
 listedOf (cursor.Ok c) count place = list.Ok count place c
 listedOf (cursor.Err q) count place = list.Err q
 
-abbrev pub shownList : {A : Type 0} → Read (Listed A) → ListResult
-shownList (ok l to rest) = list.Ok (length (l .items)) (l .place) (cursorAt to)
-shownList (refused q) = list.Err q
+abbrev pub listResult : {A : Type 0} → Read (Listed A) → ListResult
+listResult (ok l to rest) = list.Ok (length (l .items)) (l .place) (cursorAt to)
+listResult (refused q) = list.Err q
 
-abbrev pub shownCount : Read Count → ListResult
-shownCount (ok c to rest) = list.Ok (c .count) (c .place) (cursorAt to)
-shownCount (refused q) = list.Err q
+abbrev pub countResult : Read Count → ListResult
+countResult (ok c to rest) = list.Ok (c .count) (c .place) (cursorAt to)
+countResult (refused q) = list.Err q

@@ -4,9 +4,9 @@ ghost use lib.ListN.{drop};
 ghost use Rattle.format.specs.declared.refusal.Refusal.the-variants.{Constants, Upvalues};
 ghost use Rattle.format.specs.ReadFields.{string};
 ghost use Rattle.format.specs.ReadChunk as spec;
-ghost use Rattle.reader.specs.Shown.{shownU64};
+ghost use Rattle.reader.specs.Shown.{u64Result};
 ghost use Rattle.lists.specs.Readers.{countUpTo, codeCount, code, lineInfo, protosCount};
-ghost use Rattle.counted.specs.Shown.{listedOf, shownList, shownCount};
+ghost use Rattle.counted.specs.Shown.{listedOf, listResult, countResult};
 use cursor::Cursor;
 use cursor::CursorResult;
 use cursor::read_exact;
@@ -45,7 +45,7 @@ fn listed(items: CursorResult, count: usize, place: usize) -> ListResult
 
 // A count that is at most the limit, or the refusal.
 fn count_up_to(s: &[u8], cursor: Cursor, limit: usize, refusal: Refusal) -> U64Result
-    ensures { λ r. ⌜ r ≡ shownU64 (countUpTo limit refusal (cursor .at) (drop (cursor .at) (now (s .entry)))) ⌝ }
+    ensures { λ r. ⌜ r ≡ u64Result (countUpTo limit refusal (cursor .at) (drop (cursor .at) (now (s .entry)))) ⌝ }
 {
     let read = read_varint_lua54(s, cursor);
     let U64Result::Ok { value, next: _ } = read else {
@@ -64,7 +64,7 @@ pub fn constants_list(
     max_constants: usize,
     max_string_bytes: usize,
 ) -> ListResult
-    ensures { λ r. ⌜ r ≡ shownList (spec.countedUpTo «max_constants» Constants (spec.constant «max_string_bytes») (cursor .at) (drop (cursor .at) (now (s .entry)))) ⌝ }
+    ensures { λ r. ⌜ r ≡ listResult (spec.countedUpTo «max_constants» Constants (spec.constant «max_string_bytes») (cursor .at) (drop (cursor .at) (now (s .entry)))) ⌝ }
 {
     let read = count_up_to(s, cursor, max_constants, Refusal::Constants(cursor.at));
     match read {
@@ -82,7 +82,7 @@ pub fn constants_list(
 
 // Ruled out: the place of the count given as that of the items, one byte an upvalue.
 pub fn upvalues_list(s: &[u8], cursor: Cursor, max_upvalues: usize) -> ListResult
-    ensures { λ r. ⌜ r ≡ shownList (spec.countedUpTo «max_upvalues» Upvalues spec.upvalue (cursor .at) (drop (cursor .at) (now (s .entry)))) ⌝ }
+    ensures { λ r. ⌜ r ≡ listResult (spec.countedUpTo «max_upvalues» Upvalues spec.upvalue (cursor .at) (drop (cursor .at) (now (s .entry)))) ⌝ }
 {
     let read = count_up_to(s, cursor, max_upvalues, Refusal::Upvalues(cursor.at));
     match read {
@@ -96,7 +96,7 @@ pub fn upvalues_list(s: &[u8], cursor: Cursor, max_upvalues: usize) -> ListResul
 
 // The deltas. Ruled out: place plus size that wraps, the refusal at the place of the count.
 pub fn line_info_list(s: &[u8], cursor: Cursor) -> ListResult
-    ensures { λ r. ⌜ r ≡ shownList (lineInfo (cursor .at) (drop (cursor .at) (now (s .entry)))) ⌝ }
+    ensures { λ r. ⌜ r ≡ listResult (lineInfo (cursor .at) (drop (cursor .at) (now (s .entry)))) ⌝ }
 {
     let read = read_varint_lua54(s, cursor);
     match read {
@@ -110,7 +110,7 @@ pub fn line_info_list(s: &[u8], cursor: Cursor) -> ListResult
 
 // Ruled out: a limit on anchors, the count of numbers given as that of anchors.
 pub fn anchors_list(s: &[u8], cursor: Cursor) -> ListResult
-    ensures { λ r. ⌜ r ≡ shownList (spec.counted spec.anchor (cursor .at) (drop (cursor .at) (now (s .entry)))) ⌝ }
+    ensures { λ r. ⌜ r ≡ listResult (spec.counted spec.anchor (cursor .at) (drop (cursor .at) (now (s .entry)))) ⌝ }
 {
     let read = read_varint_lua54(s, cursor);
     match read {
@@ -124,7 +124,7 @@ pub fn anchors_list(s: &[u8], cursor: Cursor) -> ListResult
 
 // Ruled out: a list that ends at an absent name, the cursor behind the last name.
 pub fn locals_list(s: &[u8], cursor: Cursor, max_string_bytes: usize) -> ListResult
-    ensures { λ r. ⌜ r ≡ shownList (spec.counted (spec.local «max_string_bytes») (cursor .at) (drop (cursor .at) (now (s .entry)))) ⌝ }
+    ensures { λ r. ⌜ r ≡ listResult (spec.counted (spec.local «max_string_bytes») (cursor .at) (drop (cursor .at) (now (s .entry)))) ⌝ }
 {
     let read = read_varint_lua54(s, cursor);
     match read {
@@ -142,7 +142,7 @@ pub fn locals_list(s: &[u8], cursor: Cursor, max_string_bytes: usize) -> ListRes
 
 // The upvalue names. Ruled out: absent names not counted, more names than upvalues refused.
 pub fn names_list(s: &[u8], cursor: Cursor, max_string_bytes: usize) -> ListResult
-    ensures { λ r. ⌜ r ≡ shownList (spec.counted (string «max_string_bytes») (cursor .at) (drop (cursor .at) (now (s .entry)))) ⌝ }
+    ensures { λ r. ⌜ r ≡ listResult (spec.counted (string «max_string_bytes») (cursor .at) (drop (cursor .at) (now (s .entry)))) ⌝ }
 {
     let read = read_varint_lua54(s, cursor);
     match read {
@@ -166,7 +166,7 @@ fn instruction_count(
     instructions_before: usize,
     max_total_instructions: usize,
 ) -> U64Result
-    ensures { λ r. ⌜ r ≡ shownU64 (codeCount «max_instructions_per_proto» «instructions_before» «max_total_instructions» (cursor .at) (drop (cursor .at) (now (s .entry)))) ⌝ }
+    ensures { λ r. ⌜ r ≡ u64Result (codeCount «max_instructions_per_proto» «instructions_before» «max_total_instructions» (cursor .at) (drop (cursor .at) (now (s .entry)))) ⌝ }
 {
     let first = cursor.at;
     let refusal = Refusal::Instructions(first);
@@ -191,7 +191,7 @@ pub fn instructions_list(
     instructions_before: usize,
     max_total_instructions: usize,
 ) -> ListResult
-    ensures { λ r. ⌜ r ≡ shownList (code «max_instructions_per_proto» «instructions_before» «max_total_instructions» (cursor .at) (drop (cursor .at) (now (s .entry)))) ⌝ }
+    ensures { λ r. ⌜ r ≡ listResult (code «max_instructions_per_proto» «instructions_before» «max_total_instructions» (cursor .at) (drop (cursor .at) (now (s .entry)))) ⌝ }
 {
     let read = instruction_count(
         s,
@@ -211,7 +211,7 @@ pub fn instructions_list(
 
 // How many functions nest in this one. Ruled out: a count above the limit accepted, the place behind the count as that of its refusal.
 pub fn protos_count(s: &[u8], cursor: Cursor, max_total_prototypes: usize) -> ListResult
-    ensures { λ r. ⌜ r ≡ shownCount (protosCount «max_total_prototypes» (cursor .at) (drop (cursor .at) (now (s .entry)))) ⌝ }
+    ensures { λ r. ⌜ r ≡ countResult (protosCount «max_total_prototypes» (cursor .at) (drop (cursor .at) (now (s .entry)))) ⌝ }
 {
     let refusal = Refusal::Prototypes(cursor.at);
     let read = count_up_to(s, cursor, max_total_prototypes, refusal);

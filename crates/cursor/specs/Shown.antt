@@ -8,9 +8,9 @@ use Rattle.cursor.specs.declared.CursorResult.the-variants as cursor
 abbrev pub cursorAt : ℕ → Cursor
 cursorAt at = record { at = at }
 
-abbrev pub shownCursor : {A : Type 0} → Read A → CursorResult
-shownCursor (ok x to rest) = cursor.Ok (cursorAt to)
-shownCursor (refused q) = cursor.Err q
+abbrev pub cursorResult : {A : Type 0} → Read A → CursorResult
+cursorResult (ok x to rest) = cursor.Ok (cursorAt to)
+cursorResult (refused q) = cursor.Err q
 
 -- what follows a call that showed this: nothing behind a refusal
 abbrev pub andThen : CursorResult → (ℕ → CursorResult) → CursorResult

@@ -2,7 +2,7 @@
 ghost use mathlib.Core.Path.{_≡_};
 ghost use lib.ListN.{length, drop};
 ghost use Rattle.format.specs.Read as read;
-ghost use Rattle.cursor.specs.Shown.{shownCursor};
+ghost use Rattle.cursor.specs.Shown.{cursorResult};
 use format::refusal::Refusal;
 
 // A place in a file: the Rust's `SafeReader` without the file, the limits and the counts.
@@ -37,7 +37,7 @@ pub fn short(n: usize, at: usize) -> Refusal
 
 // Passes over n bytes. Ruled out: a run that ends behind the file, 1 where 2 holds.
 pub fn read_exact(s: &[u8], cursor: Cursor, n: usize) -> CursorResult
-    ensures { λ r. ⌜ r ≡ shownCursor (read.run n (cursor .at) (drop (cursor .at) (now (s .entry)))) ⌝ }
+    ensures { λ r. ⌜ r ≡ cursorResult (read.run n (cursor .at) (drop (cursor .at) (now (s .entry)))) ⌝ }
 {
     let at = cursor.at;
     if remaining(s, cursor) < n {

@@ -32,7 +32,7 @@ use Rattle.chunk.specs.Walk.{shownWhere, entered}
 use Rattle.chunk.proofs.Functions.{by-parts}
 use Rattle.decode.specs.declared.summary.Decoded.{Decoded}
 use Rattle.decode.specs.declared.summary.DecodedResult.the-variants as decoded
-use Rattle.decode.specs.Decoded.{listOf, shownOutcome, shownReading}
+use Rattle.decode.specs.Decoded.{listOf, decodedResult, shownReading}
 use Rattle.decode.proofs.Summaries.{every-main}
 
 -- what the first pass showed is of a reading
@@ -41,7 +41,7 @@ pub record WasShown (o : Outcome) (d : Decoded) : Type 0 where
   pub is : o ≡ shown value
   pub shows : d ≡ shownReading 0 value
 
-pub was-shown : (o : Outcome) (d : Decoded) → decoded.Ok d ≡ shownOutcome 0 o → WasShown o d
+pub was-shown : (o : Outcome) (d : Decoded) → decoded.Ok d ≡ decodedResult 0 o → WasShown o d
 was-shown (shown r) d e = record { value = r; is = refl; shows = cc }
 was-shown (refusal q) d e = absurd (let z : _≡_ {A = ℕ} 0 1 = cc in omega arith)
 

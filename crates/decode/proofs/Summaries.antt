@@ -32,8 +32,8 @@ use Rattle.decode.specs.declared.LoadedResult.{LoadedResult}
 use Rattle.decode.specs.declared.LoadedResult.the-variants as loaded
 use Rattle.decode.specs.declared.summary.DecodedResult.{DecodedResult}
 use Rattle.decode.specs.declared.summary.DecodedResult.the-variants as answer
-use Rattle.decode.specs.Loaded.{shownMain}
-use Rattle.decode.specs.Decoded.{listOf, shownWarnings, shownOutcome, decodedShown}
+use Rattle.decode.specs.Loaded.{loadedResult}
+use Rattle.decode.specs.Decoded.{listOf, shownWarnings, decodedResult, decodedShown}
 
 -- ## Warnings
 take-none : (n : ℕ) → take {A = Warning} n [] ≡ []
@@ -79,7 +79,7 @@ andSummary s limit (loaded.Ok l) = answer.Ok (decodedShown s limit l)
 andSummary s limit (loaded.Err q) = answer.Err q
 
 module _ (s : Bytes) (L : ResourceLimits) (wanted : ℕ) where
-  of-main : (o : Read grammar.Loaded) → main L 0 s ≡ o → shownOutcome wanted (outcome L o) ≡ andSummary s (L .«max_diagnostics») (shownMain wanted o)
+  of-main : (o : Read grammar.Loaded) → main L 0 s ≡ o → decodedResult wanted (outcome L o) ≡ andSummary s (L .«max_diagnostics») (loadedResult wanted o)
   of-main (refused q) e = refl
   of-main (ok m to rest) e =
       let split = exact-main L .sound {at = 0} {s = s} e in
@@ -96,20 +96,20 @@ module _ (s : Bytes) (L : ResourceLimits) (wanted : ℕ) where
         row = shownRow (lookup wanted 0 (m .functions));
       })
 
-  pub above : withinCeilings L ≡ false → answer.Err LimitAboveCeiling ≡ shownOutcome wanted (read L s)
+  pub above : withinCeilings L ≡ false → answer.Err LimitAboveCeiling ≡ decodedResult wanted (read L s)
   unfolding read
   above e = rw e
 
   module _ (within : withinCeilings L ≡ true) where
-    pub too-long : L .«max_input_bytes» < length s → answer.Err InputBytes ≡ shownOutcome wanted (read L s)
+    pub too-long : L .«max_input_bytes» < length s → answer.Err InputBytes ≡ decodedResult wanted (read L s)
     unfolding read
     too-long h = rw (within, lt-leb _ _ h)
 
-    pub by-main : length s ≤ L .«max_input_bytes» → shownOutcome wanted (read L s) ≡ andSummary s (L .«max_diagnostics») (shownMain wanted (main L 0 s))
+    pub by-main : length s ≤ L .«max_input_bytes» → decodedResult wanted (read L s) ≡ andSummary s (L .«max_diagnostics») (loadedResult wanted (main L 0 s))
     unfolding read
     by-main h = judged (withinCeilings L) (leb (length s) (L .«max_input_bytes»)) within (le-leb _ _ h) ∙ of-main (main L 0 s) refl
       where
-        judged : (a b : Bool) → a ≡ true → b ≡ true → shownOutcome wanted (pick a (pick b (outcome L (main L 0 s)) (refusal InputBytes)) (refusal LimitAboveCeiling)) ≡ shownOutcome wanted (outcome L (main L 0 s))
+        judged : (a b : Bool) → a ≡ true → b ≡ true → decodedResult wanted (pick a (pick b (outcome L (main L 0 s)) (refusal InputBytes)) (refusal LimitAboveCeiling)) ≡ decodedResult wanted (outcome L (main L 0 s))
         judged a b p q = rw (p, q)
 
 -- ## The ceilings

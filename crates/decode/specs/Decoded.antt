@@ -33,9 +33,9 @@ shownReading wanted r = record {
   row = shownRow (lookup wanted 0 (r .functions));
 }
 
-abbrev pub shownOutcome : ℕ → Outcome → DecodedResult
-shownOutcome wanted (shown r) = answer.Ok (shownReading wanted r)
-shownOutcome wanted (refusal q) = answer.Err q
+abbrev pub decodedResult : ℕ → Outcome → DecodedResult
+decodedResult wanted (shown r) = answer.Ok (shownReading wanted r)
+decodedResult wanted (refusal q) = answer.Err q
 
 -- ## The same of the code's values
 abbrev pub listOf : OptionWarning → List Warning

@@ -11,12 +11,12 @@ use Rattle.decode.specs.declared.LoadedResult.{LoadedResult}
 use Rattle.decode.specs.declared.LoadedResult.the-variants as answer
 
 -- up to the trailing bytes; `wanted` is the number of the function whose row is shown
-abbrev pub shownMain : ℕ → Read grammar.Loaded → LoadedResult
-shownMain wanted (ok m to rest) = answer.Ok (record {
+abbrev pub loadedResult : ℕ → Read grammar.Loaded → LoadedResult
+loadedResult wanted (ok m to rest) = answer.Ok (record {
   header = m .headed .header;
   warning = firstWarning (m .headed .warnings);
   next = cursorAt to;
   functions = length (m .functions);
   row = shownRow (lookup wanted 0 (m .functions));
 })
-shownMain wanted (refused q) = answer.Err q
+loadedResult wanted (refused q) = answer.Err q

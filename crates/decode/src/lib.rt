@@ -5,7 +5,7 @@ ghost use mathlib.Core.Path.{_≡_};
 ghost use Prim.Native.Nat.{_≤_};
 ghost use Rattle.format.specs.ReadChunk.{main};
 ghost use Rattle.reader.specs.declared.string.OptionString.the-variants as string;
-ghost use Rattle.decode.specs.Loaded.{shownMain};
+ghost use Rattle.decode.specs.Loaded.{loadedResult};
 use chunk::walk::WalkResult;
 use chunk::walk::Walked;
 use chunk::walk::Where;
@@ -52,7 +52,7 @@ pub fn outermost() -> Where
 // The header, the byte behind it, and main with all that nest in it. Ruled out: a count of functions without main, a warning that is lost.
 pub fn read_main(s: &[u8], limits: ResourceLimits, wanted: usize) -> LoadedResult
     requires { ⌜ (limits .«max_nesting_depth» ≤ 200) × (limits .«max_total_prototypes» ≤ 16777216) × (limits .«max_total_instructions» ≤ 16777216) ⌝ }
-    ensures { λ r. ⌜ r ≡ shownMain wanted (main limits 0 (now (s .entry))) ⌝ }
+    ensures { λ r. ⌜ r ≡ loadedResult wanted (main limits 0 (now (s .entry))) ⌝ }
 {
     let front = parse_header_lua54(s, Cursor { at: 0 });
     match front {

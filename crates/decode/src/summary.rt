@@ -7,7 +7,7 @@ ghost use Rattle.format.specs.Pick.{pick};
 ghost use Rattle.format.specs.declared.header.Warning.the-variants as code;
 ghost use Rattle.format.specs.ReadChunk as format;
 ghost use Rattle.header.specs.declared.OptionWarning.the-variants as option;
-ghost use Rattle.decode.specs.Decoded.{listOf, shownWarnings, decodedShown, shownOutcome};
+ghost use Rattle.decode.specs.Decoded.{listOf, shownWarnings, decodedShown, decodedResult};
 use crate::Loaded;
 use crate::LoadedResult;
 use crate::read_main;
@@ -107,7 +107,7 @@ fn summarised(s: &[u8], max_diagnostics: usize, loaded: Loaded) -> Decoded
 
 // Reads a whole chunk under limits. Ruled out: limits above their ceilings taken, trailing bytes that are shown and not warned of.
 pub fn decode_chunk_lua54(s: &[u8], limits: ResourceLimits, wanted: usize) -> DecodedResult
-    ensures { λ r. ⌜ r ≡ shownOutcome wanted (format.read limits (now (s .entry))) ⌝ }
+    ensures { λ r. ⌜ r ≡ decodedResult wanted (format.read limits (now (s .entry))) ⌝ }
 {
     let within = limits.within_ceilings();
     if !within {

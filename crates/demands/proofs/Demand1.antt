@@ -45,7 +45,7 @@ use Rattle.rules.specs.declared.finding.Finding.{Finding}
 use Rattle.rules.specs.Findings.{chunkFindings}
 use Rattle.validator.specs.Answers.{shownVerdict, shownCount}
 use Rattle.validator.proofs.Few.{findings-few}
-use Rattle.finding_plan.specs.Listed.{shownFindings, findingsWritten}
+use Rattle.finding_plan.specs.Validated.{shownFindings, findingsWritten}
 use Rattle.opcodes.specs.declared.opcode.OpMode54.{OpMode54}
 use Rattle.opcodes.specs.declared.opcode.OpMode54.the-variants.{IABC, IABx, IAsBx, IAx, IsJ}
 use Rattle.opcodes.specs.declared.opcode.Opcode54.{Opcode54}
@@ -58,7 +58,7 @@ use Rattle.instructions.specs.declared.instruction.Encoded.the-variants as word
 use Rattle.instructions.specs.Word.{unbiased, withUnbiased, encodedIABx, encodedIAx, byMode, byOpcode, encoded}
 use Rattle.instructions.proofs.Ranges.{inRange, isWord, ranges}
 use Rattle.decode.proofs.Summaries.{input-ceiling}
-use Rattle.demands.proofs.InOrder.{Inside, inside-more, ByFile, Refuses, steady-main}
+use Rattle.demands.proofs.InOrder.{Inside, inside-more, ByFile, StillRefused, steady-main}
 use Rattle.demands.proofs.Refused.{unless, missing, first, byReader, ofChunk, andThen, noFunction, ofFunction, noEntry, largeLine, ofLocal, longName, tooLong, noOpcode, outOfRange}
 use Rattle.demands.proofs.Refused.{inSummary, inFields, inWord, inConstant, inUpvalue, inDelta, inAnchor, inName, inLocal, inLine, inIndex, inCopy, inVerdict, inCount, inFindings, inEncoded}
 
@@ -99,7 +99,7 @@ numbers refusals.NoOpcode = (omega arith, omega arith)
 pub bytes-first : (L : ResourceLimits) (s t : Bytes) (q : Refusal) → main L 0 s ≡ refused q → ByFile (length s) q × (2 < reported q .number → main L 0 (s ++ t) ≡ refused q)
 bytes-first L s t q e =
     let all = steady-main {low = 0} L .more 0 s t (omega arith) in
-    let this : Refuses (length s) q (main L 0 (s ++ t)) = rw (e, zero-add) at all in
+    let this : StillRefused (length s) q (main L 0 (s ++ t)) = rw (e, zero-add) at all in
     (this .by-file, this .stays)
 
 -- a place, if there is one, is at most the file's length; and then that is within its ceiling

@@ -55,7 +55,7 @@ use Rattle.rules.specs.Findings.{chunkFindings}
 use Rattle.rules.specs.Rust as rust
 use Rattle.rules.proofs.RustLaws.{validate-is}
 use Rattle.finding_plan.specs.declared.FindingsAnswer.{FindingsAnswer}
-use Rattle.finding_plan.specs.Listed.{shownFindings, findingsWritten}
+use Rattle.finding_plan.specs.Validated.{shownFindings, findingsWritten}
 use Rattle.instructions.specs.declared.instruction.RawInstruction54.{RawInstruction54}
 use Rattle.instructions.specs.declared.instruction.Encoded.{Encoded}
 use Rattle.instructions.specs.Word.{decoded, encoded}
@@ -113,7 +113,7 @@ use Rattle.validator.proofs.verdict.finding_count.Met as finding-count-theorem
 use Rattle.findings.proofs.validate_chunk_lua54 as validate-chunk-lua54-call
 use Rattle.findings.proofs.validate_chunk_lua54.Statement as validate-chunk-lua54-statement
 use Rattle.findings.proofs.validate_chunk_lua54.Met as validate-chunk-lua54-theorem
-use Rattle.finding_array.specs.declared.Listed.{Listed}
+use Rattle.finding_array.specs.declared.FindingArray.{FindingArray}
 use Rattle.finding_array.specs.Blank.{LONGEST, blankList}
 use Rattle.finding_array.proofs.chunk_findings as chunk-findings-call
 use Rattle.finding_array.proofs.chunk_findings.Statement as chunk-findings-statement
@@ -202,7 +202,7 @@ module _ {M : Type 1} (𝓤 : URA M) (H : Heap 𝓤) (A : Atoms 𝓤) (mem : Mem
       → validate-chunk-lua54-call.clauses 𝓤 H A mem run κs (s, (L, (list, tt))) .ensures tt r end ≡ fact 𝓤 ((r ≡ shownFindings (length (list .now)) (read L (s .now))) × (end .1 .1 .0 .now ≡ findingsWritten (list .now) (read L (s .now))))
   validate-chunk-lua54 κs s L list r end = refl
 
-  pub chunk-findings : (κs : Lfts 1) (s : RefT (List ℕ)) (L : ResourceLimits) (r : Listed) (end : AtExit chunk-findings-call.ended κs)
+  pub chunk-findings : (κs : Lfts 1) (s : RefT (List ℕ)) (L : ResourceLimits) (r : FindingArray) (end : AtExit chunk-findings-call.ended κs)
       → chunk-findings-call.clauses 𝓤 H A mem run κs (s, (L, tt)) .ensures tt r end ≡ fact 𝓤 ((r .answer ≡ shownFindings LONGEST (read L (s .now))) × (r .list ≡ findingsWritten blankList (read L (s .now))))
   chunk-findings κs s L r end = refl
 

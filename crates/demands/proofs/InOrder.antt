@@ -74,7 +74,7 @@ own : {n : ℕ} → n ≤ n
 own = omega arith
 
 -- what is given, where t stands behind the bytes, which end at e
-pub record Refuses {A : Type 0} (e : ℕ) (q : Refusal) (o : Read A) : Type 0 where
+pub record StillRefused {A : Type 0} (e : ℕ) (q : Refusal) (o : Read A) : Type 0 where
   pub by-file : ByFile e q
   pub stays : 2 < reported q .number → o ≡ refused q
 
@@ -85,7 +85,7 @@ pub record Gives {A : Type 0} (at e : ℕ) (x : A) (to : ℕ) (rest : Bytes) (o 
 
 abbrev Same : {A : Type 0} → ℕ → ℕ → Read A → Read A → Bytes → Type 0
 Same at e (ok x to rest) o t = Gives at e x to rest o t
-Same at e (refused q) o t = Refuses e q o
+Same at e (refused q) o t = StillRefused e q o
 
 pub record Steady {A : Type 0} (low : ℕ) (r : Reader A) : Type 0 where
   pub more : (at : ℕ) (s t : Bytes) → low ≤ at → Same at (at + length s) (r at s) (r at (s ++ t)) t
@@ -128,7 +128,7 @@ steady-atMost : {low : ℕ} (n m : ℕ) (q : Refusal) → ByFile low q → Stead
 steady-atMost n m q is = steady-test (leb n m) q is
 
 -- bytes are missing
-missing : {A : Type 0} {e : ℕ} (b : Bool) (at : ℕ) (o : Read A) → at ≤ e → Refuses e (pick b (Truncated at) Overflow) o
+missing : {A : Type 0} {e : ℕ} (b : Bool) (at : ℕ) (o : Read A) → at ≤ e → StillRefused e (pick b (Truncated at) Overflow) o
 missing true at o h = record { by-file = listed (Truncated at) refl refl h; stays = λ k. absurd (omega arith) }
 missing false at o h = record { by-file = listed Overflow refl refl tt; stays = λ k. absurd (omega arith) }
 

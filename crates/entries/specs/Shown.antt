@@ -5,6 +5,6 @@ use Rattle.cursor.specs.Shown.{cursorAt}
 use Rattle.entries.specs.declared.code.UpvalueResult.{UpvalueResult}
 use Rattle.entries.specs.declared.code.UpvalueResult.the-variants as answer
 
-abbrev pub shownUpvalue : Read UpvalueDesc → UpvalueResult
-shownUpvalue (ok u to rest) = answer.Ok u (cursorAt to)
-shownUpvalue (refused q) = answer.Err q
+abbrev pub upvalueResult : Read UpvalueDesc → UpvalueResult
+upvalueResult (ok u to rest) = answer.Ok u (cursorAt to)
+upvalueResult (refused q) = answer.Err q

@@ -3,10 +3,10 @@ ghost use mathlib.Core.Path.{_≡_};
 ghost use lib.ListN.{drop};
 ghost use Rattle.format.specs.ReadFields.{field};
 ghost use Rattle.format.specs.ReadChunk as spec;
-ghost use Rattle.reader.specs.Shown.{shownU32};
-ghost use Rattle.lists.specs.Shown.{shownConstant};
+ghost use Rattle.reader.specs.Shown.{u32Result};
+ghost use Rattle.lists.specs.Shown.{constantResult};
 ghost use Rattle.entries.specs.Nth.{entryAt};
-ghost use Rattle.entries.specs.Shown.{shownUpvalue};
+ghost use Rattle.entries.specs.Shown.{upvalueResult};
 use cursor::Cursor;
 use cursor::CursorResult;
 use format::entry::UpvalueDesc;
@@ -28,7 +28,7 @@ pub enum UpvalueResult {
 
 // Ruled out: the word before, the bytes of a word taken as entries.
 pub fn word_at(s: &[u8], cursor: Cursor, entry: usize) -> U32Result
-    ensures { λ r. ⌜ r ≡ shownU32 (entryAt entry (field 4) (cursor .at) (drop (cursor .at) (now (s .entry)))) ⌝ }
+    ensures { λ r. ⌜ r ≡ u32Result (entryAt entry (field 4) (cursor .at) (drop (cursor .at) (now (s .entry)))) ⌝ }
 {
     let passed = skip_words(s, cursor, entry);
     match passed {
@@ -44,7 +44,7 @@ pub fn constant_at(
     entry: usize,
     max_string_bytes: usize,
 ) -> ConstantResult
-    ensures { λ r. ⌜ r ≡ shownConstant (entryAt entry (spec.constant «max_string_bytes») (cursor .at) (drop (cursor .at) (now (s .entry)))) ⌝ }
+    ensures { λ r. ⌜ r ≡ constantResult (entryAt entry (spec.constant «max_string_bytes») (cursor .at) (drop (cursor .at) (now (s .entry)))) ⌝ }
 {
     let passed = skip_constants(s, cursor, entry, max_string_bytes);
     match passed {
@@ -55,7 +55,7 @@ pub fn constant_at(
 
 // One upvalue: three bytes. Ruled out: instack and idx exchanged, the same byte three times.
 pub fn read_upvalue(s: &[u8], cursor: Cursor) -> UpvalueResult
-    ensures { λ r. ⌜ r ≡ shownUpvalue (spec.upvalue (cursor .at) (drop (cursor .at) (now (s .entry)))) ⌝ }
+    ensures { λ r. ⌜ r ≡ upvalueResult (spec.upvalue (cursor .at) (drop (cursor .at) (now (s .entry)))) ⌝ }
 {
     let first = read_u8(s, cursor);
     match first {
@@ -91,7 +91,7 @@ pub fn read_upvalue(s: &[u8], cursor: Cursor) -> UpvalueResult
 
 // Ruled out: two bytes an upvalue, the upvalue behind it.
 pub fn upvalue_at(s: &[u8], cursor: Cursor, entry: usize) -> UpvalueResult
-    ensures { λ r. ⌜ r ≡ shownUpvalue (entryAt entry spec.upvalue (cursor .at) (drop (cursor .at) (now (s .entry)))) ⌝ }
+    ensures { λ r. ⌜ r ≡ upvalueResult (entryAt entry spec.upvalue (cursor .at) (drop (cursor .at) (now (s .entry)))) ⌝ }
 {
     let passed = skip_upvalues(s, cursor, entry);
     match passed {

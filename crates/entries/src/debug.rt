@@ -3,8 +3,8 @@ ghost use mathlib.Core.Path.{_≡_};
 ghost use lib.ListN.{drop};
 ghost use Rattle.format.specs.ReadFields.{string};
 ghost use Rattle.format.specs.ReadChunk as spec;
-ghost use Rattle.reader.specs.Shown.{shownU8, shownString};
-ghost use Rattle.lists.specs.Shown.{shownAnchor, shownLocal};
+ghost use Rattle.reader.specs.Shown.{u8Result, stringResult};
+ghost use Rattle.lists.specs.Shown.{anchorResult, localResult};
 ghost use Rattle.entries.specs.Nth.{entryAt, byteAt, localAt};
 use cursor::Cursor;
 use cursor::CursorResult;
@@ -23,7 +23,7 @@ use reader::string::read_string_lua54;
 
 // The byte of a delta. Ruled out: the first delta whatever the number, one delta too far.
 pub fn delta_at(s: &[u8], cursor: Cursor, entry: usize) -> U8Result
-    ensures { λ r. ⌜ r ≡ shownU8 (byteAt entry (cursor .at) (drop (cursor .at) (now (s .entry)))) ⌝ }
+    ensures { λ r. ⌜ r ≡ u8Result (byteAt entry (cursor .at) (drop (cursor .at) (now (s .entry)))) ⌝ }
 {
     let passed = read_exact(s, cursor, entry);
     match passed {
@@ -34,7 +34,7 @@ pub fn delta_at(s: &[u8], cursor: Cursor, entry: usize) -> U8Result
 
 // Ruled out: the first anchor whatever the number, a number taken for an anchor.
 pub fn anchor_at(s: &[u8], cursor: Cursor, entry: usize) -> AnchorResult
-    ensures { λ r. ⌜ r ≡ shownAnchor (entryAt entry spec.anchor (cursor .at) (drop (cursor .at) (now (s .entry)))) ⌝ }
+    ensures { λ r. ⌜ r ≡ anchorResult (entryAt entry spec.anchor (cursor .at) (drop (cursor .at) (now (s .entry)))) ⌝ }
 {
     let passed = skip_anchors(s, cursor, entry);
     match passed {
@@ -45,7 +45,7 @@ pub fn anchor_at(s: &[u8], cursor: Cursor, entry: usize) -> AnchorResult
 
 // With its name as it is spelt. Ruled out: the name of the local before, an absent name given as `?`.
 pub fn local_at(s: &[u8], cursor: Cursor, entry: usize, max_string_bytes: usize) -> LocalResult
-    ensures { λ r. ⌜ r ≡ shownLocal (localAt entry «max_string_bytes» (cursor .at) (drop (cursor .at) (now (s .entry)))) ⌝ }
+    ensures { λ r. ⌜ r ≡ localResult (localAt entry «max_string_bytes» (cursor .at) (drop (cursor .at) (now (s .entry)))) ⌝ }
 {
     let passed = skip_locals(s, cursor, entry, max_string_bytes);
     match passed {
@@ -56,7 +56,7 @@ pub fn local_at(s: &[u8], cursor: Cursor, entry: usize, max_string_bytes: usize)
 
 // An upvalue's name. Ruled out: absent names not counted, an absent name given as an empty one.
 pub fn name_at(s: &[u8], cursor: Cursor, entry: usize, max_string_bytes: usize) -> StringResult
-    ensures { λ r. ⌜ r ≡ shownString (entryAt entry (string «max_string_bytes») (cursor .at) (drop (cursor .at) (now (s .entry)))) ⌝ }
+    ensures { λ r. ⌜ r ≡ stringResult (entryAt entry (string «max_string_bytes») (cursor .at) (drop (cursor .at) (now (s .entry)))) ⌝ }
 {
     let passed = skip_strings(s, cursor, entry, max_string_bytes);
     match passed {

@@ -1,7 +1,7 @@
 // The findings of a chunk by value: a list that is long enough for all that there can be, filled by `findings::validate_chunk_lua54`. Who calls this needs no walk by hand.
 ghost use mathlib.Core.Path.{_≡_};
 ghost use Rattle.format.specs.ReadChunk as format;
-ghost use Rattle.finding_plan.specs.Listed.{shownFindings, findingsWritten};
+ghost use Rattle.finding_plan.specs.Validated.{shownFindings, findingsWritten};
 ghost use Rattle.finding_array.specs.Blank.{LONGEST, blankList};
 use finding_plan::FindingsAnswer;
 use findings::validate_chunk_lua54;
@@ -9,7 +9,7 @@ use format::limits::ResourceLimits;
 use rules::finding::Finding;
 use rules::finding::Rule;
 
-pub struct Listed {
+pub struct FindingArray {
     pub answer: FindingsAnswer,
     pub list: [Finding; 10001],
 }
@@ -27,11 +27,11 @@ pub fn blank() -> [Finding; 10001]
 
 // The verdict, the number of findings and the findings, in the order found, in the first places.
 // Ruled out: a list that is left blank, findings in another order.
-pub fn chunk_findings(chunk: &[u8], limits: ResourceLimits) -> Listed
+pub fn chunk_findings(chunk: &[u8], limits: ResourceLimits) -> FindingArray
     ensures { λ r. ⌜ (r .answer ≡ shownFindings LONGEST (format.read limits (now (chunk .entry))))
         × (r .list ≡ findingsWritten blankList (format.read limits (now (chunk .entry)))) ⌝ }
 {
     let mut list = blank();
     let answer = validate_chunk_lua54(chunk, limits, &mut list);
-    Listed { answer, list }
+    FindingArray { answer, list }
 }

@@ -14,7 +14,7 @@ use Rattle.format.specs.ReadChunk.{Outcome}
 use Rattle.lent.specs.Splice.{splice}
 use Rattle.lent.proofs.Splices.{splice-none, splice-then, splice-front}
 use Rattle.rules.specs.declared.finding.Finding.{Finding}
-use Rattle.finding_plan.specs.Listed.{foundIn}
+use Rattle.finding_plan.specs.Validated.{foundIn}
 use Rattle.finding_list.specs.FindingNumbers.{findingNumbers, listNumbers, numbersWritten}
 
 numbers-length : (fs : List Finding) → length (listNumbers fs) ≡ 4 * length fs

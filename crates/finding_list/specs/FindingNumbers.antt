@@ -11,7 +11,7 @@ use Rattle.rules.specs.declared.finding.Rule.{Rule}
 use Rattle.rules.specs.declared.finding.Rule.the-variants.{Opcode, Register, Constant, Upvalue, TableUpvalue, Prototype, Jump}
 use Rattle.finding_plan.specs.declared.FindingsAnswer.{FindingsAnswer}
 use Rattle.finding_plan.specs.declared.FindingsAnswer.the-variants as answer
-use Rattle.finding_plan.specs.Listed.{foundIn}
+use Rattle.finding_plan.specs.Validated.{foundIn}
 use Rattle.boundary.specs.Status.{Answer, done, refuses, complement}
 use Rattle.numbers.specs.Numbers.{verdictNumber}
 

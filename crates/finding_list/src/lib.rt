@@ -5,7 +5,7 @@ ghost use lib.ListN.{length, take};
 ghost use Rattle.format.specs.ReadChunk.{read};
 ghost use Rattle.lent.specs.Splice.{splice};
 ghost use Rattle.validator.specs.Position.{outOf};
-ghost use Rattle.finding_plan.specs.Listed.{shownFindings};
+ghost use Rattle.finding_plan.specs.Validated.{shownFindings};
 ghost use Rattle.boundary.specs.Status.{limitsOf, status, written};
 ghost use Rattle.finding_list.specs.FindingNumbers.{ruleNumber, offendingNumber, findingNumbers, listNumbers, ofFindings, numbersWritten};
 use boundary::limits_of;

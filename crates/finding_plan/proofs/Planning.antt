@@ -17,7 +17,7 @@ use Rattle.format.specs.Form.{Bytes}
 use Rattle.format.specs.Reading.{Reading}
 use Rattle.format.specs.ReadChunk.{Outcome, shown, refusal, read}
 use Rattle.decode.specs.declared.summary.DecodedResult.the-variants as decoded
-use Rattle.decode.specs.Decoded.{shownOutcome}
+use Rattle.decode.specs.Decoded.{decodedResult}
 use Rattle.rules.specs.Findings.{MAX-DIAGNOSTICS, Listing, chunkFindings, verdict}
 use Rattle.validator.specs.Position.{outOf}
 use Rattle.validator.specs.Totals.{tallied, verdictShown}
@@ -26,10 +26,10 @@ use Rattle.rules.specs.declared.finding.Verdict.{Verdict}
 use Rattle.validator.specs.declared.search.Position.{Position}
 use Rattle.validator.specs.declared.tally.Totals.{Totals}
 use Rattle.finding_plan.specs.declared.FindingsAnswer.the-variants as answer
-use Rattle.finding_plan.specs.Listed.{listingAnswer, listingWritten, shownFindings, findingsWritten, foundIn}
+use Rattle.finding_plan.specs.Validated.{listingAnswer, listingWritten, shownFindings, findingsWritten, foundIn}
 use Rattle.finding_plan.specs.Plan.{refusedPlan, planOf, written, Planned}
 
-pub was-refused : (o : Outcome) (q : Refusal) → decoded.Err q ≡ shownOutcome 0 o → o ≡ refusal q
+pub was-refused : (o : Outcome) (q : Refusal) → decoded.Err q ≡ decodedResult 0 o → o ≡ refusal q
 was-refused (shown r) q e = absurd (let z : _≡_ {A = ℕ} 0 1 = cc in omega arith)
 was-refused (refusal p) q e = cc
 

@@ -16,7 +16,7 @@ use Rattle.rules.specs.Findings.{MAX-DIAGNOSTICS, Listing, verdict}
 use Rattle.validator.specs.Position.{outOf}
 use Rattle.finding_plan.specs.declared.FindingsAnswer.the-variants as answer
 use Rattle.finding_plan.specs.declared.Plan.{Plan}
-use Rattle.finding_plan.specs.Listed.{shownFindings, findingsWritten, foundIn}
+use Rattle.finding_plan.specs.Validated.{shownFindings, findingsWritten, foundIn}
 
 abbrev pub refusedPlan : Refusal → Position → Plan
 refusedPlan q start = record { answer = answer.Err q; count = 0; start = start }

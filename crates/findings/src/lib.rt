@@ -2,7 +2,7 @@
 ghost use mathlib.Core.Path.{_≡_};
 ghost use lib.ListN.{length};
 ghost use Rattle.format.specs.ReadChunk as format;
-ghost use Rattle.finding_plan.specs.Listed.{shownFindings, findingsWritten};
+ghost use Rattle.finding_plan.specs.Validated.{shownFindings, findingsWritten};
 use finding_plan::FindingsAnswer;
 use finding_plan::forward;
 use finding_plan::prepare;

@@ -17,7 +17,7 @@ use Rattle.format.specs.Pick.{pick}
 use Rattle.format.specs.Form.{Bytes, Below}
 use Rattle.format.specs.Read.{Read, ok, refused}
 use Rattle.format.specs.ReadFields.{groups, number}
-use Rattle.format.specs.Lundump.{Loaded, loaded, truncatedChunk, integerOverflow, loadUnsignedLoop, loadUnsigned, loadSize, loadInt}
+use Rattle.format.specs.Lundump.{LoadedNumber, loaded, truncatedChunk, integerOverflow, loadUnsignedLoop, loadUnsigned, loadSize, loadInt}
 use Rattle.format.proofs.Exact.{never}
 use Rattle.format.proofs.ExactFields.{groups-least, exact-number}
 

@@ -7,13 +7,13 @@ use Rattle.format.specs.Pick.{pick}
 use Rattle.format.specs.Form.{Bytes}
 
 -- what is loaded and the bytes behind it, or one of the two errors
-pub data Loaded : Type 0 where
-  loaded : ℕ → Bytes → Loaded
-  truncatedChunk : Loaded
-  integerOverflow : Loaded
+pub data LoadedNumber : Type 0 where
+  loaded : ℕ → Bytes → LoadedNumber
+  truncatedChunk : LoadedNumber
+  integerOverflow : LoadedNumber
 
 -- do { b = loadByte(S); if (x >= limit) error(S, "integer overflow"); x = (x << 7) | (b & 0x7f); } while ((b & 0x80) == 0);
-abbrev pub loadUnsignedLoop : ℕ → ℕ → Bytes → Loaded
+abbrev pub loadUnsignedLoop : ℕ → ℕ → Bytes → LoadedNumber
 loadUnsignedLoop limit x [] = truncatedChunk
 loadUnsignedLoop limit x (b ∷ s) =
     let next = bitOr (x * 2 ^ 7 % 2 ^ 64) (bitAnd b 0x7f) in
@@ -21,13 +21,13 @@ loadUnsignedLoop limit x (b ∷ s) =
     pick (leb limit x) integerOverflow (pick (eqb (bitAnd b 0x80) 0) more (loaded next s))
 
 -- size_t x = 0; limit >>= 7; ..
-abbrev pub loadUnsigned : ℕ → Bytes → Loaded
+abbrev pub loadUnsigned : ℕ → Bytes → LoadedNumber
 loadUnsigned limit s = loadUnsignedLoop (limit / 2 ^ 7) 0 s
 
 -- return loadUnsigned(S, ~(size_t)0);
-abbrev pub loadSize : Bytes → Loaded
+abbrev pub loadSize : Bytes → LoadedNumber
 loadSize s = loadUnsigned (2 ^ 64 - 1) s
 
 -- return cast_int(loadUnsigned(S, INT_MAX));
-abbrev pub loadInt : Bytes → Loaded
+abbrev pub loadInt : Bytes → LoadedNumber
 loadInt s = loadUnsigned (2 ^ 31 - 1) s

@@ -21,7 +21,7 @@ use Rattle.counted.proofs.Within.{exact-protosCount, ProtosCount}
 use Rattle.cursor.specs.Shown.{cursorAt}
 use Rattle.prototype.specs.declared.parts.HeadResult.the-variants as head-answer
 use Rattle.prototype.specs.Parts.{Head, head, Tail, tail, parts, inside, prototypeOf}
-use Rattle.prototype.specs.PartsShown.{headOf, shownHead, shownTail}
+use Rattle.prototype.specs.PartsShown.{headOf, headResult, tailResult}
 use Rattle.chunk.specs.Walk as walk
 use Rattle.prototype.proofs.FrontAnswers.{FrontForm, exact-front}
 use Rattle.prototype.proofs.HeadAnswers.{ListsForm, exact-lists}
@@ -69,7 +69,7 @@ module _ (L : ResourceLimits) (s : Bytes) where
 
     -- ## A function
     agree-tail : (w : Where) (at : ℕ) (h : Head) (ps : List Prototype) (o : Read Tail)
-        → Agree (next o (λ t end rest. ok (prototypeOf w at h t end ∷ ps) end rest)) (before (rowShown (w .depth) (headOf h) ∷ []) (before (rowsFor ps) (onTail (shownTail o) (cut []) (through []))))
+        → Agree (next o (λ t end rest. ok (prototypeOf w at h t end ∷ ps) end rest)) (before (rowShown (w .depth) (headOf h) ∷ []) (before (rowsFor ps) (onTail (tailResult o) (cut []) (through []))))
     agree-tail w at h ps (ok t end rest) = simp append-nil
     agree-tail w at h ps (refused q) = tt
 
@@ -84,7 +84,7 @@ module _ (L : ResourceLimits) (s : Bytes) where
 
     agree-head : (w : Where) → w .depth ≡ depth → (at : ℕ) (o p : Read Head) → head L (w .instructions) at (drop at s) ≡ o → Fewer o p
         → Agree (next o (λ h first rest. next (forest (h .protos .count) (walk.entered L left-over) (inside w h) first rest) (λ ps behind rest. next (tail (L .«max_string_bytes») behind rest) (λ t end rest. ok (prototypeOf w at h t end ∷ ps) end rest))))
-        (onHead (w .depth) (shownHead p) (cut []) (λ row first. before (row ∷ []) (andThen (times one (row .protos .count) first) (λ behind. onTail (tailAt L s behind) (cut []) (through [])))))
+        (onHead (w .depth) (headResult p) (cut []) (λ row first. before (row ∷ []) (andThen (times one (row .protos .count) first) (λ behind. onTail (tailAt L s behind) (cut []) (through [])))))
     agree-head w deep at (ok h first rest) p e f =
         rw (f .holds h first rest refl, left (exact-head L (w .instructions)) s at e)
         (agree-nested w at h first (forest (h .protos .count) (walk.entered L left-over) (inside w h) first (drop first s)) refl (agree-forest (h .protos .count) (inside w h) first (ap (λ d. d + 1) deep)))

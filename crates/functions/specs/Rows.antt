@@ -13,7 +13,7 @@ use Rattle.prototype.specs.declared.parts.HeadResult.the-variants as head-answe
 use Rattle.prototype.specs.declared.parts.TailResult.{TailResult}
 use Rattle.prototype.specs.declared.parts.TailResult.the-variants as tail-answer
 use Rattle.prototype.specs.Parts.{head, tail}
-use Rattle.prototype.specs.PartsShown.{shownHead, shownTail}
+use Rattle.prototype.specs.PartsShown.{headResult, tailResult}
 use Rattle.prototype.specs.Row.{listAt}
 use Rattle.functions.specs.declared.Row.{Row}
 use Rattle.functions.specs.declared.Up.{Up}
@@ -34,10 +34,10 @@ rowShown depth h = record {
 
 -- a function's head, and its tail
 unfoldable pub headAt : ResourceLimits → Bytes → ℕ → HeadResult
-headAt L s at = shownHead (head L 0 at (drop at s))
+headAt L s at = headResult (head L 0 at (drop at s))
 
 unfoldable pub tailAt : ResourceLimits → Bytes → ℕ → TailResult
-tailAt L s at = shownTail (tail (L .«max_string_bytes») at (drop at s))
+tailAt L s at = tailResult (tail (L .«max_string_bytes») at (drop at s))
 
 abbrev pub onHead : {R : Type 0} → ℕ → HeadResult → R → (Row → ℕ → R) → R
 onHead depth (head-answer.Ok h next) bad good = good (rowShown depth h) (next .at)

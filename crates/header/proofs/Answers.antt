@@ -14,34 +14,34 @@ use Rattle.format.proofs.ExactHeader.{exact-before}
 use Rattle.cursor.specs.declared.Cursor.{Cursor}
 use Rattle.cursor.specs.declared.CursorResult.the-variants as cursor
 use Rattle.reader.specs.declared.field.U8Result.the-variants as u8
-use Rattle.cursor.specs.Shown.{shownCursor}
-use Rattle.reader.specs.Shown.{shownU8}
+use Rattle.cursor.specs.Shown.{cursorResult}
+use Rattle.reader.specs.Shown.{u8Result}
 use Rattle.reader.proofs.Shows.{onward, cursor-err, cursor-ok, u8-err, u8-ok}
 use Rattle.header.specs.declared.HeaderResult.the-variants as answer
-use Rattle.header.specs.Shown.{firstWarning, shownHeader}
+use Rattle.header.specs.Shown.{firstWarning, headerResult}
 
 -- the header behind the format byte, which stands at `place`
 abbrev ending : ℕ → ℕ → Reader Headed
 ending place format = behindFormat >> give (record { header = headerOf format; warnings = formatWarnings place format })
 
 module _ (s : Bytes) (at : ℕ) where
-  pub front-refused : (q : Refusal) → cursor.Err q ≡ shownCursor (beforeFormat at (drop at s)) → answer.Err q ≡ shownHeader (header at (drop at s))
+  pub front-refused : (q : Refusal) → cursor.Err q ≡ cursorResult (beforeFormat at (drop at s)) → answer.Err q ≡ headerResult (header at (drop at s))
   front-refused q e = rw (cursor-err (beforeFormat at (drop at s)) q e)
 
-  module _ (p : Cursor) (e : cursor.Ok p ≡ shownCursor (beforeFormat at (drop at s))) where
+  module _ (p : Cursor) (e : cursor.Ok p ≡ cursorResult (beforeFormat at (drop at s))) where
     from-format : header at (drop at s) ≡ next (field 1 (p .at) (drop (p .at) s)) (λ format. ending (p .at) format)
     from-format = rw (onward exact-before s at (cursor-ok (beforeFormat at (drop at s)) p e .was))
 
-    pub format-refused : (q : Refusal) → u8.Err q ≡ shownU8 (field 1 (p .at) (drop (p .at) s)) → answer.Err q ≡ shownHeader (header at (drop at s))
+    pub format-refused : (q : Refusal) → u8.Err q ≡ u8Result (field 1 (p .at) (drop (p .at) s)) → answer.Err q ≡ headerResult (header at (drop at s))
     format-refused q f = rw (from-format, u8-err (field 1 (p .at) (drop (p .at) s)) q f)
 
-    module _ (v : ℕ) (c : Cursor) (f : u8.Ok v c ≡ shownU8 (field 1 (p .at) (drop (p .at) s))) where
+    module _ (v : ℕ) (c : Cursor) (f : u8.Ok v c ≡ u8Result (field 1 (p .at) (drop (p .at) s))) where
       at-end : header at (drop at s) ≡ ending (p .at) v (c .at) (drop (c .at) s)
       at-end = rw (from-format, onward (exact-field 1) s (p .at) (u8-ok (field 1 (p .at) (drop (p .at) s)) v c f))
 
-      pub back-refused : (q : Refusal) → cursor.Err q ≡ shownCursor (behindFormat (c .at) (drop (c .at) s)) → answer.Err q ≡ shownHeader (header at (drop at s))
+      pub back-refused : (q : Refusal) → cursor.Err q ≡ cursorResult (behindFormat (c .at) (drop (c .at) s)) → answer.Err q ≡ headerResult (header at (drop at s))
       back-refused q g = rw (at-end, cursor-err (behindFormat (c .at) (drop (c .at) s)) q g)
 
-      pub accepted : (end : Cursor) → cursor.Ok end ≡ shownCursor (behindFormat (c .at) (drop (c .at) s))
-          → answer.Ok (headerOf v) (firstWarning (formatWarnings (p .at) v)) end ≡ shownHeader (header at (drop at s))
+      pub accepted : (end : Cursor) → cursor.Ok end ≡ cursorResult (behindFormat (c .at) (drop (c .at) s))
+          → answer.Ok (headerOf v) (firstWarning (formatWarnings (p .at) v)) end ≡ headerResult (header at (drop at s))
       accepted end g = rw (at-end, cursor-ok (behindFormat (c .at) (drop (c .at) s)) end g .was .is)

@@ -11,7 +11,7 @@ use Rattle.format.specs.ReadHeader.{sameBytes, expect}
 use Rattle.format.proofs.Steps.{run-was}
 use Rattle.cursor.specs.declared.Cursor.{Cursor}
 use Rattle.cursor.specs.declared.CursorResult.the-variants as cursor
-use Rattle.cursor.specs.Shown.{shownCursor}
+use Rattle.cursor.specs.Shown.{cursorResult}
 use Rattle.reader.proofs.Shows.{cursor-err, cursor-ok}
 
 module _ (s : Bytes) (at : ℕ) (bytes : Bytes) (q : Refusal) where
@@ -21,13 +21,13 @@ module _ (s : Bytes) (at : ℕ) (bytes : Bytes) (q : Refusal) where
   abbrev wanted : Read (Unit {0})
   wanted = expect bytes (λ _. q) at (drop at s)
 
-  pub too-short : (p : Refusal) → cursor.Err p ≡ shownCursor looked → cursor.Err p ≡ shownCursor wanted
+  pub too-short : (p : Refusal) → cursor.Err p ≡ cursorResult looked → cursor.Err p ≡ cursorResult wanted
   too-short p e = rw (cursor-err looked p e)
 
   judged : (b : Bytes) (to : ℕ) (rest : Bytes) → looked ≡ ok b to rest → take (length bytes) (drop at s) ≡ b → wanted ≡ test (sameBytes (take (length bytes) (drop at s)) bytes) q to rest
   judged b to rest p t = rw (p, t)
 
-  module _ (c : Cursor) (e : cursor.Ok c ≡ shownCursor looked) where
+  module _ (c : Cursor) (e : cursor.Ok c ≡ cursorResult looked) where
     pub there : length bytes ≤ length (drop at s)
     there = run-was (length bytes) at (drop at s) (cursor-ok looked c e .was .is) .0
 
@@ -36,8 +36,8 @@ module _ (s : Bytes) (at : ℕ) (bytes : Bytes) (q : Refusal) where
         let w = cursor-ok looked c e .was in
         judged (cursor-ok looked c e .value) (c .at) (w .rest) (w .is) (run-was (length bytes) at (drop at s) (w .is) .1)
 
-    pub these : sameBytes (take (length bytes) (drop at s)) bytes ≡ true → cursor.Ok c ≡ shownCursor wanted
+    pub these : sameBytes (take (length bytes) (drop at s)) bytes ≡ true → cursor.Ok c ≡ cursorResult wanted
     these t = rw (tested, t)
 
-    pub others : sameBytes (take (length bytes) (drop at s)) bytes ≡ false → cursor.Err q ≡ shownCursor wanted
+    pub others : sameBytes (take (length bytes) (drop at s)) bytes ≡ false → cursor.Err q ≡ cursorResult wanted
     others t = rw (tested, t)

@@ -13,14 +13,14 @@ use Rattle.format.specs.ReadHeader.{expect, beforeFormat, behindFormat}
 use Rattle.format.proofs.Exact.{Exact, exact-then}
 use Rattle.format.proofs.ExactHeader.{exact-expect}
 use Rattle.cursor.specs.declared.CursorResult.{CursorResult}
-use Rattle.cursor.specs.Shown.{andThen, shownCursor}
+use Rattle.cursor.specs.Shown.{andThen, cursorResult}
 use Rattle.reader.proofs.Shows.{on, regroup}
 
 -- what a call behind another shows
 abbrev Behind : Bytes → Bytes → (ℕ → Refusal) → CursorResult → CursorResult → Type 0
-Behind s bytes q x y = y ≡ andThen x (λ to. shownCursor (expect bytes q to (drop to s)))
+Behind s bytes q x y = y ≡ andThen x (λ to. cursorResult (expect bytes q to (drop to s)))
 
-pub before : (s : Bytes) (at : ℕ) {x y : CursorResult} → x ≡ shownCursor (expect signature Signature at (drop at s)) → Behind s (0x54 ∷ []) Version x y → y ≡ shownCursor (beforeFormat at (drop at s))
+pub before : (s : Bytes) (at : ℕ) {x y : CursorResult} → x ≡ cursorResult (expect signature Signature at (drop at s)) → Behind s (0x54 ∷ []) Version x y → y ≡ cursorResult (beforeFormat at (drop at s))
 before s at a b = on s at (exact-expect signature Signature) (expect (0x54 ∷ []) Version) a b
 
 -- the parts behind the format byte
@@ -42,9 +42,9 @@ int = expect luacInt LuacInt
 abbrev num : Reader (Unit {0})
 num = expect luacNum LuacNum
 
-pub behind : (s : Bytes) (at : ℕ) {a b c d e f : CursorResult} → a ≡ shownCursor (luac at (drop at s))
+pub behind : (s : Bytes) (at : ℕ) {a b c d e f : CursorResult} → a ≡ cursorResult (luac at (drop at s))
     → Behind s (4 ∷ []) InstructionSize a b → Behind s (8 ∷ []) LuaIntegerSize b c → Behind s (8 ∷ []) LuaNumberSize c d → Behind s luacInt LuacInt d e → Behind s luacNum LuacNum e f
-    → f ≡ shownCursor (behindFormat at (drop at s))
+    → f ≡ cursorResult (behindFormat at (drop at s))
 behind s at h1 h2 h3 h4 h5 h6 =
     let x1 = exact-expect luacData LuacData in
     let x2 = exact-then x1 λ _. exact-expect (4 ∷ []) InstructionSize in
@@ -52,7 +52,7 @@ behind s at h1 h2 h3 h4 h5 h6 =
     let x4 = exact-then x3 λ _. exact-expect (8 ∷ []) LuaNumberSize in
     let x5 = exact-then x4 λ _. exact-expect luacInt LuacInt in
     on s at x5 num (on s at x4 int (on s at x3 float (on s at x2 integer (on s at x1 size h1 h2) h3) h4) h5) h6
-    ∙ ap shownCursor (regroup (((luac >> size) >> integer) >> float) int num at (drop at s)
+    ∙ ap cursorResult (regroup (((luac >> size) >> integer) >> float) int num at (drop at s)
     ∙ regroup ((luac >> size) >> integer) float (int >> num) at (drop at s)
     ∙ regroup (luac >> size) integer (float >> (int >> num)) at (drop at s)
     ∙ regroup luac size (integer >> (float >> (int >> num))) at (drop at s))

@@ -19,9 +19,9 @@ abbrev pub firstWarning : List Warning → OptionWarning
 firstWarning [] = option.None
 firstWarning (w ∷ ws) = option.Some w
 
-abbrev pub shownHeader : Read Headed → HeaderResult
-shownHeader (ok h to rest) = answer.Ok (h .header) (firstWarning (h .warnings)) (cursorAt to)
-shownHeader (refused q) = answer.Err q
+abbrev pub headerResult : Read Headed → HeaderResult
+headerResult (ok h to rest) = answer.Ok (h .header) (firstWarning (h .warnings)) (cursorAt to)
+headerResult (refused q) = answer.Err q
 
 -- the refusal of a fixed part that is another than it must be
 abbrev pub refusalOf : Fixed → ℕ → Refusal

@@ -5,9 +5,9 @@ ghost use mathlib.Core.List.{[], _∷_};
 ghost use Rattle.format.specs.declared.refusal.Refusal.the-variants.{Signature};
 ghost use lib.ListN.{length, take, drop};
 ghost use Rattle.format.specs.ReadHeader as spec;
-ghost use Rattle.cursor.specs.Shown.{shownCursor, andThen};
+ghost use Rattle.cursor.specs.Shown.{cursorResult, andThen};
 ghost use Rattle.format.specs.GrammarHeader.{headerOf, formatWarnings};
-ghost use Rattle.header.specs.Shown.{refusalOf, firstWarning, shownHeader};
+ghost use Rattle.header.specs.Shown.{refusalOf, firstWarning, headerResult};
 use cursor::Cursor;
 use cursor::CursorResult;
 use cursor::read_exact;
@@ -48,7 +48,7 @@ fn same_bytes(s: &[u8], at: usize, bytes: &[u8]) -> bool
 
 // Passes over bytes that must be these.
 fn expect(s: &[u8], cursor: Cursor, bytes: &[u8], refusal: Refusal) -> CursorResult
-    ensures { λ r. ⌜ r ≡ shownCursor (spec.expect (now (bytes .entry)) (λ _. refusal) (cursor .at) (drop (cursor .at) (now (s .entry)))) ⌝ }
+    ensures { λ r. ⌜ r ≡ cursorResult (spec.expect (now (bytes .entry)) (λ _. refusal) (cursor .at) (drop (cursor .at) (now (s .entry)))) ⌝ }
 {
     let at = cursor.at;
     let read = read_exact(s, cursor, bytes.len());
@@ -121,7 +121,7 @@ fn refusal_of(part: Fixed, at: usize) -> Refusal
 
 // Behind what was read, passes over bytes that must be these.
 fn and_expect(read: CursorResult, s: &[u8], bytes: &[u8], part: Fixed) -> CursorResult
-    ensures { λ r. ⌜ r ≡ andThen read (λ at. shownCursor (spec.expect (now (bytes .entry)) (refusalOf part) at (drop at (now (s .entry))))) ⌝ }
+    ensures { λ r. ⌜ r ≡ andThen read (λ at. cursorResult (spec.expect (now (bytes .entry)) (refusalOf part) at (drop at (now (s .entry))))) ⌝ }
 {
     let CursorResult::Ok(cursor) = read else {
         return read;
@@ -132,7 +132,7 @@ fn and_expect(read: CursorResult, s: &[u8], bytes: &[u8], part: Fixed) -> Cursor
 
 // What stands before the format byte.
 fn before_format(s: &[u8], cursor: Cursor) -> CursorResult
-    ensures { λ r. ⌜ r ≡ shownCursor (spec.beforeFormat (cursor .at) (drop (cursor .at) (now (s .entry)))) ⌝ }
+    ensures { λ r. ⌜ r ≡ cursorResult (spec.beforeFormat (cursor .at) (drop (cursor .at) (now (s .entry)))) ⌝ }
 {
     let read = CursorResult::Ok(cursor);
     let read = and_expect(read, s, b"\x1bLua", Fixed::Signature);
@@ -141,7 +141,7 @@ fn before_format(s: &[u8], cursor: Cursor) -> CursorResult
 
 // What stands behind the format byte.
 fn behind_format(s: &[u8], cursor: Cursor) -> CursorResult
-    ensures { λ r. ⌜ r ≡ shownCursor (spec.behindFormat (cursor .at) (drop (cursor .at) (now (s .entry)))) ⌝ }
+    ensures { λ r. ⌜ r ≡ cursorResult (spec.behindFormat (cursor .at) (drop (cursor .at) (now (s .entry)))) ⌝ }
 {
     let read = CursorResult::Ok(cursor);
     let read = and_expect(read, s, b"\x19\x93\r\n\x1a\n", Fixed::LuacData);
@@ -154,7 +154,7 @@ fn behind_format(s: &[u8], cursor: Cursor) -> CursorResult
 
 // Ruled out: a format other than 0 refused, a refusal with the place of the first byte that differs instead of the part's.
 pub fn parse_header_lua54(s: &[u8], cursor: Cursor) -> HeaderResult
-    ensures { λ r. ⌜ r ≡ shownHeader (spec.header (cursor .at) (drop (cursor .at) (now (s .entry)))) ⌝ }
+    ensures { λ r. ⌜ r ≡ headerResult (spec.header (cursor .at) (drop (cursor .at) (now (s .entry)))) ⌝ }
 {
     let front = before_format(s, cursor);
     match front {

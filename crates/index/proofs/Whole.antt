@@ -39,7 +39,7 @@ use Rattle.chunk.specs.Walk.{shownWhere, entered}
 use Rattle.chunk.proofs.Functions.{by-parts}
 use Rattle.decode.specs.declared.summary.Decoded.{Decoded}
 use Rattle.decode.specs.declared.summary.DecodedResult.the-variants as decoded
-use Rattle.decode.specs.Decoded.{shownOutcome, shownReading}
+use Rattle.decode.specs.Decoded.{decodedResult, shownReading}
 use Rattle.decode.proofs.Summaries.{in-ceilings, input-ceiling}
 use Rattle.decode.proofs.MainAt.{WasShown, was-shown, First, first-of, MainAt, main-at}
 use Rattle.index.specs.declared.IndexAnswer.the-variants as answer
@@ -54,7 +54,7 @@ index-length [] = refl
 index-length (p ∷ ps) = let more = index-length ps in omega arith
 
 -- ## By the first pass
-pub refused-index : (old : List ℕ) (o : Outcome) (q : Refusal) → decoded.Err q ≡ shownOutcome 0 o → (answer.Err q ≡ shownIndex (length old) o) × (old ≡ indexWritten old o)
+pub refused-index : (old : List ℕ) (o : Outcome) (q : Refusal) → decoded.Err q ≡ decodedResult 0 o → (answer.Err q ≡ shownIndex (length old) o) × (old ≡ indexWritten old o)
 refused-index old (shown r) q e = absurd (let z : _≡_ {A = ℕ} 0 1 = cc in omega arith)
 refused-index old (refusal p) q e = (let same : q ≡ p = cc in ap answer.Err same, refl)
 
@@ -65,7 +65,7 @@ short-space space n h = omega arith
 long-space : (space n : ℕ) → n ≤ space / 12 → 12 * n ≤ space
 long-space space n h = omega arith
 
-module _ (old : List ℕ) (o : Outcome) (d : Decoded) (e : decoded.Ok d ≡ shownOutcome 0 o) where
+module _ (old : List ℕ) (o : Outcome) (d : Decoded) (e : decoded.Ok d ≡ decodedResult 0 o) where
   abbrev functions : List Prototype
   functions = was-shown o d e .value .functions
 
@@ -99,7 +99,7 @@ module _ (old : List ℕ) (o : Outcome) (d : Decoded) (e : decoded.Ok d ≡ show
         (ap answer.Ok count ∙ sym (both .0), e ∙ sym (both .1))
 
 -- ## The second pass
-module _ (old : List ℕ) (L : ResourceLimits) (s : Bytes) (d : Decoded) (e : decoded.Ok d ≡ shownOutcome 0 (read L s)) where
+module _ (old : List ℕ) (L : ResourceLimits) (s : Bytes) (d : Decoded) (e : decoded.Ok d ≡ decodedResult 0 (read L s)) where
   abbrev all-functions : List Prototype
   all-functions = functions old (read L s) d e
 

@@ -30,8 +30,8 @@ use Rattle.chunk.specs.declared.walk.WalkResult.{WalkResult}
 use Rattle.chunk.specs.declared.walk.WalkResult.the-variants as answer
 use Rattle.prototype.specs.Row.{rowOf}
 use Rattle.prototype.specs.Parts.{prototypeOf}
-use Rattle.prototype.specs.PartsShown.{shownHead, shownTail}
-use Rattle.chunk.specs.Walk.{shownWhere, entered, shownWalk, rowShown, further, againShown, joinedShown}
+use Rattle.prototype.specs.PartsShown.{headResult, tailResult}
+use Rattle.chunk.specs.Walk.{shownWhere, entered, walkResult, rowShown, further, againShown, joinedShown}
 use Rattle.prototype.proofs.On.{taken}
 use Rattle.chunk.proofs.Functions.{exact-entered, enters, walk-err, walkedOf, tail-ok, row-shown, by-parts, begins, headed, head-on, first, inner, walked, nested-on, ends}
 use Rattle.lent.specs.Splice.{splice}
@@ -48,19 +48,19 @@ stored-append : (ps qs : List Prototype) → stored (ps ++ qs) ≡ stored ps ++ 
 stored-append [] qs = refl
 stored-append (p ∷ ps) qs = ap (λ more. storedRow (rowOf p) ++ more) (stored-append ps qs)
 
-none-wrote : (w : grammar.Where) (o : Read (List Prototype)) (l l′ : List ℕ) (q : Refusal) → answer.Err q ≡ shownWalk 0 w o → Wrote w o l l′
+none-wrote : (w : grammar.Where) (o : Read (List Prototype)) (l l′ : List ℕ) (q : Refusal) → answer.Err q ≡ walkResult 0 w o → Wrote w o l l′
 none-wrote w o l l′ q e = record { wrote = λ ps to rest f _. absurd (never (sym (walk-err 0 w o q e) ∙ f)) }
 
 -- what a return with a refusal shows, and what is then asked of the rows
-pub refuses : (place : Where) (o : grammar.Where → Read (List Prototype)) (l l′ : List ℕ) (q : Refusal) → ((w : grammar.Where) → place ≡ shownWhere w → answer.Err q ≡ shownWalk 0 w (o w))
-    → ((w : grammar.Where) → place ≡ shownWhere w → answer.Err q ≡ shownWalk 0 w (o w)) × ((w : grammar.Where) → place ≡ shownWhere w → Wrote w (o w) l l′)
+pub refuses : (place : Where) (o : grammar.Where → Read (List Prototype)) (l l′ : List ℕ) (q : Refusal) → ((w : grammar.Where) → place ≡ shownWhere w → answer.Err q ≡ walkResult 0 w (o w))
+    → ((w : grammar.Where) → place ≡ shownWhere w → answer.Err q ≡ walkResult 0 w (o w)) × ((w : grammar.Where) → place ≡ shownWhere w → Wrote w (o w) l l′)
 refuses place o l l′ q shows = (shows, λ w p. none-wrote w (o w) l l′ q (shows w p))
 
 -- ## A function
 module _ (s : Bytes) (L : ResourceLimits) (left : ℕ) (place : Where) (w : grammar.Where) (stands : place ≡ shownWhere w) (at : ℕ)
-    (h : declared-head.Head) (c₁ : Cursor) (e₁ : head-answer.Ok h c₁ ≡ shownHead (begins s L left 0 place w stands at))
-    (nested : Walked) (e₂ : answer.Ok nested ≡ shownWalk 0 (first s L left 0 place w stands at h c₁ e₁) (inner s L left 0 place w stands at h c₁ e₁))
-    (t : declared-tail.Tail) (c₃ : Cursor) (e₃ : tail-answer.Ok t c₃ ≡ shownTail (ends s L left 0 place w stands at h c₁ e₁ nested e₂)) where
+    (h : declared-head.Head) (c₁ : Cursor) (e₁ : head-answer.Ok h c₁ ≡ headResult (begins s L left 0 place w stands at))
+    (nested : Walked) (e₂ : answer.Ok nested ≡ walkResult 0 (first s L left 0 place w stands at h c₁ e₁) (inner s L left 0 place w stands at h c₁ e₁))
+    (t : declared-tail.Tail) (c₃ : Cursor) (e₃ : tail-answer.Ok t c₃ ≡ tailResult (ends s L left 0 place w stands at h c₁ e₁ nested e₂)) where
   abbrev those : List Prototype
   those = walked s L left 0 place w stands at h c₁ e₁ nested e₂ .value
 
@@ -133,7 +133,7 @@ module _ (s : Bytes) (L : ResourceLimits) (first : Where) (n left from : ℕ) (l
           a .wrote ∙ ap (λ ps. splice (12 * w .number) (stored ps) l₀) same
 
   module _ (some : 0 < more) (level : 0 < left) (few : walked .number ≤ L .«max_total_prototypes») (o : WalkResult) (l′ : List ℕ)
-      (one : (w : grammar.Where) → againShown first walked ≡ shownWhere w → o ≡ shownWalk 0 w (function L (left - 1) w (walked .next .at) (drop (walked .next .at) s)))
+      (one : (w : grammar.Where) → againShown first walked ≡ shownWhere w → o ≡ walkResult 0 w (function L (left - 1) w (walked .next .at) (drop (walked .next .at) s)))
       (its : (w : grammar.Where) → againShown first walked ≡ shownWhere w → Wrote w (function L (left - 1) w (walked .next .at) (drop (walked .next .at) s)) l l′) where
     pub on-behind : (later : Walked) → o ≡ answer.Ok later → Behind s L first n left from l₀ (joinedShown walked later) (more - 1) l′
     on-behind later is w p ps to rest e fits = turn (b w p ps to rest e fits)
@@ -147,8 +147,8 @@ module _ (s : Bytes) (L : ResourceLimits) (first : Where) (n left from : ℕ) (l
         read : function L (left - 1) place at (drop at s) ≡ entered L left place at (drop at s)
         read = sym (enters L left place at (drop at s) level few)
 
-        shows : answer.Ok later ≡ shownWalk 0 place (entered L left place at (drop at s))
-        shows = sym is ∙ one place (ap (λ k. againShown k walked) p) ∙ ap (shownWalk 0 place) read
+        shows : answer.Ok later ≡ walkResult 0 place (entered L left place at (drop at s))
+        shows = sym is ∙ one place (ap (λ k. againShown k walked) p) ∙ ap (walkResult 0 place) read
 
         rows : Wrote place (function L (left - 1) place at (drop at s)) l l′
         rows = its place (ap (λ k. againShown k walked) p)
@@ -162,7 +162,7 @@ module _ (s : Bytes) (L : ResourceLimits) (first : Where) (n left from : ℕ) (l
             behind : (qs rs : List Prototype) (mid : ℕ) (t : Bytes) → entered L left place at (drop at s) ≡ ok qs mid t → forest (more - 1) (entered L left) (after qs place) mid t ≡ ok rs to rest → qs ++ rs ≡ a .left
                 → Part s (entered L left) w (joinedShown walked later) (more - 1) l₀ l′ ps to rest
             behind qs rs mid t e₁ e₂ same =
-                let after-qs : answer.Ok later ≡ shownWalk 0 place (ok qs mid t) = shows ∙ ap (shownWalk 0 place) e₁ in
+                let after-qs : answer.Ok later ≡ walkResult 0 place (ok qs mid t) = shows ∙ ap (walkResult 0 place) e₁ in
                 let all-shown : later ≡ walkedOf 0 place qs mid = cc in
                 let whole : ps ≡ a .passed ++ (qs ++ rs) = a .all ∙ ap (λ x. a .passed ++ x) (sym same) in
                 let here : t ≡ drop mid s = lefts.left (exact-entered L left place) s at e₁ in

@@ -4,7 +4,7 @@ ghost use Prim.Native.Nat.{_+_, _≤_};
 ghost use lib.ListN.{drop};
 ghost use Rattle.format.specs.GrammarChunk as grammar;
 ghost use Rattle.format.specs.ReadChunk.{forest, function};
-ghost use Rattle.chunk.specs.Walk.{shownWhere, entered, shownWalk};
+ghost use Rattle.chunk.specs.Walk.{shownWhere, entered, walkResult};
 ghost use Rattle.index_walk.specs.Written.{Wrote};
 use chunk::walk::WalkResult;
 use chunk::walk::Walked;
@@ -34,7 +34,7 @@ pub fn write_function(
     rows: &mut [u32],
 ) -> WalkResult
     requires { ⌜ (limits .«max_total_prototypes» ≤ 16777216) × (limits .«max_total_instructions» ≤ 16777216) × (place .number ≤ 16777216) × (place .depth + left ≤ 200) ⌝ }
-    ensures { λ r. ⌜ ((w : grammar.Where) → place ≡ shownWhere w → r ≡ shownWalk 0 w (function limits left w (cursor .at) (drop (cursor .at) (now (s .entry))))) ⌝ }
+    ensures { λ r. ⌜ ((w : grammar.Where) → place ≡ shownWhere w → r ≡ walkResult 0 w (function limits left w (cursor .at) (drop (cursor .at) (now (s .entry))))) ⌝ }
     ensures { λ _. ⌜ ((w : grammar.Where) → place ≡ shownWhere w → Wrote w (function limits left w (cursor .at) (drop (cursor .at) (now (s .entry)))) (now (rows .entry)) (now (rows .exit))) ⌝ }
 {
     let begins = read_head(s, limits, place.instructions, cursor);
@@ -75,7 +75,7 @@ fn write_functions(
     rows: &mut [u32],
 ) -> WalkResult
     requires { ⌜ (limits .«max_total_prototypes» ≤ 16777216) × (limits .«max_total_instructions» ≤ 16777216) × (first .depth + left ≤ 201) ⌝ }
-    ensures { λ r. ⌜ ((w : grammar.Where) → first ≡ shownWhere w → r ≡ shownWalk 0 w (forest n (entered limits left) w (cursor .at) (drop (cursor .at) (now (s .entry))))) ⌝ }
+    ensures { λ r. ⌜ ((w : grammar.Where) → first ≡ shownWhere w → r ≡ walkResult 0 w (forest n (entered limits left) w (cursor .at) (drop (cursor .at) (now (s .entry))))) ⌝ }
     ensures { λ _. ⌜ ((w : grammar.Where) → first ≡ shownWhere w → Wrote w (forest n (entered limits left) w (cursor .at) (drop (cursor .at) (now (s .entry)))) (now (rows .entry)) (now (rows .exit))) ⌝ }
 {
     let mut walked = Walked {

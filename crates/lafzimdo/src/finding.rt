@@ -3,7 +3,7 @@ ghost use mathlib.Core.Path.{_≡_};
 ghost use Prim.Native.Nat.{_/_};
 ghost use lib.ListN.{length};
 ghost use Rattle.format.specs.ReadChunk.{read};
-ghost use Rattle.finding_plan.specs.Listed.{shownFindings};
+ghost use Rattle.finding_plan.specs.Validated.{shownFindings};
 ghost use Rattle.boundary.specs.Status.{limitsOf, status, written};
 ghost use Rattle.finding_list.specs.FindingNumbers.{ofFindings, numbersWritten};
 use finding_list::list_findings;

@@ -23,7 +23,7 @@ use Rattle.anchors.specs.declared.ScanResult.the-variants as scan
 use Rattle.lines.specs.declared.line.LineAnswer.{LineAnswer}
 use Rattle.lines.specs.declared.line.LineAnswer.the-variants as answer
 use Rattle.lines.specs.Lines.{answerOf}
-use Rattle.anchors.specs.Scan.{scanned, startOf, shownScan}
+use Rattle.anchors.specs.Scan.{scanned, startOf, scanResult}
 use Rattle.lines.specs.Scan.{startIn, lineFrom, numberedOf, answered, shownRowLine}
 use Rattle.anchors.specs.declared.Sought.{Sought}
 use Rattle.anchors.specs.declared.Sought.the-variants.{Ahead, At}
@@ -51,10 +51,10 @@ module _ (row : FunctionRow) (pc : ℕ) (s : Bytes) where
 
   module _ {cut : Bytes} (is : cut ≡ take (pc + 1) deltas) where
     -- an anchor is refused
-    pub scan-refused : (q : Refusal) → scan.Err q ≡ shownScan cut pc (startOf pc line) anchorsRead → answer.Err q ≡ shownRowLine row pc s
+    pub scan-refused : (q : Refusal) → scan.Err q ≡ scanResult cut pc (startOf pc line) anchorsRead → answer.Err q ≡ shownRowLine row pc s
     scan-refused q e = by anchorsRead e
       where
-        by : (o : Read (List AbsLineInfo)) → scan.Err q ≡ shownScan cut pc (startOf pc line) o → answer.Err q ≡ answered row pc s o
+        by : (o : Read (List AbsLineInfo)) → scan.Err q ≡ scanResult cut pc (startOf pc line) o → answer.Err q ≡ answered row pc s o
         by (ok xs to rest) e = absurd (let z : _≡_ {A = ℕ} 0 1 = cc in omega arith)
         by (refused p) e = cc
 
@@ -64,16 +64,16 @@ module _ (row : FunctionRow) (pc : ℕ) (s : Bytes) where
       found : Found s (many count anchor) place anchors
       gives : z ≡ scanned (take (pc + 1) deltas) pc (startOf pc line) anchors
 
-    passed : {z : Scan} → scan.Ok z ≡ shownScan cut pc (startOf pc line) anchorsRead → Passed z
+    passed : {z : Scan} → scan.Ok z ≡ scanResult cut pc (startOf pc line) anchorsRead → Passed z
     passed {z} e = by anchorsRead refl e
       where
-        by : (o : Read (List AbsLineInfo)) → anchorsRead ≡ o → scan.Ok z ≡ shownScan cut pc (startOf pc line) o → Passed z
+        by : (o : Read (List AbsLineInfo)) → anchorsRead ≡ o → scan.Ok z ≡ scanResult cut pc (startOf pc line) o → Passed z
         by (ok xs to rest) p e =
             let same : z ≡ scanned cut pc (startOf pc line) xs = cc in
             record { anchors = xs; found = record { to = to; rest = rest; is = p }; gives = same ∙ ap (λ c. scanned c pc (startOf pc line) xs) is }
         by (refused q) p e = absurd (let z : _≡_ {A = ℕ} 0 1 = cc in omega arith)
 
-    module _ {z : Scan} (e : scan.Ok z ≡ shownScan cut pc (startOf pc line) anchorsRead) where
+    module _ {z : Scan} (e : scan.Ok z ≡ scanResult cut pc (startOf pc line) anchorsRead) where
       p : Passed z
       p = passed e
 

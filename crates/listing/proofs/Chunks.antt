@@ -14,7 +14,7 @@ use Rattle.prototype.specs.declared.row.OptionRow.the-variants as option
 use Rattle.prototype.specs.declared.row.FunctionRow.{FunctionRow}
 use Rattle.decode.specs.declared.summary.Decoded.{Decoded}
 use Rattle.decode.specs.declared.summary.DecodedResult.the-variants as decoded
-use Rattle.decode.specs.Decoded.{shownOutcome}
+use Rattle.decode.specs.Decoded.{decodedResult}
 use Rattle.functions.specs.Rows.{chunkRows}
 use Rattle.functions.proofs.Agreement.{rowsFor}
 use Rattle.rules.specs.declared.finding.Verdict.{Verdict}
@@ -37,7 +37,7 @@ read-listed bytes (shown r) v e = let same : v ≡ verdict (chunkFindings r) = c
 read-listed bytes (refusal q) v e = absurd (let z : _≡_ {A = ℕ} 0 1 = cc in omega arith)
 
 -- ## By what the first pass showed
-pub refused-lines : (bytes : ℕ) (v : Verdict) (o : Outcome) (q : Refusal) → decoded.Err q ≡ shownOutcome 0 o → [] ≡ linesOf bytes v o
+pub refused-lines : (bytes : ℕ) (v : Verdict) (o : Outcome) (q : Refusal) → decoded.Err q ≡ decodedResult 0 o → [] ≡ linesOf bytes v o
 refused-lines bytes v (shown r) q e = absurd (let z : _≡_ {A = ℕ} 0 1 = cc in omega arith)
 refused-lines bytes v (refusal p) q e = refl
 
@@ -50,7 +50,7 @@ as-many : (ps : List Prototype) → length (rowsFor ps) ≡ length ps
 as-many [] = refl
 as-many (p ∷ ps) = rw (as-many ps)
 
-module _ (L : ResourceLimits) (s : Bytes) (d : Decoded) (e : decoded.Ok d ≡ shownOutcome 0 (read L s)) (row : FunctionRow) (found : d .row ≡ option.Some row) where
+module _ (L : ResourceLimits) (s : Bytes) (d : Decoded) (e : decoded.Ok d ≡ decodedResult 0 (read L s)) (row : FunctionRow) (found : d .row ≡ option.Some row) where
   pub all-counted : length (chunkRows L s (row .start)) ≡ d .summary .functions
   all-counted = ap length (rows-shown L s d e row found) ∙ as-many (r L s d e .functions) ∙ sym (ap (λ k. k .summary .functions) (shows L s d e))
 

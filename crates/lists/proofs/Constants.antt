@@ -18,19 +18,19 @@ use Rattle.format.proofs.ExactFields.{exact-field}
 use Rattle.cursor.specs.declared.Cursor.{Cursor}
 use Rattle.reader.specs.declared.field.U8Result.the-variants as u8
 use Rattle.cursor.specs.Shown.{cursorAt}
-use Rattle.reader.specs.Shown.{shownU8, shownU64, shownString}
+use Rattle.reader.specs.Shown.{u8Result, u64Result, stringResult}
 use Rattle.reader.proofs.Shows.{Showed, onward, u8-err, u8-ok}
 use Rattle.lists.specs.declared.constant.ConstantValue as declared
 use Rattle.lists.specs.declared.constant.ConstantResult.{ConstantResult}
 use Rattle.lists.specs.declared.constant.ConstantResult.the-variants as answer
-use Rattle.lists.specs.Shown.{integerOf, floatOf, shortStringOf, longStringOf, constantValue, shownConstant}
+use Rattle.lists.specs.Shown.{integerOf, floatOf, shortStringOf, longStringOf, constantValue, constantResult}
 
 -- ## Behind a tag
-pub integer-shown : (o : Read ℕ) → integerOf (shownU64 o) ≡ shownConstant (next o (λ n. give (integer n)))
+pub integer-shown : (o : Read ℕ) → integerOf (u64Result o) ≡ constantResult (next o (λ n. give (integer n)))
 integer-shown (ok n to rest) = refl
 integer-shown (refused q) = refl
 
-pub float-shown : (o : Read ℕ) → floatOf (shownU64 o) ≡ shownConstant (next o (λ n. give (float n)))
+pub float-shown : (o : Read ℕ) → floatOf (u64Result o) ≡ constantResult (next o (λ n. give (float n)))
 float-shown (ok n to rest) = refl
 float-shown (refused q) = refl
 
@@ -38,31 +38,31 @@ float-shown (refused q) = refl
 abbrev orNothing : Option LuaString → Reader LuaString
 orNothing t = here >>= λ place. give (orElse t (record { place = place; bytes = [] }))
 
-pub short-shown : (o : Read (Option LuaString)) → shortStringOf (shownString o) ≡ shownConstant (next (next o orNothing) (λ t. give (short-string t)))
+pub short-shown : (o : Read (Option LuaString)) → shortStringOf (stringResult o) ≡ constantResult (next (next o orNothing) (λ t. give (short-string t)))
 short-shown (ok none to rest) = refl
 short-shown (ok (some t) to rest) = refl
 short-shown (refused q) = refl
 
-pub long-shown : (o : Read (Option LuaString)) → longStringOf (shownString o) ≡ shownConstant (next (next o orNothing) (λ t. give (long-string t)))
+pub long-shown : (o : Read (Option LuaString)) → longStringOf (stringResult o) ≡ constantResult (next (next o orNothing) (λ t. give (long-string t)))
 long-shown (ok none to rest) = refl
 long-shown (ok (some t) to rest) = refl
 long-shown (refused q) = refl
 
 -- ## The tag
 module _ (s : Bytes) (limit at : ℕ) where
-  pub tag-refused : (q : Refusal) → u8.Err q ≡ shownU8 (field 1 at (drop at s)) → answer.Err q ≡ shownConstant (constant limit at (drop at s))
+  pub tag-refused : (q : Refusal) → u8.Err q ≡ u8Result (field 1 at (drop at s)) → answer.Err q ≡ constantResult (constant limit at (drop at s))
   tag-refused q e = rw (u8-err (field 1 at (drop at s)) q e)
 
-  pub tag-read : (v : ℕ) (c : Cursor) → u8.Ok v c ≡ shownU8 (field 1 at (drop at s)) → {r : ConstantResult} → r ≡ shownConstant (tagged limit at v (c .at) (drop (c .at) s))
-      → r ≡ shownConstant (constant limit at (drop at s))
+  pub tag-read : (v : ℕ) (c : Cursor) → u8.Ok v c ≡ u8Result (field 1 at (drop at s)) → {r : ConstantResult} → r ≡ constantResult (tagged limit at v (c .at) (drop (c .at) s))
+      → r ≡ constantResult (constant limit at (drop at s))
   tag-read v c e f = rw (onward (exact-field 1) s at (u8-ok (field 1 at (drop at s)) v c e)) f
 
 -- ## From what was shown back to what was read
-pub constant-err : (o : Read ConstantValue) (q : Refusal) → answer.Err q ≡ shownConstant o → o ≡ refused q
+pub constant-err : (o : Read ConstantValue) (q : Refusal) → answer.Err q ≡ constantResult o → o ≡ refused q
 constant-err (ok k to rest) q e = absurd (let z : _≡_ {A = ℕ} 0 1 = cc in omega arith)
 constant-err (refused p) q e = cc
 
-pub constant-ok : (o : Read ConstantValue) (shown : declared.ConstantValue) (c : Cursor) → answer.Ok shown c ≡ shownConstant o → Showed constantValue o shown (c .at)
+pub constant-ok : (o : Read ConstantValue) (shown : declared.ConstantValue) (c : Cursor) → answer.Ok shown c ≡ constantResult o → Showed constantValue o shown (c .at)
 constant-ok (ok k to rest) shown c e =
     let next : c ≡ cursorAt to = cc in
     record { value = k; was = record { rest = rest; is = rw next }; shows = cc }

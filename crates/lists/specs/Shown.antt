@@ -62,15 +62,15 @@ constantValue (reading.float n) = constant.Float n
 constantValue (reading.short-string t) = constant.ShortString (stringAt t)
 constantValue (reading.long-string t) = constant.LongString (stringAt t)
 
-abbrev pub shownConstant : Read reading.ConstantValue → ConstantResult
-shownConstant (ok k to rest) = answer.Ok (constantValue k) (cursorAt to)
-shownConstant (refused q) = answer.Err q
+abbrev pub constantResult : Read reading.ConstantValue → ConstantResult
+constantResult (ok k to rest) = answer.Ok (constantValue k) (cursorAt to)
+constantResult (refused q) = answer.Err q
 
 -- ## Debug information
-abbrev pub shownAnchor : Read AbsLineInfo → AnchorResult
-shownAnchor (ok a to rest) = anchor.Ok a (cursorAt to)
-shownAnchor (refused q) = anchor.Err q
+abbrev pub anchorResult : Read AbsLineInfo → AnchorResult
+anchorResult (ok a to rest) = anchor.Ok a (cursorAt to)
+anchorResult (refused q) = anchor.Err q
 
-abbrev pub shownLocal : Read RawLocal → LocalResult
-shownLocal (ok l to rest) = local.Ok (optionString (l .name)) (l .startpc) (l .endpc) (cursorAt to)
-shownLocal (refused q) = local.Err q
+abbrev pub localResult : Read RawLocal → LocalResult
+localResult (ok l to rest) = local.Ok (optionString (l .name)) (l .startpc) (l .endpc) (cursorAt to)
+localResult (refused q) = local.Err q

@@ -5,8 +5,8 @@ ghost use mir.Syntax.{w64};
 ghost use mir.Val.{toZ};
 ghost use Rattle.format.specs.Read.{many};
 ghost use Rattle.format.specs.ReadChunk as spec;
-ghost use Rattle.cursor.specs.Shown.{shownCursor};
-ghost use Rattle.lists.specs.Shown.{orEmpty, integerOf, floatOf, shortStringOf, longStringOf, shownConstant};
+ghost use Rattle.cursor.specs.Shown.{cursorResult};
+ghost use Rattle.lists.specs.Shown.{orEmpty, integerOf, floatOf, shortStringOf, longStringOf, constantResult};
 use cursor::Cursor;
 use cursor::CursorResult;
 use format::refusal::Refusal;
@@ -114,7 +114,7 @@ fn read_tagged(
     place: usize,
     tag: u8,
 ) -> ConstantResult
-    ensures { λ r. ⌜ r ≡ shownConstant (spec.tagged «max_string_bytes» place tag (cursor .at) (drop (cursor .at) (now (s .entry)))) ⌝ }
+    ensures { λ r. ⌜ r ≡ constantResult (spec.tagged «max_string_bytes» place tag (cursor .at) (drop (cursor .at) (now (s .entry)))) ⌝ }
 {
     match tag {
         0 => ConstantResult::Ok {
@@ -139,7 +139,7 @@ fn read_tagged(
 
 // Ruled out: the tags of false and true exchanged, a string of size 0 refused.
 pub fn read_constant(s: &[u8], cursor: Cursor, max_string_bytes: usize) -> ConstantResult
-    ensures { λ r. ⌜ r ≡ shownConstant (spec.constant «max_string_bytes» (cursor .at) (drop (cursor .at) (now (s .entry)))) ⌝ }
+    ensures { λ r. ⌜ r ≡ constantResult (spec.constant «max_string_bytes» (cursor .at) (drop (cursor .at) (now (s .entry)))) ⌝ }
 {
     let read = read_u8(s, cursor);
     match read {
@@ -150,7 +150,7 @@ pub fn read_constant(s: &[u8], cursor: Cursor, max_string_bytes: usize) -> Const
 
 // Passes over n constants. Ruled out: a constant passed over by its tag alone, the last one left out.
 pub fn skip_constants(s: &[u8], cursor: Cursor, n: usize, max_string_bytes: usize) -> CursorResult
-    ensures { λ r. ⌜ r ≡ shownCursor (many n (spec.constant «max_string_bytes») (cursor .at) (drop (cursor .at) (now (s .entry)))) ⌝ }
+    ensures { λ r. ⌜ r ≡ cursorResult (many n (spec.constant «max_string_bytes») (cursor .at) (drop (cursor .at) (now (s .entry)))) ⌝ }
 {
     let mut next = cursor;
     let mut left = n;

@@ -3,9 +3,9 @@ ghost use mathlib.Core.Path.{_≡_};
 ghost use lib.ListN.{drop};
 ghost use Rattle.format.specs.Read.{many};
 ghost use Rattle.format.specs.ReadChunk.{anchor, local};
-ghost use Rattle.cursor.specs.Shown.{shownCursor};
+ghost use Rattle.cursor.specs.Shown.{cursorResult};
 ghost use Rattle.lists.specs.Readers.{rawLocal};
-ghost use Rattle.lists.specs.Shown.{shownAnchor, shownLocal};
+ghost use Rattle.lists.specs.Shown.{anchorResult, localResult};
 use cursor::Cursor;
 use cursor::CursorResult;
 use format::entry::AbsLineInfo;
@@ -34,7 +34,7 @@ pub enum LocalResult {
 
 // Ruled out: pc and line exchanged, the place behind pc given as the next.
 pub fn read_anchor(s: &[u8], cursor: Cursor) -> AnchorResult
-    ensures { λ r. ⌜ r ≡ shownAnchor (anchor (cursor .at) (drop (cursor .at) (now (s .entry)))) ⌝ }
+    ensures { λ r. ⌜ r ≡ anchorResult (anchor (cursor .at) (drop (cursor .at) (now (s .entry)))) ⌝ }
 {
     let pc = read_varint_lua54(s, cursor);
     match pc {
@@ -57,7 +57,7 @@ pub fn read_anchor(s: &[u8], cursor: Cursor) -> AnchorResult
 
 // Passes over n anchors. Ruled out: one number an anchor, the last anchor left out.
 pub fn skip_anchors(s: &[u8], cursor: Cursor, n: usize) -> CursorResult
-    ensures { λ r. ⌜ r ≡ shownCursor (many n anchor (cursor .at) (drop (cursor .at) (now (s .entry)))) ⌝ }
+    ensures { λ r. ⌜ r ≡ cursorResult (many n anchor (cursor .at) (drop (cursor .at) (now (s .entry)))) ⌝ }
 {
     let mut next = cursor;
     let mut left = n;
@@ -79,7 +79,7 @@ pub fn skip_anchors(s: &[u8], cursor: Cursor, n: usize) -> CursorResult
 
 // Ruled out: an absent name given as an empty one, startpc and endpc exchanged.
 pub fn read_local(s: &[u8], cursor: Cursor, max_string_bytes: usize) -> LocalResult
-    ensures { λ r. ⌜ r ≡ shownLocal (rawLocal «max_string_bytes» (cursor .at) (drop (cursor .at) (now (s .entry)))) ⌝ }
+    ensures { λ r. ⌜ r ≡ localResult (rawLocal «max_string_bytes» (cursor .at) (drop (cursor .at) (now (s .entry)))) ⌝ }
 {
     let name = read_string_lua54(s, cursor, max_string_bytes);
     match name {
@@ -107,7 +107,7 @@ pub fn read_local(s: &[u8], cursor: Cursor, max_string_bytes: usize) -> LocalRes
 
 // Passes over n local variables. Ruled out: an absent name that is refused, the name passed over without its bytes.
 pub fn skip_locals(s: &[u8], cursor: Cursor, n: usize, max_string_bytes: usize) -> CursorResult
-    ensures { λ r. ⌜ r ≡ shownCursor (many n (local «max_string_bytes») (cursor .at) (drop (cursor .at) (now (s .entry)))) ⌝ }
+    ensures { λ r. ⌜ r ≡ cursorResult (many n (local «max_string_bytes») (cursor .at) (drop (cursor .at) (now (s .entry)))) ⌝ }
 {
     let mut next = cursor;
     let mut left = n;

@@ -4,7 +4,7 @@ ghost use lib.ListN.{drop};
 ghost use Rattle.format.specs.Read.{many};
 ghost use Rattle.format.specs.ReadFields.{field};
 ghost use Rattle.format.specs.ReadChunk.{upvalue};
-ghost use Rattle.cursor.specs.Shown.{shownCursor};
+ghost use Rattle.cursor.specs.Shown.{cursorResult};
 use cursor::Cursor;
 use cursor::CursorResult;
 use cursor::remaining;
@@ -12,7 +12,7 @@ use cursor::short;
 
 // Passes over n instruction words. Ruled out: one word too few, the place of a missing byte instead of that of its word.
 pub fn skip_words(s: &[u8], cursor: Cursor, n: usize) -> CursorResult
-    ensures { λ r. ⌜ r ≡ shownCursor (many n (field 4) (cursor .at) (drop (cursor .at) (now (s .entry)))) ⌝ }
+    ensures { λ r. ⌜ r ≡ cursorResult (many n (field 4) (cursor .at) (drop (cursor .at) (now (s .entry)))) ⌝ }
 {
     let at = cursor.at;
     let there = remaining(s, cursor) / 4;
@@ -24,7 +24,7 @@ pub fn skip_words(s: &[u8], cursor: Cursor, n: usize) -> CursorResult
 
 // Passes over n upvalues of three bytes. Ruled out: two bytes accepted for the last one, its place instead of that of its missing byte.
 pub fn skip_upvalues(s: &[u8], cursor: Cursor, n: usize) -> CursorResult
-    ensures { λ r. ⌜ r ≡ shownCursor (many n upvalue (cursor .at) (drop (cursor .at) (now (s .entry)))) ⌝ }
+    ensures { λ r. ⌜ r ≡ cursorResult (many n upvalue (cursor .at) (drop (cursor .at) (now (s .entry)))) ⌝ }
 {
     let at = cursor.at;
     let there = remaining(s, cursor);

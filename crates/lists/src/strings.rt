@@ -3,7 +3,7 @@ ghost use mathlib.Core.Path.{_≡_};
 ghost use lib.ListN.{drop};
 ghost use Rattle.format.specs.Read.{many};
 ghost use Rattle.format.specs.ReadFields.{string};
-ghost use Rattle.cursor.specs.Shown.{shownCursor};
+ghost use Rattle.cursor.specs.Shown.{cursorResult};
 use cursor::Cursor;
 use cursor::CursorResult;
 use reader::string::StringResult;
@@ -11,7 +11,7 @@ use reader::string::read_string_lua54;
 
 // Passes over n strings. Ruled out: an absent string that takes no bytes, the limit tested against all strings together.
 pub fn skip_strings(s: &[u8], cursor: Cursor, n: usize, max_string_bytes: usize) -> CursorResult
-    ensures { λ r. ⌜ r ≡ shownCursor (many n (string «max_string_bytes») (cursor .at) (drop (cursor .at) (now (s .entry)))) ⌝ }
+    ensures { λ r. ⌜ r ≡ cursorResult (many n (string «max_string_bytes») (cursor .at) (drop (cursor .at) (now (s .entry)))) ⌝ }
 {
     let mut next = cursor;
     let mut left = n;

@@ -31,12 +31,12 @@ use Rattle.prototype.specs.declared.parts.TailResult.the-variants as tail
 use Rattle.format.specs.Form.{Bytes}
 use Rattle.format.specs.ReadFields as fields
 use Rattle.format.specs.ReadChunk as chunk
-use Rattle.reader.specs.Shown.{shownU8, shownU32, shownString}
+use Rattle.reader.specs.Shown.{u8Result, u32Result, stringResult}
 use Rattle.lists.specs.Readers.{rawLocal}
-use Rattle.lists.specs.Shown.{shownConstant, shownAnchor, shownLocal}
-use Rattle.entries.specs.Shown.{shownUpvalue}
+use Rattle.lists.specs.Shown.{constantResult, anchorResult, localResult}
+use Rattle.entries.specs.Shown.{upvalueResult}
 use Rattle.prototype.specs.Parts as parts
-use Rattle.prototype.specs.PartsShown.{shownHead, shownTail}
+use Rattle.prototype.specs.PartsShown.{headResult, tailResult}
 use Rattle.boundary.specs.Status.{limitsOf, Answer, done, refuses, complement}
 use Rattle.numbers.specs.Numbers.{presentNumber, placeNumber, lengthNumber, stringNumbers, constantNumbers, upvalueNumbers, anchorNumbers}
 
@@ -127,28 +127,28 @@ ofStringAt (string.Err q) = refuses q
 
 -- ## What each call answers
 abbrev pub headAt : List ℕ → ℕ → Bytes → Answer
-headAt limits place s = ofHead (shownHead (parts.head (limitsOf limits) 0 place (drop place s)))
+headAt limits place s = ofHead (headResult (parts.head (limitsOf limits) 0 place (drop place s)))
 
 abbrev pub tailAt : List ℕ → ℕ → Bytes → Answer
-tailAt limits place s = ofTail (shownTail (parts.tail (limitsOf limits .«max_string_bytes») place (drop place s)))
+tailAt limits place s = ofTail (tailResult (parts.tail (limitsOf limits .«max_string_bytes») place (drop place s)))
 
 abbrev pub wordAt : ℕ → Bytes → Answer
-wordAt place s = ofWordAt (shownU32 (fields.field 4 place (drop place s)))
+wordAt place s = ofWordAt (u32Result (fields.field 4 place (drop place s)))
 
 abbrev pub constantAt : List ℕ → ℕ → Bytes → Answer
-constantAt limits place s = ofConstantAt (shownConstant (chunk.constant (limitsOf limits .«max_string_bytes») place (drop place s)))
+constantAt limits place s = ofConstantAt (constantResult (chunk.constant (limitsOf limits .«max_string_bytes») place (drop place s)))
 
 abbrev pub upvalueAt : ℕ → Bytes → Answer
-upvalueAt place s = ofUpvalueAt (shownUpvalue (chunk.upvalue place (drop place s)))
+upvalueAt place s = ofUpvalueAt (upvalueResult (chunk.upvalue place (drop place s)))
 
 abbrev pub deltaAt : ℕ → Bytes → Answer
-deltaAt place s = ofDeltaAt (shownU8 (fields.field 1 place (drop place s)))
+deltaAt place s = ofDeltaAt (u8Result (fields.field 1 place (drop place s)))
 
 abbrev pub anchorAt : ℕ → Bytes → Answer
-anchorAt place s = ofAnchorAt (shownAnchor (chunk.anchor place (drop place s)))
+anchorAt place s = ofAnchorAt (anchorResult (chunk.anchor place (drop place s)))
 
 abbrev pub localAt : List ℕ → ℕ → Bytes → Answer
-localAt limits place s = ofLocalAt (shownLocal (rawLocal (limitsOf limits .«max_string_bytes») place (drop place s)))
+localAt limits place s = ofLocalAt (localResult (rawLocal (limitsOf limits .«max_string_bytes») place (drop place s)))
 
 abbrev pub stringAt : List ℕ → ℕ → Bytes → Answer
-stringAt limits place s = ofStringAt (shownString (fields.string (limitsOf limits .«max_string_bytes») place (drop place s)))
+stringAt limits place s = ofStringAt (stringResult (fields.string (limitsOf limits .«max_string_bytes») place (drop place s)))

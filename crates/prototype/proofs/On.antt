@@ -10,14 +10,14 @@ use Rattle.format.proofs.Exact.{Exact}
 use Rattle.cursor.specs.declared.Cursor.{Cursor}
 use Rattle.reader.specs.declared.field.U8Result.the-variants as u8
 use Rattle.reader.specs.declared.field.U64Result.the-variants as u64
-use Rattle.reader.specs.Shown.{shownU8, shownU64}
+use Rattle.reader.specs.Shown.{u8Result, u64Result}
 use Rattle.reader.proofs.Shows.{onward, u8-ok, u64-ok}
 
 module _ (s : Bytes) (at : ℕ) {r : Reader ℕ} {F : Form ℕ} (exact : Exact r F) (v : ℕ) (c : Cursor) where
-  pub u64-on : u64.Ok v c ≡ shownU64 (r at (drop at s)) → r at (drop at s) ≡ ok v (c .at) (drop (c .at) s)
+  pub u64-on : u64.Ok v c ≡ u64Result (r at (drop at s)) → r at (drop at s) ≡ ok v (c .at) (drop (c .at) s)
   u64-on e = onward exact s at (u64-ok (r at (drop at s)) v c e)
 
-  pub u8-on : u8.Ok v c ≡ shownU8 (r at (drop at s)) → r at (drop at s) ≡ ok v (c .at) (drop (c .at) s)
+  pub u8-on : u8.Ok v c ≡ u8Result (r at (drop at s)) → r at (drop at s) ≡ ok v (c .at) (drop (c .at) s)
   u8-on e = onward exact s at (u8-ok (r at (drop at s)) v c e)
 
 -- one step of a reader: by what its first part gave

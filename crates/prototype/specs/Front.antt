@@ -40,14 +40,14 @@ front limit = do
   three ← sizes
   give (record { source = source; lines = between; sizes = three })
 
-abbrev pub shownLines : Read Lines → LinesResult
-shownLines (ok x to rest) = lines-answer.Ok x (cursorAt to)
-shownLines (refused q) = lines-answer.Err q
+abbrev pub linesResult : Read Lines → LinesResult
+linesResult (ok x to rest) = lines-answer.Ok x (cursorAt to)
+linesResult (refused q) = lines-answer.Err q
 
-abbrev pub shownSizes : Read Sizes → SizesResult
-shownSizes (ok x to rest) = sizes-answer.Ok x (cursorAt to)
-shownSizes (refused q) = sizes-answer.Err q
+abbrev pub sizesResult : Read Sizes → SizesResult
+sizesResult (ok x to rest) = sizes-answer.Ok x (cursorAt to)
+sizesResult (refused q) = sizes-answer.Err q
 
-abbrev pub shownFront : Read Front → FrontResult
-shownFront (ok x to rest) = front-answer.Ok (record { source = optionString (x .source); lines = x .lines; sizes = x .sizes }) (cursorAt to)
-shownFront (refused q) = front-answer.Err q
+abbrev pub frontResult : Read Front → FrontResult
+frontResult (ok x to rest) = front-answer.Ok (record { source = optionString (x .source); lines = x .lines; sizes = x .sizes }) (cursorAt to)
+frontResult (refused q) = front-answer.Err q

@@ -39,14 +39,14 @@ tailOf t = record {
   «upvalue_names» = shownAt (t .upvalue-names);
 }
 
-abbrev pub shownHeadLists : Read HeadLists → HeadListsResult
-shownHeadLists (ok x to rest) = lists-answer.Ok (listsOf x) (cursorAt to)
-shownHeadLists (refused q) = lists-answer.Err q
+abbrev pub headListsResult : Read HeadLists → HeadListsResult
+headListsResult (ok x to rest) = lists-answer.Ok (listsOf x) (cursorAt to)
+headListsResult (refused q) = lists-answer.Err q
 
-abbrev pub shownHead : Read Head → HeadResult
-shownHead (ok x to rest) = head-answer.Ok (headOf x) (cursorAt to)
-shownHead (refused q) = head-answer.Err q
+abbrev pub headResult : Read Head → HeadResult
+headResult (ok x to rest) = head-answer.Ok (headOf x) (cursorAt to)
+headResult (refused q) = head-answer.Err q
 
-abbrev pub shownTail : Read Tail → TailResult
-shownTail (ok x to rest) = tail-answer.Ok (tailOf x) (cursorAt to)
-shownTail (refused q) = tail-answer.Err q
+abbrev pub tailResult : Read Tail → TailResult
+tailResult (ok x to rest) = tail-answer.Ok (tailOf x) (cursorAt to)
+tailResult (refused q) = tail-answer.Err q

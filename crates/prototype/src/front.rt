@@ -1,7 +1,7 @@
 // What stands at the front of a function: its source, its lines and three bytes.
 ghost use mathlib.Core.Path.{_≡_};
 ghost use lib.ListN.{drop};
-ghost use Rattle.prototype.specs.Front.{lines, sizes, front, shownLines, shownSizes, shownFront};
+ghost use Rattle.prototype.specs.Front.{lines, sizes, front, linesResult, sizesResult, frontResult};
 use cursor::Cursor;
 use format::refusal::Refusal;
 use reader::field::U8Result;
@@ -24,7 +24,7 @@ pub enum LinesResult {
 }
 
 fn read_lines(s: &[u8], cursor: Cursor) -> LinesResult
-    ensures { λ r. ⌜ r ≡ shownLines (lines (cursor .at) (drop (cursor .at) (now (s .entry)))) ⌝ }
+    ensures { λ r. ⌜ r ≡ linesResult (lines (cursor .at) (drop (cursor .at) (now (s .entry)))) ⌝ }
 {
     let first = read_varint_lua54(s, cursor);
     match first {
@@ -61,7 +61,7 @@ pub enum SizesResult {
 }
 
 fn read_sizes(s: &[u8], cursor: Cursor) -> SizesResult
-    ensures { λ r. ⌜ r ≡ shownSizes (sizes (cursor .at) (drop (cursor .at) (now (s .entry)))) ⌝ }
+    ensures { λ r. ⌜ r ≡ sizesResult (sizes (cursor .at) (drop (cursor .at) (now (s .entry)))) ⌝ }
 {
     let first = read_u8(s, cursor);
     match first {
@@ -108,7 +108,7 @@ pub enum FrontResult {
 
 // A function from its source to its three bytes. Ruled out: an absent source that is shown as empty, the two lines exchanged.
 pub fn read_front(s: &[u8], cursor: Cursor, max_string_bytes: usize) -> FrontResult
-    ensures { λ r. ⌜ r ≡ shownFront (front «max_string_bytes» (cursor .at) (drop (cursor .at) (now (s .entry)))) ⌝ }
+    ensures { λ r. ⌜ r ≡ frontResult (front «max_string_bytes» (cursor .at) (drop (cursor .at) (now (s .entry)))) ⌝ }
 {
     let name = read_string_lua54(s, cursor, max_string_bytes);
     match name {

@@ -2,7 +2,7 @@
 ghost use mathlib.Core.Path.{_≡_};
 ghost use lib.ListN.{drop};
 ghost use Rattle.prototype.specs.Parts as parts;
-ghost use Rattle.prototype.specs.PartsShown.{shownHeadLists, shownHead, shownTail};
+ghost use Rattle.prototype.specs.PartsShown.{headListsResult, headResult, tailResult};
 use crate::front::Front;
 use crate::front::FrontResult;
 use crate::front::read_front;
@@ -38,7 +38,7 @@ fn read_head_lists(
     before: usize,
     cursor: Cursor,
 ) -> HeadListsResult
-    ensures { λ r. ⌜ r ≡ shownHeadLists (parts.headLists limits before (cursor .at) (drop (cursor .at) (now (s .entry)))) ⌝ }
+    ensures { λ r. ⌜ r ≡ headListsResult (parts.headLists limits before (cursor .at) (drop (cursor .at) (now (s .entry)))) ⌝ }
 {
     let code = instructions_list(
         s,
@@ -107,7 +107,7 @@ pub enum HeadResult {
 
 // A function up to the functions that nest in it. Ruled out: a limit of another list, nested functions counted from the wrong place.
 pub fn read_head(s: &[u8], limits: ResourceLimits, before: usize, cursor: Cursor) -> HeadResult
-    ensures { λ r. ⌜ r ≡ shownHead (parts.head limits before (cursor .at) (drop (cursor .at) (now (s .entry)))) ⌝ }
+    ensures { λ r. ⌜ r ≡ headResult (parts.head limits before (cursor .at) (drop (cursor .at) (now (s .entry)))) ⌝ }
 {
     let begins = read_front(s, cursor, limits.max_string_bytes);
     match begins {
@@ -158,7 +158,7 @@ pub enum TailResult {
 
 // A function behind the functions that nest in it. Ruled out: anchors taken for locals, the cursor before the names.
 pub fn read_tail(s: &[u8], max_string_bytes: usize, cursor: Cursor) -> TailResult
-    ensures { λ r. ⌜ r ≡ shownTail (parts.tail «max_string_bytes» (cursor .at) (drop (cursor .at) (now (s .entry)))) ⌝ }
+    ensures { λ r. ⌜ r ≡ tailResult (parts.tail «max_string_bytes» (cursor .at) (drop (cursor .at) (now (s .entry)))) ⌝ }
 {
     let deltas = line_info_list(s, cursor);
     match deltas {

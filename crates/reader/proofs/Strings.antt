@@ -19,30 +19,30 @@ use Rattle.cursor.specs.declared.CursorResult.the-variants as cursor
 use Rattle.reader.specs.declared.field.U64Result.the-variants as u64
 use Rattle.reader.specs.declared.string.OptionString.the-variants as option
 use Rattle.reader.specs.declared.string.StringResult.the-variants as answer
-use Rattle.cursor.specs.Shown.{cursorAt, shownCursor}
-use Rattle.reader.specs.Shown.{shownU64, shownString}
+use Rattle.cursor.specs.Shown.{cursorAt, cursorResult}
+use Rattle.reader.specs.Shown.{u64Result, stringResult}
 use Rattle.reader.proofs.Shows.{Was, onward, u64-err, u64-ok, cursor-err, cursor-ok}
 
 module _ (s : Bytes) (limit at : ℕ) where
-  pub size-refused : (q : Refusal) → u64.Err q ≡ shownU64 (number at (drop at s)) → answer.Err q ≡ shownString (string limit at (drop at s))
+  pub size-refused : (q : Refusal) → u64.Err q ≡ u64Result (number at (drop at s)) → answer.Err q ≡ stringResult (string limit at (drop at s))
   size-refused q e = rw (u64-err (number at (drop at s)) q e)
 
-  module _ (v : ℕ) (c : Cursor) (e : u64.Ok v c ≡ shownU64 (number at (drop at s))) where
+  module _ (v : ℕ) (c : Cursor) (e : u64.Ok v c ≡ u64Result (number at (drop at s))) where
     -- behind the size
     behind : string limit at (drop at s) ≡ content limit at v (c .at) (drop (c .at) s)
     behind = rw (onward exact-number s at (u64-ok (number at (drop at s)) v c e))
 
-    pub absent : v ≡ 0 → answer.Ok option.None c ≡ shownString (string limit at (drop at s))
+    pub absent : v ≡ 0 → answer.Ok option.None c ≡ stringResult (string limit at (drop at s))
     absent z = rw (behind, content-none limit at v (c .at) (drop (c .at) s) z)
 
-    pub too-long : v ≢ 0 → limit < v - 1 → answer.Err (StringBytes at) ≡ shownString (string limit at (drop at s))
+    pub too-long : v ≢ 0 → limit < v - 1 → answer.Err (StringBytes at) ≡ stringResult (string limit at (drop at s))
     too-long n l = rw (behind, content-long limit at v (c .at) (drop (c .at) s) n l)
 
-    pub cut : (q : Refusal) → v ≢ 0 → v - 1 ≤ limit → cursor.Err q ≡ shownCursor (run (v - 1) (c .at) (drop (c .at) s)) → answer.Err q ≡ shownString (string limit at (drop at s))
+    pub cut : (q : Refusal) → v ≢ 0 → v - 1 ≤ limit → cursor.Err q ≡ cursorResult (run (v - 1) (c .at) (drop (c .at) s)) → answer.Err q ≡ stringResult (string limit at (drop at s))
     cut q n l f = rw (behind, content-run limit at v (c .at) (drop (c .at) s) n l, cursor-err (run (v - 1) (c .at) (drop (c .at) s)) q f)
 
-    pub present : (end : Cursor) → v ≢ 0 → v - 1 ≤ limit → cursor.Ok end ≡ shownCursor (run (v - 1) (c .at) (drop (c .at) s))
-        → answer.Ok (option.Some (record { place = c .at; len = v - 1 })) end ≡ shownString (string limit at (drop at s))
+    pub present : (end : Cursor) → v ≢ 0 → v - 1 ≤ limit → cursor.Ok end ≡ cursorResult (run (v - 1) (c .at) (drop (c .at) s))
+        → answer.Ok (option.Some (record { place = c .at; len = v - 1 })) end ≡ stringResult (string limit at (drop at s))
     present end n l f =
         let p = cursor-ok (run (v - 1) (c .at) (drop (c .at) s)) end f in
         let a = exact-run (v - 1) .sound {at = c .at} {s = drop (c .at) s} (p .was .is) .spelt in

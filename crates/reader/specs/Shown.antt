@@ -16,23 +16,23 @@ use Rattle.reader.specs.declared.string.OptionString.the-variants as opt
 use Rattle.reader.specs.declared.string.StringResult.{StringResult}
 use Rattle.reader.specs.declared.string.StringResult.the-variants as string
 
-abbrev pub shownU8 : Read ℕ → U8Result
-shownU8 (ok v to rest) = u8.Ok v (cursorAt to)
-shownU8 (refused q) = u8.Err q
+abbrev pub u8Result : Read ℕ → U8Result
+u8Result (ok v to rest) = u8.Ok v (cursorAt to)
+u8Result (refused q) = u8.Err q
 
-abbrev pub shownU32 : Read ℕ → U32Result
-shownU32 (ok v to rest) = u32.Ok v (cursorAt to)
-shownU32 (refused q) = u32.Err q
+abbrev pub u32Result : Read ℕ → U32Result
+u32Result (ok v to rest) = u32.Ok v (cursorAt to)
+u32Result (refused q) = u32.Err q
 
-abbrev pub shownU64 : Read ℕ → U64Result
-shownU64 (ok v to rest) = u64.Ok v (cursorAt to)
-shownU64 (refused q) = u64.Err q
+abbrev pub u64Result : Read ℕ → U64Result
+u64Result (ok v to rest) = u64.Ok v (cursorAt to)
+u64Result (refused q) = u64.Err q
 
 -- of a string its place and length
 abbrev pub optionString : Option LuaString → OptionString
 optionString none = option.None
 optionString (some t) = option.Some (record { place = t .place; len = length (t .bytes) })
 
-abbrev pub shownString : Read (Option LuaString) → StringResult
-shownString (ok t to rest) = string.Ok (optionString t) (cursorAt to)
-shownString (refused q) = string.Err q
+abbrev pub stringResult : Read (Option LuaString) → StringResult
+stringResult (ok t to rest) = string.Ok (optionString t) (cursorAt to)
+stringResult (refused q) = string.Err q

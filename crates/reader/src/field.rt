@@ -2,7 +2,7 @@
 ghost use mathlib.Core.Path.{_≡_};
 ghost use lib.ListN.{drop};
 ghost use Rattle.format.specs.ReadFields.{field};
-ghost use Rattle.reader.specs.Shown.{shownU8, shownU32, shownU64};
+ghost use Rattle.reader.specs.Shown.{u8Result, u32Result, u64Result};
 use cursor::Cursor;
 use cursor::remaining;
 use cursor::short;
@@ -27,7 +27,7 @@ pub enum U64Result {
 
 // Ruled out: the byte before the cursor, a refusal where the last byte stands at the cursor.
 pub fn read_u8(s: &[u8], cursor: Cursor) -> U8Result
-    ensures { λ r. ⌜ r ≡ shownU8 (field 1 (cursor .at) (drop (cursor .at) (now (s .entry)))) ⌝ }
+    ensures { λ r. ⌜ r ≡ u8Result (field 1 (cursor .at) (drop (cursor .at) (now (s .entry)))) ⌝ }
 {
     let at = cursor.at;
     if at < s.len() {
@@ -41,7 +41,7 @@ pub fn read_u8(s: &[u8], cursor: Cursor) -> U8Result
 
 // Ruled out: high byte first, a refusal with the place of the missing byte instead of the field's.
 pub fn read_u32_le(s: &[u8], cursor: Cursor) -> U32Result
-    ensures { λ r. ⌜ r ≡ shownU32 (field 4 (cursor .at) (drop (cursor .at) (now (s .entry)))) ⌝ }
+    ensures { λ r. ⌜ r ≡ u32Result (field 4 (cursor .at) (drop (cursor .at) (now (s .entry)))) ⌝ }
 {
     let at = cursor.at;
     if remaining(s, cursor) < 4 {
@@ -55,7 +55,7 @@ pub fn read_u32_le(s: &[u8], cursor: Cursor) -> U32Result
 
 // Ruled out: the two halves swapped, a cursor that stays where it was.
 pub fn read_u64_le(s: &[u8], cursor: Cursor) -> U64Result
-    ensures { λ r. ⌜ r ≡ shownU64 (field 8 (cursor .at) (drop (cursor .at) (now (s .entry)))) ⌝ }
+    ensures { λ r. ⌜ r ≡ u64Result (field 8 (cursor .at) (drop (cursor .at) (now (s .entry)))) ⌝ }
 {
     let at = cursor.at;
     if remaining(s, cursor) < 8 {

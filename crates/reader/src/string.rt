@@ -2,7 +2,7 @@
 ghost use mathlib.Core.Path.{_≡_};
 ghost use lib.ListN.{drop};
 ghost use Rattle.format.specs.ReadFields.{string};
-ghost use Rattle.reader.specs.Shown.{shownString};
+ghost use Rattle.reader.specs.Shown.{stringResult};
 use crate::field::U64Result;
 use crate::varint::read_varint_lua54;
 use cursor::Cursor;
@@ -28,7 +28,7 @@ pub enum StringResult {
 
 // Ruled out: a length of the limit refused, the content looked for before its length is tested.
 pub fn read_string_lua54(s: &[u8], cursor: Cursor, max_string_bytes: usize) -> StringResult
-    ensures { λ r. ⌜ r ≡ shownString (string «max_string_bytes» (cursor .at) (drop (cursor .at) (now (s .entry)))) ⌝ }
+    ensures { λ r. ⌜ r ≡ stringResult (string «max_string_bytes» (cursor .at) (drop (cursor .at) (now (s .entry)))) ⌝ }
 {
     let first = cursor.at;
     let size = read_varint_lua54(s, cursor);

@@ -2,7 +2,7 @@
 ghost use mathlib.Core.Path.{_≡_};
 ghost use lib.ListN.{drop};
 ghost use Rattle.format.specs.ReadFields.{number};
-ghost use Rattle.reader.specs.Shown.{shownU64};
+ghost use Rattle.reader.specs.Shown.{u64Result};
 use crate::field::U64Result;
 use cursor::Cursor;
 use cursor::short;
@@ -11,7 +11,7 @@ use little::wide;
 
 // A number of any length.
 fn read_groups(s: &[u8], cursor: Cursor) -> U64Result
-    ensures { λ r. ⌜ r ≡ shownU64 (number (cursor .at) (drop (cursor .at) (now (s .entry)))) ⌝ }
+    ensures { λ r. ⌜ r ≡ u64Result (number (cursor .at) (drop (cursor .at) (now (s .entry)))) ⌝ }
 {
     let mut value: u64 = 0;
     let mut i = cursor.at;
@@ -35,7 +35,7 @@ fn read_groups(s: &[u8], cursor: Cursor) -> U64Result
 // A number. Most are one byte, so that is tried first; apart from the loop it is short enough to stand in every caller.
 // Ruled out: low group first, a number that is cut short reported as overflow.
 pub fn read_varint_lua54(s: &[u8], cursor: Cursor) -> U64Result
-    ensures { λ r. ⌜ r ≡ shownU64 (number (cursor .at) (drop (cursor .at) (now (s .entry)))) ⌝ }
+    ensures { λ r. ⌜ r ≡ u64Result (number (cursor .at) (drop (cursor .at) (now (s .entry)))) ⌝ }
 {
     let at = cursor.at;
     if s.len() <= at {

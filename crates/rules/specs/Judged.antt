@@ -14,10 +14,10 @@ abbrev pub ruleOf : OptionRule → Option Rule
 ruleOf (rule.Some r) = some r
 ruleOf rule.None = none
 
-abbrev pub listed : OptionFinding → List Finding
-listed finding.None = []
-listed (finding.Some f) = f ∷ []
+abbrev pub asList : OptionFinding → List Finding
+asList finding.None = []
+asList (finding.Some f) = f ∷ []
 
 abbrev pub groupOf : Judged → List Finding
 groupOf judged.Fine = []
-groupOf (judged.Wrong f w) = f ∷ listed w
+groupOf (judged.Wrong f w) = f ∷ asList w

@@ -1,4 +1,4 @@
--- The findings once more, as validator.rs has them: a list and a flag, tested before each function and each instruction. `kept` are the reading's warnings, with which
+-- The findings once more, as validator.rs has them: a list and a flag, tested before each function and each instruction. `warnings` says how many the reading has, with which
 -- the Rust's list begins. (Its header tests cannot fail: the reader refuses other sizes. Its functions are a tree, gone through in the order of our list.)
 --     validate r       the list and the flag of `validate_chunk_lua54`.       `proofs/RustLaws.antt`: they are `chunkFindings r`
 use mathlib.Core.Bool.{Bool, true, false, _||_}
@@ -19,10 +19,10 @@ halt so-far = record { findings = so-far .findings; stopped = true }
 abbrev pub push : Listing → List Finding → Listing
 push so-far g = record { findings = so-far .findings ++ g; stopped = so-far .stopped }
 
-module _ (max kept : ℕ) where
+module _ (max warnings : ℕ) where
   -- `diagnostics.len()`
   abbrev pub len : Listing → ℕ
-  len so-far = kept + length (so-far .findings)
+  len so-far = warnings + length (so-far .findings)
 
   -- `for inst in &proto.instructions`
   unfoldable pub overCode : ℕ → Bounds → List ℕ → ℕ → Listing → Listing
@@ -44,7 +44,7 @@ module _ (max kept : ℕ) where
 
   -- `let mut limit_reached = diagnostics.len() >= MAX_DIAGNOSTICS; if !limit_reached { .. }`
   unfoldable pub overChunk : List Prototype → Listing
-  overChunk ps = closed (pick (leb max kept) (record { findings = []; stopped = true }) (overFunctions 0 ps (record { findings = []; stopped = false })))
+  overChunk ps = closed (pick (leb max warnings) (record { findings = []; stopped = true }) (overFunctions 0 ps (record { findings = []; stopped = false })))
 
 unfoldable pub validate : Reading → Listing
 validate r = overChunk MAX-DIAGNOSTICS (length (r .warnings)) (r .functions)

@@ -2,7 +2,7 @@
 ghost use mathlib.Core.Path.{_≡_};
 ghost use mathlib.Core.List.{_++_};
 ghost use Rattle.rules.specs.Rules.{usesRegisterA, checkOf, operandRule, registerRule, brokenRule, jumpRule, ifAny, at, instruction};
-ghost use Rattle.rules.specs.Judged.{groupOf, listed, ruleOf};
+ghost use Rattle.rules.specs.Judged.{groupOf, asList, ruleOf};
 use crate::finding::Bounds;
 use crate::finding::Finding;
 use crate::finding::OptionFinding;
@@ -128,7 +128,7 @@ fn both(function: usize, pc: u32, first: OptionRule, second: OptionRule) -> Judg
 
 // The finding of a rule that an instruction may break.
 fn found(function: usize, pc: u32, rule: OptionRule) -> OptionFinding
-    ensures { λ r. ⌜ listed r ≡ at function pc (ifAny (ruleOf rule)) ⌝ }
+    ensures { λ r. ⌜ asList r ≡ at function pc (ifAny (ruleOf rule)) ⌝ }
 {
     match rule {
         OptionRule::Some(rule) => OptionFinding::Some(Finding { function, pc, rule }),

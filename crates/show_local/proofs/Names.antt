@@ -104,13 +104,13 @@ module _ (L : ResourceLimits) (s : Bytes) (f i : ℕ) where
         }
 
     -- it cannot be refused here
-    pub local-read : {A : Type 0} (q : Refusal) → raw.Err q ≡ lists.shownLocal (localAt i limit (c .at) (drop (c .at) s)) → A
+    pub local-read : {A : Type 0} (q : Refusal) → raw.Err q ≡ lists.localResult (localAt i limit (c .at) (drop (c .at) s)) → A
     local-read q e =
         let v = variable in
-        let same = e ∙ ap lists.shownLocal (v .reads) in
+        let same = e ∙ ap lists.localResult (v .reads) in
         absurd (let z : _≡_ {A = ℕ} 0 1 = cc in omega arith)
 
-    module _ (name : OptionString) (startpc endpc : ℕ) (next : Cursor) (e : raw.Ok name startpc endpc next ≡ lists.shownLocal (localAt i limit (c .at) (drop (c .at) s))) where
+    module _ (name : OptionString) (startpc endpc : ℕ) (next : Cursor) (e : raw.Ok name startpc endpc next ≡ lists.localResult (localAt i limit (c .at) (drop (c .at) s))) where
       record Shown : Type 0 where
         value : LocalVar
         is : entryOf (λ p. p .loc-vars) f i (read L s) ≡ found value
@@ -121,7 +121,7 @@ module _ (L : ResourceLimits) (s : Bytes) (f i : ℕ) where
       shown : Shown
       shown =
           let v = variable in
-          let same = e ∙ ap lists.shownLocal (v .reads) in
+          let same = e ∙ ap lists.localResult (v .reads) in
           let spelt : name ≡ optionString (v .raw .name) = cc in
           let start : startpc ≡ v .raw .startpc = cc in
           let end : endpc ≡ v .raw .endpc = cc in

@@ -29,23 +29,23 @@ use Rattle.chunk.specs.declared.walk.Walked.{Walked}
 use Rattle.chunk.specs.declared.walk.WalkResult.{WalkResult}
 use Rattle.chunk.specs.declared.walk.WalkResult.the-variants as answer
 use Rattle.prototype.specs.Parts as parts
-use Rattle.prototype.specs.PartsShown.{shownHead, shownTail}
+use Rattle.prototype.specs.PartsShown.{headResult, tailResult}
 use Rattle.prototype.specs.Row.{shownRow, lookup}
-use Rattle.chunk.specs.Walk.{shownWhere, entered, shownFrom, shownWalk, further, joinedShown}
+use Rattle.chunk.specs.Walk.{shownWhere, entered, walkResultFrom, walkResult, further, joinedShown}
 use Rattle.chunk.proofs.Forests.{restOf, andRest, one-more, no-more}
 use Rattle.chunk.proofs.Functions as functions
 use Rattle.chunk.proofs.Functions.{walkedOf, exact-entered, too-deep, too-many, enters}
 use Rattle.skim.specs.declared.walk.Skimmed.{Skimmed}
 use Rattle.skim.specs.declared.walk.SkimResult.{SkimResult}
 use Rattle.skim.specs.declared.walk.SkimResult.the-variants as skim
-use Rattle.skim.specs.Skim.{shownSkim, walkedShown}
+use Rattle.skim.specs.Skim.{skimResult, walkedShown}
 
 -- a walk without its row
 abbrev pub dropRow : WalkResult → SkimResult
 dropRow (answer.Ok walked) = skim.Ok (record { next = walked .next; number = walked .number; instructions = walked .instructions })
 dropRow (answer.Err q) = skim.Err q
 
-pub skims : (before : OptionRow) (wanted : ℕ) (w : grammar.Where) (o : Read (List Prototype)) → dropRow (shownFrom before wanted w o) ≡ shownSkim w o
+pub skims : (before : OptionRow) (wanted : ℕ) (w : grammar.Where) (o : Read (List Prototype)) → dropRow (walkResultFrom before wanted w o) ≡ skimResult w o
 skims before wanted w (ok ps to rest) = refl
 skims before wanted w (refused q) = refl
 
@@ -55,13 +55,13 @@ none-behind n k [] h = refl
 none-behind n k (p ∷ ps) h = rw (ne-eqb n k (λ e. omega (arith, e, h))) (none-behind n (k + 1) ps (omega (arith, h)))
 
 -- where none of them is wanted, the walk with rows finds none
-pub without-row : (wanted : ℕ) (w : grammar.Where) (o : Read (List Prototype)) (k : Skimmed) → wanted < w .number → skim.Ok k ≡ shownSkim w o → answer.Ok (walkedShown k) ≡ shownWalk wanted w o
+pub without-row : (wanted : ℕ) (w : grammar.Where) (o : Read (List Prototype)) (k : Skimmed) → wanted < w .number → skim.Ok k ≡ skimResult w o → answer.Ok (walkedShown k) ≡ walkResult wanted w o
 without-row wanted w (ok ps to rest) k h e =
     let all : k ≡ record { next = cursorAt to; number = w .number + length ps; instructions = w .instructions + instructionsOf ps } = cc in
     rw (all, none-behind wanted (w .number) ps h)
 without-row wanted w (refused q) k h e = absurd (let z : _≡_ {A = ℕ} 0 1 = cc in omega arith)
 
-pub refused-too : (wanted : ℕ) (w : grammar.Where) (o : Read (List Prototype)) (q : Refusal) → skim.Err q ≡ shownSkim w o → answer.Err q ≡ shownWalk wanted w o
+pub refused-too : (wanted : ℕ) (w : grammar.Where) (o : Read (List Prototype)) (q : Refusal) → skim.Err q ≡ skimResult w o → answer.Err q ≡ walkResult wanted w o
 refused-too wanted w (ok ps to rest) q e = absurd (let z : _≡_ {A = ℕ} 0 1 = cc in omega arith)
 refused-too wanted w (refused p) q e = cc
 
@@ -73,16 +73,16 @@ module _ (s : Bytes) (L : ResourceLimits) (left : ℕ) (from : Skimmed) (w : gra
   abbrev pub begins : ℕ → Read parts.Head
   begins before = parts.head L before (from .next .at) (drop (from .next .at) s)
 
-  pub same : shownHead (begins (from .instructions)) ≡ shownHead (begins (w .instructions))
-  same = ap (λ before. shownHead (begins before)) i
+  pub same : headResult (begins (from .instructions)) ≡ headResult (begins (w .instructions))
+  same = ap (λ before. headResult (begins before)) i
 
-  dropped : (o : WalkResult) → o ≡ shownWalk 0 w whole → dropRow o ≡ shownSkim w whole
+  dropped : (o : WalkResult) → o ≡ walkResult 0 w whole → dropRow o ≡ skimResult w whole
   dropped o e = ap dropRow e ∙ skims option.None 0 w whole
 
-  pub head-refused : (q : Refusal) → head-answer.Err q ≡ shownHead (begins (from .instructions)) → skim.Err q ≡ shownSkim w whole
+  pub head-refused : (q : Refusal) → head-answer.Err q ≡ headResult (begins (from .instructions)) → skim.Err q ≡ skimResult w whole
   head-refused q e = dropped (answer.Err q) (functions.head-refused s L left 0 (shownWhere w) w refl (from .next .at) q (e ∙ same))
 
-  module _ (h : declared-head.Head) (c₁ : Cursor) (e₁ : head-answer.Ok h c₁ ≡ shownHead (begins (from .instructions))) where
+  module _ (h : declared-head.Head) (c₁ : Cursor) (e₁ : head-answer.Ok h c₁ ≡ headResult (begins (from .instructions))) where
     abbrev pub first : grammar.Where
     first = functions.first s L left 0 (shownWhere w) w refl (from .next .at) h c₁ (e₁ ∙ same)
 
@@ -95,33 +95,33 @@ module _ (s : Bytes) (L : ResourceLimits) (left : ℕ) (from : Skimmed) (w : gra
     abbrev pub inner : Read (List Prototype)
     inner = forest (h .protos .count) (entered L left) first (c₁ .at) (drop (c₁ .at) s)
 
-    pub nested-refused : (q : Refusal) → skim.Err q ≡ shownSkim first inner → skim.Err q ≡ shownSkim w whole
+    pub nested-refused : (q : Refusal) → skim.Err q ≡ skimResult first inner → skim.Err q ≡ skimResult w whole
     nested-refused q e = dropped (answer.Err q) (functions.nested-refused s L left 0 (shownWhere w) w refl (from .next .at) h c₁ (e₁ ∙ same) q (refused-too 0 first inner q e))
 
-    module _ (k : Skimmed) (e₂ : skim.Ok k ≡ shownSkim first inner) where
-      nested : answer.Ok (walkedShown k) ≡ shownWalk 0 first inner
+    module _ (k : Skimmed) (e₂ : skim.Ok k ≡ skimResult first inner) where
+      nested : answer.Ok (walkedShown k) ≡ walkResult 0 first inner
       nested = let e = first-number in without-row 0 first inner k (omega (arith, e)) e₂
 
       abbrev pub ends : Read parts.Tail
       ends = parts.tail (L .«max_string_bytes») (k .next .at) (drop (k .next .at) s)
 
-      pub tail-refused : (q : Refusal) → tail-answer.Err q ≡ shownTail ends → skim.Err q ≡ shownSkim w whole
+      pub tail-refused : (q : Refusal) → tail-answer.Err q ≡ tailResult ends → skim.Err q ≡ skimResult w whole
       tail-refused q e = dropped (answer.Err q) (functions.tail-refused s L left 0 (shownWhere w) w refl (from .next .at) h c₁ (e₁ ∙ same) (walkedShown k) nested q e)
 
-      pub function-read : (t : declared-tail.Tail) (c₃ : Cursor) → tail-answer.Ok t c₃ ≡ shownTail ends → skim.Ok (record { next = c₃; number = k .number; instructions = k .instructions }) ≡ shownSkim w whole
+      pub function-read : (t : declared-tail.Tail) (c₃ : Cursor) → tail-answer.Ok t c₃ ≡ tailResult ends → skim.Ok (record { next = c₃; number = k .number; instructions = k .instructions }) ≡ skimResult w whole
       function-read t c₃ e = dropped _ (functions.function-read s L left 0 (shownWhere w) w refl (from .next .at) h c₁ (e₁ ∙ same) (walkedShown k) nested t c₃ e)
 
 -- ## The loop of `skim_functions`
 -- behind a walk over some functions, the rest of n, each read by r
 abbrev pub restOfSkim : (grammar.Where → Reader (List Prototype)) → ℕ → grammar.Where → Bytes → Skimmed → SkimResult
-restOfSkim r more w s k = shownSkim (further w (walkedShown k)) (forest more r (further w (walkedShown k)) (k .next .at) (drop (k .next .at) s))
+restOfSkim r more w s k = skimResult (further w (walkedShown k)) (forest more r (further w (walkedShown k)) (k .next .at) (drop (k .next .at) s))
 
 abbrev pub andSkim : (grammar.Where → Reader (List Prototype)) → ℕ → grammar.Where → Bytes → SkimResult → SkimResult
 andSkim r more w s (skim.Err q) = skim.Err q
 andSkim r more w s (skim.Ok later) = restOfSkim r more w s later
 
 and-dropped : (r : grammar.Where → Reader (List Prototype)) (more : ℕ) (w v : grammar.Where) (s : Bytes) (walked : Walked) (o : Read (List Prototype))
-    → dropRow (andRest 0 r more w s walked (shownWalk 0 v o)) ≡ andSkim r more w s (shownSkim v o)
+    → dropRow (andRest 0 r more w s walked (walkResult 0 v o)) ≡ andSkim r more w s (skimResult v o)
 and-dropped r more w v s walked (refused q) = refl
 and-dropped r more w v s walked (ok ps to rest) =
     let joined = joinedShown walked (walkedOf 0 v ps to) in
@@ -130,14 +130,14 @@ and-dropped r more w v s walked (ok ps to rest) =
 module _ (s : Bytes) (L : ResourceLimits) (from : Skimmed) (n left : ℕ) where
   -- what the functions from a place on show, and that those left show it too
   abbrev pub all : grammar.Where → SkimResult
-  all w = shownSkim w (forest n (entered L left) w (from .next .at) (drop (from .next .at) s))
+  all w = skimResult w (forest n (entered L left) w (from .next .at) (drop (from .next .at) s))
 
   abbrev pub Rest : Skimmed → ℕ → Type 0
   Rest k more = (w : grammar.Where) → from .number ≡ w .number → from .instructions ≡ w .instructions → all w ≡ restOfSkim (entered L left) more w s k
 
   pub starts : Rest from n
   starts w e i =
-      λ j. shownSkim (record { number = sym e j; instructions = sym i j; depth = w .depth; parent = w .parent; source = w .source })
+      λ j. skimResult (record { number = sym e j; instructions = sym i j; depth = w .depth; parent = w .parent; source = w .source })
       (forest n (entered L left) (record { number = sym e j; instructions = sym i j; depth = w .depth; parent = w .parent; source = w .source }) (from .next .at) (drop (from .next .at) s))
 
   module _ (k : Skimmed) (more : ℕ) (rest : Rest k more) where
@@ -148,7 +148,7 @@ module _ (s : Bytes) (L : ResourceLimits) (from : Skimmed) (n left : ℕ) where
 
     module _ (some : 0 < more) where
       turned : (w : grammar.Where) → from .number ≡ w .number → from .instructions ≡ w .instructions
-          → all w ≡ andSkim (entered L left) (more - 1) w s (shownSkim (further w (walkedShown k)) (entered L left (further w (walkedShown k)) (k .next .at) (drop (k .next .at) s)))
+          → all w ≡ andSkim (entered L left) (more - 1) w s (skimResult (further w (walkedShown k)) (entered L left (further w (walkedShown k)) (k .next .at) (drop (k .next .at) s)))
       turned w e i =
           let v = further w (walkedShown k) in
           rest w e i
@@ -158,8 +158,8 @@ module _ (s : Bytes) (L : ResourceLimits) (from : Skimmed) (n left : ℕ) where
 
       -- by what the next function shows
       by-next : (w : grammar.Where) → from .number ≡ w .number → from .instructions ≡ w .instructions → (o : Read (List Prototype)) → entered L left (further w (walkedShown k)) (k .next .at) (drop (k .next .at) s) ≡ o
-          → all w ≡ andSkim (entered L left) (more - 1) w s (shownSkim (further w (walkedShown k)) o)
-      by-next w e i o is = turned w e i ∙ ap (λ o. andSkim (entered L left) (more - 1) w s (shownSkim (further w (walkedShown k)) o)) is
+          → all w ≡ andSkim (entered L left) (more - 1) w s (skimResult (further w (walkedShown k)) o)
+      by-next w e i o is = turned w e i ∙ ap (λ o. andSkim (entered L left) (more - 1) w s (skimResult (further w (walkedShown k)) o)) is
 
       pub deep : left ≡ 0 → (w : grammar.Where) → from .number ≡ w .number → from .instructions ≡ w .instructions → skim.Err (NestingDepth (k .next .at)) ≡ all w
       deep h w e i = sym (by-next w e i _ (too-deep L left (further w (walkedShown k)) (k .next .at) (drop (k .next .at) s) h))
@@ -169,7 +169,7 @@ module _ (s : Bytes) (L : ResourceLimits) (from : Skimmed) (n left : ℕ) where
         many h w e i = sym (by-next w e i _ (too-many L left (further w (walkedShown k)) (k .next .at) (drop (k .next .at) s) level h))
 
         module _ (h : k .number ≤ L .«max_total_prototypes») (o : SkimResult)
-            (one : (w : grammar.Where) → k .number ≡ w .number → k .instructions ≡ w .instructions → o ≡ shownSkim w (function L (left - 1) w (k .next .at) (drop (k .next .at) s))) where
+            (one : (w : grammar.Where) → k .number ≡ w .number → k .instructions ≡ w .instructions → o ≡ skimResult w (function L (left - 1) w (k .next .at) (drop (k .next .at) s))) where
           answered : (w : grammar.Where) → from .number ≡ w .number → from .instructions ≡ w .instructions → all w ≡ andSkim (entered L left) (more - 1) w s o
           answered w e i =
               by-next w e i _ (enters L left (further w (walkedShown k)) (k .next .at) (drop (k .next .at) s) level h)

@@ -14,9 +14,9 @@ use Rattle.skim.specs.declared.walk.SkimResult.{SkimResult}
 use Rattle.skim.specs.declared.walk.SkimResult.the-variants as skim
 
 -- behind the functions from w on: the place, the number of the next one, and the instructions so far
-abbrev pub shownSkim : grammar.Where → Read (List Prototype) → SkimResult
-shownSkim w (ok ps to rest) = skim.Ok (record { next = cursorAt to; number = w .number + length ps; instructions = w .instructions + instructionsOf ps })
-shownSkim w (refused q) = skim.Err q
+abbrev pub skimResult : grammar.Where → Read (List Prototype) → SkimResult
+skimResult w (ok ps to rest) = skim.Ok (record { next = cursorAt to; number = w .number + length ps; instructions = w .instructions + instructionsOf ps })
+skimResult w (refused q) = skim.Err q
 
 abbrev pub walkedShown : Skimmed → Walked
 walkedShown k = record { next = k .next; number = k .number; instructions = k .instructions; row = option.None }

@@ -4,7 +4,7 @@ ghost use Prim.Native.Nat.{_+_, _≤_};
 ghost use lib.ListN.{drop};
 ghost use Rattle.format.specs.GrammarChunk as grammar;
 ghost use Rattle.format.specs.ReadChunk.{function};
-ghost use Rattle.chunk.specs.Walk.{shownWhere, shownWalk};
+ghost use Rattle.chunk.specs.Walk.{shownWhere, walkResult};
 ghost use Rattle.skim.specs.Skim.{walkedShown};
 use crate::walk::SkimResult;
 use crate::walk::Skimmed;
@@ -45,7 +45,7 @@ fn read_outer(
     cursor: Cursor,
 ) -> WalkResult
     requires { ⌜ (limits .«max_total_prototypes» ≤ 16777216) × (limits .«max_total_instructions» ≤ 16777216) × (place .number ≤ 16777216) × (wanted ≤ place .number) ⌝ }
-    ensures { λ r. ⌜ ((w : grammar.Where) → place ≡ shownWhere w → r ≡ shownWalk wanted w (function limits left w (cursor .at) (drop (cursor .at) (now (s .entry))))) ⌝ }
+    ensures { λ r. ⌜ ((w : grammar.Where) → place ≡ shownWhere w → r ≡ walkResult wanted w (function limits left w (cursor .at) (drop (cursor .at) (now (s .entry))))) ⌝ }
 {
     let begins = read_head(s, limits, place.instructions, cursor);
     match begins {
@@ -93,7 +93,7 @@ pub fn read_wanted(
     cursor: Cursor,
 ) -> WalkResult
     requires { ⌜ (limits .«max_total_prototypes» ≤ 16777216) × (limits .«max_total_instructions» ≤ 16777216) × (place .number ≤ 16777216) × (place .depth + left ≤ 200) ⌝ }
-    ensures { λ r. ⌜ ((w : grammar.Where) → place ≡ shownWhere w → r ≡ shownWalk wanted w (function limits left w (cursor .at) (drop (cursor .at) (now (s .entry))))) ⌝ }
+    ensures { λ r. ⌜ ((w : grammar.Where) → place ≡ shownWhere w → r ≡ walkResult wanted w (function limits left w (cursor .at) (drop (cursor .at) (now (s .entry))))) ⌝ }
 {
     if wanted <= place.number {
         return read_outer(s, limits, place, left, wanted, cursor);

@@ -5,7 +5,7 @@ ghost use lib.ListN.{drop};
 ghost use Rattle.format.specs.GrammarChunk as grammar;
 ghost use Rattle.format.specs.ReadChunk.{forest, function};
 ghost use Rattle.chunk.specs.Walk.{entered};
-ghost use Rattle.skim.specs.Skim.{shownSkim};
+ghost use Rattle.skim.specs.Skim.{skimResult};
 use cursor::Cursor;
 use format::limits::ResourceLimits;
 use format::refusal::Refusal;
@@ -29,7 +29,7 @@ pub enum SkimResult {
 // Passes over a function and all that nest in it, at most `left` deep. Ruled out: nested functions that are not counted, instructions that are counted twice.
 pub fn skim_function(s: &[u8], limits: ResourceLimits, left: usize, from: Skimmed) -> SkimResult
     requires { ⌜ (limits .«max_total_prototypes» ≤ 16777216) × (limits .«max_total_instructions» ≤ 16777216) × (from .number ≤ 16777216) ⌝ }
-    ensures { λ r. ⌜ ((w : grammar.Where) → from .number ≡ w .number → from .instructions ≡ w .instructions → r ≡ shownSkim w (function limits left w (from .next .at) (drop (from .next .at) (now (s .entry))))) ⌝ }
+    ensures { λ r. ⌜ ((w : grammar.Where) → from .number ≡ w .number → from .instructions ≡ w .instructions → r ≡ skimResult w (function limits left w (from .next .at) (drop (from .next .at) (now (s .entry))))) ⌝ }
 {
     let begins = read_head(s, limits, from.instructions, from.next);
     match begins {
@@ -71,7 +71,7 @@ pub fn skim_functions(
     from: Skimmed,
 ) -> SkimResult
     requires { ⌜ (limits .«max_total_prototypes» ≤ 16777216) × (limits .«max_total_instructions» ≤ 16777216) ⌝ }
-    ensures { λ r. ⌜ ((w : grammar.Where) → from .number ≡ w .number → from .instructions ≡ w .instructions → r ≡ shownSkim w (forest n (entered limits left) w (from .next .at) (drop (from .next .at) (now (s .entry))))) ⌝ }
+    ensures { λ r. ⌜ ((w : grammar.Where) → from .number ≡ w .number → from .instructions ≡ w .instructions → r ≡ skimResult w (forest n (entered limits left) w (from .next .at) (drop (from .next .at) (now (s .entry))))) ⌝ }
 {
     let mut skimmed = from;
     let mut more = n;

@@ -21,7 +21,7 @@ use Rattle.prototype.specs.declared.row.FunctionRow.{FunctionRow}
 use Rattle.prototype.specs.Row.{rowOf, shownRow, lookup}
 use Rattle.decode.specs.declared.summary.Decoded.{Decoded}
 use Rattle.decode.specs.declared.summary.DecodedResult.the-variants as decoded
-use Rattle.decode.specs.Decoded.{shownWarnings, shownOutcome, shownReading}
+use Rattle.decode.specs.Decoded.{shownWarnings, decodedResult, shownReading}
 use Rattle.decode.proofs.Summaries.{in-ceilings}
 use Rattle.decode.proofs.MainAt.{WasShown, was-shown, First, first-of, MainAt, main-at, two-warnings}
 use Rattle.validator.specs.declared.verdict.TotalsResult.the-variants as totals
@@ -31,18 +31,18 @@ use Rattle.validator.specs.declared.tally.Totals.{Totals}
 use Rattle.validator.specs.declared.verdict.VerdictAnswer.the-variants as verdicts
 use Rattle.validator.specs.declared.verdict.CountAnswer.the-variants as counts
 use Rattle.validator.specs.Totals.{tallied, verdictShown}
-use Rattle.validator.specs.Answers.{keptCount, shownTotals, shownVerdict, shownCount}
+use Rattle.validator.specs.Answers.{warningCount, totalsResult, shownVerdict, shownCount}
 use Rattle.rules.specs.Rust.{validate}
 use Rattle.rules.proofs.RustLaws.{validate-is}
 use Rattle.functions.specs.Rows.{chunkRows}
 use Rattle.functions.proofs.Agreement.{rowsFor, all-rows}
 use Rattle.validator.proofs.Whole.{whole}
 
-pub totals-refused : (o : Outcome) (q : Refusal) → decoded.Err q ≡ shownOutcome 0 o → totals.Err q ≡ shownTotals o
+pub totals-refused : (o : Outcome) (q : Refusal) → decoded.Err q ≡ decodedResult 0 o → totals.Err q ≡ totalsResult o
 totals-refused (shown r) q e = absurd (let z : _≡_ {A = ℕ} 0 1 = cc in omega arith)
 totals-refused (refusal p) q e = cc
 
-kept-all : (ws : List Warning) → length ws ≤ 2 → keptCount (shownWarnings ws) ≡ length ws
+kept-all : (ws : List Warning) → length ws ≤ 2 → warningCount (shownWarnings ws) ≡ length ws
 kept-all [] h = refl
 kept-all (v ∷ []) h = refl
 kept-all (v ∷ w ∷ []) h = refl
@@ -73,7 +73,7 @@ main-first L s r was =
 pub findings-are : (L : ResourceLimits) (s : Bytes) (r : Reading) → read L s ≡ shown r → validate r ≡ chunkFindings r
 findings-are L s r was = validate-is r (main-first L s r was)
 
-module _ (L : ResourceLimits) (s : Bytes) (d : Decoded) (e : decoded.Ok d ≡ shownOutcome 0 (read L s)) where
+module _ (L : ResourceLimits) (s : Bytes) (d : Decoded) (e : decoded.Ok d ≡ decodedResult 0 (read L s)) where
   -- the reading
   abbrev pub r : Reading
   r = was-shown (read L s) d e .value
@@ -111,23 +111,23 @@ module _ (L : ResourceLimits) (s : Bytes) (d : Decoded) (e : decoded.Ok d ≡ sh
 
   -- and the first position stands for all findings
   pub all-findings : d .summary .functions < 18446744073709551616 → (row : FunctionRow) → d .row ≡ option.Some row
-      → outOf L s MAX-DIAGNOSTICS (startPosition (row .start) (keptCount (d .summary .warnings))) ≡ chunkFindings r
+      → outOf L s MAX-DIAGNOSTICS (startPosition (row .start) (warningCount (d .summary .warnings))) ≡ chunkFindings r
   all-findings few row found =
       let begins = starts row found in
       let count : d .summary .functions ≡ length (r .functions) = ap (λ k. k .summary .functions) shows in
-      let kept : keptCount (d .summary .warnings) ≡ length (r .warnings) = ap (λ k. keptCount (k .summary .warnings)) shows ∙ kept-all (r .warnings) (known .warnings) in
+      let kept : warningCount (d .summary .warnings) ≡ length (r .warnings) = ap (λ k. warningCount (k .summary .warnings)) shows ∙ kept-all (r .warnings) (known .warnings) in
       (λ i. outOf L s MAX-DIAGNOSTICS (startPosition (begins i) (kept i)))
       ∙ whole L s r (known .located) (omega arith) (L .«max_nesting_depth») (limits .0) outermost refl (known .main .at) (known .main .reads)
 
   pub totals-shown : d .summary .functions < 18446744073709551616 → (row : FunctionRow) → d .row ≡ option.Some row
-      → totals.Ok (tallied (outOf L s MAX-DIAGNOSTICS (startPosition (row .start) (keptCount (d .summary .warnings))))) ≡ shownTotals (read L s)
-  totals-shown few row found = ap (λ l. totals.Ok (tallied l)) (all-findings few row found) ∙ sym (ap shownTotals was)
+      → totals.Ok (tallied (outOf L s MAX-DIAGNOSTICS (startPosition (row .start) (warningCount (d .summary .warnings))))) ≡ totalsResult (read L s)
+  totals-shown few row found = ap (λ l. totals.Ok (tallied l)) (all-findings few row found) ∙ sym (ap totalsResult was)
 
 -- ## The verdict and the number, of what was counted
-pub verdict-refused : (o : Outcome) (q : Refusal) → totals.Err q ≡ shownTotals o → (verdicts.Err q ≡ shownVerdict o) × (counts.Err q ≡ shownCount o)
+pub verdict-refused : (o : Outcome) (q : Refusal) → totals.Err q ≡ totalsResult o → (verdicts.Err q ≡ shownVerdict o) × (counts.Err q ≡ shownCount o)
 verdict-refused (shown r) q e = absurd (let z : _≡_ {A = ℕ} 0 1 = cc in omega arith)
 verdict-refused (refusal p) q e = (cc, cc)
 
-pub verdict-shown : (o : Outcome) (t : Totals) → totals.Ok t ≡ shownTotals o → (verdicts.Ok (verdictShown t) ≡ shownVerdict o) × (counts.Ok (t .count) ≡ shownCount o)
+pub verdict-shown : (o : Outcome) (t : Totals) → totals.Ok t ≡ totalsResult o → (verdicts.Ok (verdictShown t) ≡ shownVerdict o) × (counts.Ok (t .count) ≡ shownCount o)
 verdict-shown (shown r) t e = let same : t ≡ tallied (chunkFindings r) = cc in (ap (λ t. verdicts.Ok (verdictShown t)) same, ap (λ t. counts.Ok (t .count)) same)
 verdict-shown (refusal q) t e = absurd (let z : _≡_ {A = ℕ} 0 1 = cc in omega arith)

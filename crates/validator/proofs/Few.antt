@@ -22,7 +22,7 @@ use Rattle.rules.specs.Findings.{MAX-DIAGNOSTICS, boundsOf, codeGroups, groups,
 use Rattle.rules.specs.declared.finding.OptionFinding.{OptionFinding}
 use Rattle.rules.specs.declared.finding.OptionFinding.the-variants as finding
 use Rattle.validator.specs.declared.search.Position.{Position}
-use Rattle.rules.specs.Judged.{listed}
+use Rattle.rules.specs.Judged.{asList}
 use Rattle.validator.specs.Position.{wordsAt, codeLeft, rowBounds, nextNumber, rowGroups, groupsLeft, goesOn, outOf}
 
 few-rows : (s : Bytes) (k : ℕ) (rows : List Row) → All Few (rowGroups s k rows)
@@ -57,7 +57,7 @@ at-most max n gs few = go (leb n (max + 1)) refl gs few
     go false e [] few = omega arith
     go false e (g ∷ gs) few = let more = leb-false n (max + 1) e in rw (le-leb max n (omega arith)) (omega arith)
 
-listed-one : (w : OptionFinding) → length (listed w) ≤ 1
+listed-one : (w : OptionFinding) → length (asList w) ≤ 1
 listed-one finding.None = omega arith
 listed-one (finding.Some f) = omega arith
 
@@ -67,7 +67,7 @@ unfolding outOf
 few-out L s max p =
     let one = listed-one (p .waiting) in
     let rest = at-most max (p .found) (groupsLeft L s p) (few-left s (p .code) (p .number) (rowsFrom L s (p .left) (p .depth) (p .at .at))) in
-    omega (arith, length-append (listed (p .waiting)) (goesOn L s max p .findings))
+    omega (arith, length-append (asList (p .waiting)) (goesOn L s max p .findings))
 
 few-groups : (k : ℕ) (ps : List Prototype) → All Few (groups k ps)
 unfolding groups

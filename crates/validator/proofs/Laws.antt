@@ -12,10 +12,10 @@ use Rattle.format.specs.Form.{Bytes}
 use Rattle.format.specs.ReadFields.{field}
 use Rattle.reader.specs.declared.field.U32Result.{U32Result}
 use Rattle.reader.specs.declared.field.U32Result.the-variants as u32
-use Rattle.reader.specs.Shown.{shownU32}
+use Rattle.reader.specs.Shown.{u32Result}
 use Rattle.functions.specs.declared.Row.{Row}
 use Rattle.rules.specs.Rules.{instruction}
-use Rattle.rules.specs.Judged.{listed}
+use Rattle.rules.specs.Judged.{asList}
 use Rattle.rules.specs.Findings.{codeGroups, Listing, ended, prepend, limited}
 use Rattle.validator.specs.Position.{onWord, wordsAt, codeLeft, codeAt, skip, rowBounds, nextNumber, rowGroups, anyLeft}
 use Rattle.rules.specs.declared.finding.Finding.{Finding}
@@ -36,9 +36,9 @@ module _ (s : Bytes) (b : Bounds) (k : ℕ) where
 
   -- one instruction, if its bytes are there
   pub code-more : (place pc : ℕ) → pc < b .instructions
-      → codeLeft s (codeAt b k place pc) ≡ onWord (shownU32 (field 4 place (drop place s))) [] (λ word to. instruction k b pc word ∷ codeLeft s (codeAt b k to (pc + 1)))
+      → codeLeft s (codeAt b k place pc) ≡ onWord (u32Result (field 4 place (drop place s))) [] (λ word to. instruction k b pc word ∷ codeLeft s (codeAt b k to (pc + 1)))
   unfolding codeLeft codeGroups wordsAt
-  code-more place pc h = let z : b .instructions - pc ≡ suc (b .instructions - (pc + 1)) = omega arith in rw z (words-more (shownU32 (field 4 place (drop place s))) (b .instructions - (pc + 1)) pc)
+  code-more place pc h = let z : b .instructions - pc ≡ suc (b .instructions - (pc + 1)) = omega arith in rw z (words-more (u32Result (field 4 place (drop place s))) (b .instructions - (pc + 1)) pc)
 
 module _ (max n : ℕ) where
   pub limited-full : (gs : List (List Finding)) → max ≤ n → limited max n gs ≡ ended (anyLeft gs || ltb max n)
@@ -58,11 +58,11 @@ module _ (max n : ℕ) where
     limited-skip ((f ∷ g) ∷ xs) gs = refl
 
     -- an instruction that is not fine
-    pub limited-found : (xs gs ys : List (List Finding)) (f : Finding) (w : OptionFinding) → skip xs ≡ (f ∷ listed w) ∷ ys
-        → limited max n (xs ++ gs) ≡ prepend (f ∷ []) (prepend (listed w) (limited max (n + (1 + length (listed w))) (ys ++ gs)))
+    pub limited-found : (xs gs ys : List (List Finding)) (f : Finding) (w : OptionFinding) → skip xs ≡ (f ∷ asList w) ∷ ys
+        → limited max n (xs ++ gs) ≡ prepend (f ∷ []) (prepend (asList w) (limited max (n + (1 + length (asList w))) (ys ++ gs)))
     unfolding limited
     limited-found xs gs ys f w e =
-        let z : n + suc (length (listed w)) ≡ n + (1 + length (listed w)) = omega arith in
+        let z : n + suc (length (asList w)) ≡ n + (1 + length (asList w)) = omega arith in
         sym (limited-skip xs gs) ∙ rw (e, lt-leb max n room, z)
 
     -- no more instructions that are not fine

@@ -18,7 +18,7 @@ use Rattle.format.proofs.Exact.{never}
 use Rattle.format.proofs.ExactFields.{exact-field}
 use Rattle.format.proofs.Left.{left}
 use Rattle.format.proofs.Located.{Located}
-use Rattle.reader.specs.Shown.{shownU32}
+use Rattle.reader.specs.Shown.{u32Result}
 use Rattle.functions.specs.Rows.{chunkRows}
 use Rattle.functions.proofs.RowLaws.{at-start}
 use Rattle.functions.proofs.Agreement.{rowsFor, all-rows}
@@ -38,7 +38,7 @@ module _ (s : Bytes) where
   words-on n more x a (refused q) is ws to rest e = absurd (never e)
 
   words-more : (n : ℕ) → Words n → (at : ℕ) (o : Read ℕ) → field 4 at (drop at s) ≡ o → (ws : List ℕ) (to : ℕ) (rest : Bytes)
-      → next o (λ x a b. next (many n (field 4) a b) (λ xs. give (x ∷ xs))) ≡ ok ws to rest → onWord (shownU32 o) [] (λ word to. word ∷ wordsAt s n to) ≡ ws
+      → next o (λ x a b. next (many n (field 4) a b) (λ xs. give (x ∷ xs))) ≡ ok ws to rest → onWord (u32Result o) [] (λ word to. word ∷ wordsAt s n to) ≡ ws
   words-more n more at (ok x a b) is ws to rest e =
       let here : b ≡ drop a s = left (exact-field 4) s at is in
       words-on n more x a (many n (field 4) a (drop a s)) refl ws to rest (rw here at e)

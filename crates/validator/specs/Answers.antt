@@ -23,17 +23,17 @@ shownCount (shown r) = counts.Ok (length (chunkFindings r .findings))
 shownCount (refusal q) = counts.Err q
 
 -- ## The same of the code's values
-abbrev pub shownTotals : Outcome → TotalsResult
-shownTotals (shown r) = totals.Ok (tallied (chunkFindings r))
-shownTotals (refusal q) = totals.Err q
+abbrev pub totalsResult : Outcome → TotalsResult
+totalsResult (shown r) = totals.Ok (tallied (chunkFindings r))
+totalsResult (refusal q) = totals.Err q
 
-abbrev pub keptFirst : OptionWarning → ℕ
-keptFirst (option.Some w) = 1
-keptFirst option.None = 0
+abbrev pub oneWarning : OptionWarning → ℕ
+oneWarning (option.Some w) = 1
+oneWarning option.None = 0
 
-abbrev pub keptOf : OptionWarning → OptionWarning → ℕ
-keptOf first (option.Some w) = 2
-keptOf first option.None = keptFirst first
+abbrev pub bothWarnings : OptionWarning → OptionWarning → ℕ
+bothWarnings first (option.Some w) = 2
+bothWarnings first option.None = oneWarning first
 
-abbrev pub keptCount : Warnings → ℕ
-keptCount w = keptOf (w .first) (w .second)
+abbrev pub warningCount : Warnings → ℕ
+warningCount w = bothWarnings (w .first) (w .second)

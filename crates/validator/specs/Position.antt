@@ -10,7 +10,7 @@ use Rattle.format.specs.Form.{Bytes}
 use Rattle.format.specs.ReadFields.{field}
 use Rattle.reader.specs.declared.field.U32Result.{U32Result}
 use Rattle.reader.specs.declared.field.U32Result.the-variants as u32
-use Rattle.reader.specs.Shown.{shownU32}
+use Rattle.reader.specs.Shown.{u32Result}
 use Rattle.functions.specs.declared.Row.{Row}
 use Rattle.functions.specs.Rows.{rowsFrom}
 use Rattle.rules.specs.declared.finding.Finding.{Finding}
@@ -23,7 +23,7 @@ use Rattle.validator.specs.declared.search.Position.{Position}
 use Rattle.validator.specs.declared.search.State.{State}
 use Rattle.validator.specs.declared.search.State.the-variants as state
 use Rattle.validator.specs.declared.search.Step.{Step}
-use Rattle.rules.specs.Judged.{listed}
+use Rattle.rules.specs.Judged.{asList}
 use Rattle.rules.specs.Findings.{codeGroups, Listing, ended, prepend, limited}
 
 -- ## Instructions
@@ -34,7 +34,7 @@ onWord (u32.Err q) bad good = bad
 -- n words from a place on, or fewer where the bytes end
 unfoldable pub wordsAt : Bytes → ℕ → ℕ → List ℕ
 wordsAt s zero at = []
-wordsAt s (suc n) at = onWord (shownU32 (field 4 at (drop at s))) [] (λ word to. word ∷ wordsAt s n to)
+wordsAt s (suc n) at = onWord (u32Result (field 4 at (drop at s))) [] (λ word to. word ∷ wordsAt s n to)
 
 -- the groups of the instructions that are left
 unfoldable pub codeLeft : Bytes → Code → List (List Finding)
@@ -50,7 +50,7 @@ skip ([] ∷ gs) = skip gs
 skip ((f ∷ g) ∷ gs) = (f ∷ g) ∷ gs
 
 abbrev pub scanned : Bytes → Scanned → List (List Finding)
-scanned s (scan.Found f w behind) = (f ∷ listed w) ∷ codeLeft s behind
+scanned s (scan.Found f w behind) = (f ∷ asList w) ∷ codeLeft s behind
 scanned s scan.End = []
 
 -- ## Functions
@@ -88,7 +88,7 @@ goesOn L s max p = limited max (p .found) (groupsLeft L s p)
 
 -- WHAT A POSITION STANDS FOR
 unfoldable pub outOf : ResourceLimits → Bytes → ℕ → Position → Listing
-outOf L s max p = prepend (listed (p .waiting)) (goesOn L s max p)
+outOf L s max p = prepend (asList (p .waiting)) (goesOn L s max p)
 
 -- what a step says: a finding and what the next position stands for, or the end
 abbrev pub stepIs : ResourceLimits → Bytes → ℕ → State → Finding → Position → Listing
@@ -100,7 +100,7 @@ stepped L s max r = stepIs L s max (r .state) (r .finding) (r .next)
 
 -- the position before everything: one function is left at the top level, at a place, and there are some diagnostics already
 unfoldable pub startPosition : ℕ → ℕ → Position
-startPosition place kept = record {
+startPosition place diagnostics = record {
   left = set (replicate 202 0) 0 1;
   depth = 0;
   at = record { at = place };
@@ -111,6 +111,6 @@ startPosition place kept = record {
     place = record { at = place };
     pc = 0;
   };
-  found = kept;
+  found = diagnostics;
   waiting = finding.None;
 }

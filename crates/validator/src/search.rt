@@ -5,7 +5,7 @@ ghost use mathlib.Core.List.{List};
 ghost use mathlib.Core.Bool.{_||_};
 ghost use lib.Dec.{ltb};
 ghost use lib.ListN.{length};
-ghost use Rattle.rules.specs.Judged.{listed};
+ghost use Rattle.rules.specs.Judged.{asList};
 ghost use Rattle.validator.specs.Position.{codeAt, nextNumber, rowBounds, groupsLeft, anyLeft, ofRows, outOf, goesOn, stepped, startPosition};
 use crate::scan::Code;
 use crate::scan::Scanned;
@@ -76,7 +76,7 @@ fn bounds_of(row: Row) -> Bounds
 // The number of diagnostics with one more and with what waits.
 fn counted(n: u64, w: OptionFinding) -> u64
     requires { ⌜ n < 4294967296 ⌝ }
-    ensures { λ r. ⌜ r ≡ n + (1 + length (listed w)) ⌝ }
+    ensures { λ r. ⌜ r ≡ n + (1 + length (asList w)) ⌝ }
 {
     match w {
         OptionFinding::None => n + 1,

@@ -2,7 +2,7 @@
 ghost use mathlib.Core.Path.{_≡_};
 ghost use Prim.Native.Nat.{_<_};
 ghost use Rattle.format.specs.ReadChunk as format;
-ghost use Rattle.validator.specs.Answers.{keptCount, shownTotals, shownVerdict, shownCount};
+ghost use Rattle.validator.specs.Answers.{warningCount, totalsResult, shownVerdict, shownCount};
 use crate::tally::Totals;
 use crate::tally::tally;
 use crate::tally::verdict_of;
@@ -33,7 +33,7 @@ pub enum CountAnswer {
 
 // How many of a reading's warnings were kept; and that its number of functions is one of 64 bits.
 pub fn kept_count(summary: Summary) -> u64
-    ensures { λ r. ⌜ (r ≡ keptCount (summary .warnings)) × (summary .functions < 18446744073709551616) ⌝ }
+    ensures { λ r. ⌜ (r ≡ warningCount (summary .warnings)) × (summary .functions < 18446744073709551616) ⌝ }
 {
     let warnings = summary.warnings;
     let second = warnings.second;
@@ -51,7 +51,7 @@ pub fn kept_count(summary: Summary) -> u64
 
 // All findings of a chunk, counted. The first pass judges, the second searches. Ruled out: dropped warnings that count.
 pub fn chunk_totals(s: &[u8], limits: ResourceLimits) -> TotalsResult
-    ensures { λ r. ⌜ r ≡ shownTotals (format.read limits (now (s .entry))) ⌝ }
+    ensures { λ r. ⌜ r ≡ totalsResult (format.read limits (now (s .entry))) ⌝ }
 {
     let decoded = decode_chunk_lua54(s, limits, 0);
     match decoded {

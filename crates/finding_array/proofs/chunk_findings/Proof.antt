@@ -51,8 +51,8 @@ use Rattle.format.specs.declared.limits.ResourceLimits.{ResourceLimits}
 use Rattle.format.specs.ReadChunk.{read}
 use Rattle.rules.specs.declared.finding.Finding.{Finding}
 use Rattle.finding_plan.specs.declared.FindingsAnswer.{FindingsAnswer}
-use Rattle.finding_plan.specs.Listed.{shownFindings, findingsWritten}
-use Rattle.finding_array.specs.declared.Listed.{Listed}
+use Rattle.finding_plan.specs.Validated.{shownFindings, findingsWritten}
+use Rattle.finding_array.specs.declared.FindingArray.{FindingArray}
 use Rattle.finding_array.specs.Blank.{LONGEST, blankList}
 use Rattle.finding_array.proofs.ArrayLent.{to-arr, from-arr, big-lit, each-as}
 use Rattle.format.proofs.limits.ResourceLimits as L
@@ -61,8 +61,8 @@ use Rattle.rules.proofs.finding.Finding as T
 use Rattle.rules.proofs.finding.Finding.Laws as T′
 use Rattle.finding_plan.proofs.FindingsAnswer as R
 use Rattle.finding_plan.proofs.FindingsAnswer.Laws as R′
-use Rattle.finding_array.proofs.Listed as Q
-use Rattle.finding_array.proofs.Listed.Laws as Q′
+use Rattle.finding_array.proofs.FindingArray as Q
+use Rattle.finding_array.proofs.FindingArray.Laws as Q′
 use Rattle.finding_array.proofs.blank as blank
 use Rattle.finding_array.proofs.blank.Symbol as blank-def
 use Rattle.finding_array.proofs.blank.Symbol.{name as #blank}
@@ -192,7 +192,7 @@ module _ {M : Type 1} (𝓤 : URA M) (H : Heap 𝓤) (A : Atoms 𝓤) (W : Given
 
   module _ (xs : List Finding) (blank-xs : xs ≡ blankList) (as-long : length xs ≡ LONGEST) where
     module _ (ans : FindingsAnswer) (ys : List Finding) (told : Says xs ans ys) (is-ans : Is R.the-row ans (EL.vals R.the-type R′.the-laws ans)) (is-ys : IsList ys (field-val ys ∷ [])) where
-      abbrev listed : Listed
+      abbrev listed : FindingArray
       listed = record { answer = ans; list = ys }
 
       abbrev listed-val : Val

@@ -6,7 +6,7 @@ use borrow.Author.Needs.{needs}
 use lib.ListN.{length}
 use Rattle.format.specs.ReadChunk.{read}
 use Rattle.validator.specs.Position.{outOf}
-use Rattle.finding_plan.specs.Listed.{shownFindings}
+use Rattle.finding_plan.specs.Validated.{shownFindings}
 use Rattle.boundary.proofs.Calls.{call-refuses, call-answers}
 use Rattle.finding_list.specs.FindingNumbers.{ofFindings, numbersWritten}
 use Rattle.finding_list.proofs.Numbered.{all-put}

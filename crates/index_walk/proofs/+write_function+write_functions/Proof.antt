@@ -16,8 +16,8 @@ use Rattle.prototype.specs.declared.parts.TailResult.the-variants as tail-answe
 use Rattle.chunk.specs.declared.walk.Walked.{Walked}
 use Rattle.chunk.specs.declared.walk.WalkResult.the-variants as answer
 use Rattle.prototype.specs.Parts as parts
-use Rattle.prototype.specs.PartsShown.{shownHead, shownTail}
-use Rattle.chunk.specs.Walk.{shownWhere, entered, shownWalk, rowShown, finishedShown, againShown, joinedShown}
+use Rattle.prototype.specs.PartsShown.{headResult, tailResult}
+use Rattle.chunk.specs.Walk.{shownWhere, entered, walkResult, rowShown, finishedShown, againShown, joinedShown}
 use Rattle.chunk.proofs.Turns.{all, Rest, starts, ends, deep, many, stops, goes-on}
 use Rattle.chunk.proofs.Functions.{in-total, first, first-shown, head-refused, nested-refused, tail-refused, function-read}
 use Rattle.lent.specs.Splice.{splice}
@@ -130,7 +130,7 @@ module _ (t : ℕ) (f : write-function-lts.After-write-functions (function-calls
   abbrev behind : Cursor
   behind = h .begins2 .given .0 .1 .0
 
-  begun : head-answer.Ok head behind ≡ shownHead (parts.head (a .limits) (a .place .instructions) (a .cursor .at) (drop (a .cursor .at) (a .s .now)))
+  begun : head-answer.Ok head behind ≡ headResult (parts.head (a .limits) (a .place .instructions) (a .cursor .at) (drop (a .cursor .at) (a .s .now)))
   begun = sym (h .begins2 .given .1) ∙ h .before .before .read-head .ensures
 
   abbrev before : List ℕ
@@ -146,18 +146,18 @@ module _ (t : ℕ) (f : write-function-lts.After-write-functions (function-calls
     stands : f .before .before .inside .result ≡ shownWhere inner-place
     stands = f .before .before .inside .ensures ∙ first-shown (a .s .now) (a .limits) (a .left) 0 (a .place) w p (a .cursor .at) head behind begun
 
-    inner : f .write-functions .result ≡ shownWalk 0 inner-place (forest (head .protos .count) (entered (a .limits) (a .left)) inner-place (behind .at) (drop (behind .at) (a .s .now)))
+    inner : f .write-functions .result ≡ walkResult 0 inner-place (forest (head .protos .count) (entered (a .limits) (a .left)) inner-place (behind .at) (drop (behind .at) (a .s .now)))
     inner = f .write-functions .ensures .0 inner-place stands
 
-    refused-inside : (q : Refusal) → f .write-functions .result ≡ answer.Err q → answer.Err q ≡ shownWalk 0 w (function (a .limits) (a .left) w (a .cursor .at) (drop (a .cursor .at) (a .s .now)))
+    refused-inside : (q : Refusal) → f .write-functions .result ≡ answer.Err q → answer.Err q ≡ walkResult 0 w (function (a .limits) (a .left) w (a .cursor .at) (drop (a .cursor .at) (a .s .now)))
     refused-inside q e = nested-refused (a .s .now) (a .limits) (a .left) 0 (a .place) w p (a .cursor .at) head behind begun q (sym e ∙ inner)
 
     module _ (nested : Walked) (e : f .write-functions .result ≡ answer.Ok nested) where
-      refused-behind : (q : Refusal) → tail-answer.Err q ≡ shownTail (parts.tail (a .limits .«max_string_bytes») (nested .next .at) (drop (nested .next .at) (a .s .now))) → answer.Err q ≡ shownWalk 0 w (function (a .limits) (a .left) w (a .cursor .at) (drop (a .cursor .at) (a .s .now)))
+      refused-behind : (q : Refusal) → tail-answer.Err q ≡ tailResult (parts.tail (a .limits .«max_string_bytes») (nested .next .at) (drop (nested .next .at) (a .s .now))) → answer.Err q ≡ walkResult 0 w (function (a .limits) (a .left) w (a .cursor .at) (drop (a .cursor .at) (a .s .now)))
       refused-behind q = tail-refused (a .s .now) (a .limits) (a .left) 0 (a .place) w p (a .cursor .at) head behind begun nested (sym e ∙ inner) q
 
-      module _ (tail : declared-tail.Tail) (end : Cursor) (ended : tail-answer.Ok tail end ≡ shownTail (parts.tail (a .limits .«max_string_bytes») (nested .next .at) (drop (nested .next .at) (a .s .now)))) where
-        all-read : answer.Ok (finishedShown (a .place) (a .cursor .at) head tail end nested 0) ≡ shownWalk 0 w (function (a .limits) (a .left) w (a .cursor .at) (drop (a .cursor .at) (a .s .now)))
+      module _ (tail : declared-tail.Tail) (end : Cursor) (ended : tail-answer.Ok tail end ≡ tailResult (parts.tail (a .limits .«max_string_bytes») (nested .next .at) (drop (nested .next .at) (a .s .now)))) where
+        all-read : answer.Ok (finishedShown (a .place) (a .cursor .at) head tail end nested 0) ≡ walkResult 0 w (function (a .limits) (a .left) w (a .cursor .at) (drop (a .cursor .at) (a .s .now)))
         all-read = function-read (a .s .now) (a .limits) (a .left) 0 (a .place) w p (a .cursor .at) head behind begun nested (sym e ∙ inner) tail end ended
 
         all-written : (after : List ℕ) → (12 * a .place .number + 12 ≤ length before → after ≡ splice (12 * a .place .number) (storedRow (rowShown (a .place) (a .cursor .at) head tail (end .at))) before)
@@ -247,7 +247,7 @@ module _ (t : ℕ) (f : write-functions-lts.After-write-function (functions-call
   abbrev b : write-functions-lts.Args (functions-calls t) (write-functions-at t) write-functions.Post write-functions-Inv-loop write-functions-μ-loop (l .before .before .before .κs)
   b = l .before .before .before .args
 
-  one : (w : grammar.Where) → againShown (b .first) (l .loop .walked) ≡ shownWhere w → f .write-function .result ≡ shownWalk 0 w (function (b .limits) (b .left - 1) w (l .loop .walked .next .at) (drop (l .loop .walked .next .at) (b .s .now)))
+  one : (w : grammar.Where) → againShown (b .first) (l .loop .walked) ≡ shownWhere w → f .write-function .result ≡ walkResult 0 w (function (b .limits) (b .left - 1) w (l .loop .walked .next .at) (drop (l .loop .walked .next .at) (b .s .now)))
   one w p = f .write-function .ensures .0 w (g .again .ensures ∙ p)
 
   refused-next : (q : Refusal) → f .write-function .result ≡ answer.Err q → (w : grammar.Where) → b .first ≡ shownWhere w → answer.Err q ≡ all (b .s .now) (b .limits) (b .n) (b .left) 0 (b .cursor .at) w

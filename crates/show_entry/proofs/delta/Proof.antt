@@ -3,7 +3,7 @@ use mathlib.Core.Path.{refl, sym, _∙_, ap}
 use borrow.Author.Needs.{needs}
 use lib.ListN.{length}
 use Rattle.format.specs.ReadChunk.{read}
-use Rattle.reader.specs.Shown.{shownU8}
+use Rattle.reader.specs.Shown.{u8Result}
 use Rattle.entries.specs.Nth.{byteAt}
 use Rattle.entries.proofs.Items.{run-nth}
 use Rattle.access.specs.declared.place.EntryKind.the-variants as kind
@@ -24,4 +24,4 @@ delta-spec =
     let a = c .before .before .before .before .before .before .before .args in
     c .delta-answer .ensures
     ∙ ap deltaOf (c .before .delta-at .ensures)
-    ∙ entry-shown (a .limits) (a .s .now) (a .function) (a .entry) kind.Delta (λ p. p .line-info) (λ p. p .places .line-info) (λ p. refl) (byteAt (a .entry)) (λ p l x e. run-nth (length (p .line-info)) (l .line-info) (a .entry) e) (λ o. deltaOf (shownU8 o)) shownDelta (λ x to rest. refl) _ (sym (c .before .before .before .found2 .given .1) ∙ c .before .before .before .before .before .entry-list .ensures)))
+    ∙ entry-shown (a .limits) (a .s .now) (a .function) (a .entry) kind.Delta (λ p. p .line-info) (λ p. p .places .line-info) (λ p. refl) (byteAt (a .entry)) (λ p l x e. run-nth (length (p .line-info)) (l .line-info) (a .entry) e) (λ o. deltaOf (u8Result o)) shownDelta (λ x to rest. refl) _ (sym (c .before .before .before .found2 .given .1) ∙ c .before .before .before .before .before .entry-list .ensures)))

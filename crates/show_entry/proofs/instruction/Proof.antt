@@ -4,7 +4,7 @@ use borrow.Author.Needs.{needs}
 use lib.ListN.{length}
 use Rattle.format.specs.ReadFields.{field}
 use Rattle.format.specs.ReadChunk.{read}
-use Rattle.reader.specs.Shown.{shownU32}
+use Rattle.reader.specs.Shown.{u32Result}
 use Rattle.entries.specs.Nth.{entryAt}
 use Rattle.entries.proofs.Items.{many-nth}
 use Rattle.access.specs.declared.place.EntryKind.the-variants as kind
@@ -25,4 +25,4 @@ instruction-spec =
     let a = c .before .before .before .before .before .before .before .args in
     c .word .ensures
     ∙ ap wordOf (c .before .word-at .ensures)
-    ∙ entry-shown (a .limits) (a .s .now) (a .function) (a .entry) kind.Instruction (λ p. p .instructions) (λ p. p .places .instructions) (λ p. refl) (entryAt (a .entry) (field 4)) (λ p l x e. many-nth (field 4) (length (p .instructions)) (l .instructions) (a .entry) e) (λ o. wordOf (shownU32 o)) shownWord (λ x to rest. refl) _ (sym (c .before .before .before .found2 .given .1) ∙ c .before .before .before .before .before .entry-list .ensures)))
+    ∙ entry-shown (a .limits) (a .s .now) (a .function) (a .entry) kind.Instruction (λ p. p .instructions) (λ p. p .places .instructions) (λ p. refl) (entryAt (a .entry) (field 4)) (λ p l x e. many-nth (field 4) (length (p .instructions)) (l .instructions) (a .entry) e) (λ o. wordOf (u32Result o)) shownWord (λ x to rest. refl) _ (sym (c .before .before .before .found2 .given .1) ∙ c .before .before .before .before .before .entry-list .ensures)))

@@ -4,7 +4,7 @@ use borrow.Author.Needs.{needs}
 use lib.ListN.{length}
 use Rattle.format.specs.ReadFields.{string}
 use Rattle.format.specs.ReadChunk.{read}
-use Rattle.reader.specs.Shown.{shownString}
+use Rattle.reader.specs.Shown.{stringResult}
 use Rattle.entries.specs.Nth.{entryAt}
 use Rattle.entries.proofs.Items.{many-nth}
 use Rattle.access.specs.declared.place.EntryKind.the-variants as kind
@@ -25,4 +25,4 @@ upvalue-name-spec =
     let a = c .before .before .before .before .before .before .before .args in
     c .name-answer .ensures
     ∙ ap nameOf (c .before .name-at .ensures)
-    ∙ entry-shown (a .limits) (a .s .now) (a .function) (a .entry) kind.UpvalueName (λ p. p .upvalue-names) (λ p. p .places .upvalue-names) (λ p. refl) (entryAt (a .entry) (string (a .limits .«max_string_bytes»))) (λ p l x e. many-nth (string (a .limits .«max_string_bytes»)) (length (p .upvalue-names)) (l .upvalue-names) (a .entry) e) (λ o. nameOf (shownString o)) shownName (λ x to rest. refl) _ (sym (c .before .before .before .found2 .given .1) ∙ c .before .before .before .before .before .entry-list .ensures)))
+    ∙ entry-shown (a .limits) (a .s .now) (a .function) (a .entry) kind.UpvalueName (λ p. p .upvalue-names) (λ p. p .places .upvalue-names) (λ p. refl) (entryAt (a .entry) (string (a .limits .«max_string_bytes»))) (λ p l x e. many-nth (string (a .limits .«max_string_bytes»)) (length (p .upvalue-names)) (l .upvalue-names) (a .entry) e) (λ o. nameOf (stringResult o)) shownName (λ x to rest. refl) _ (sym (c .before .before .before .found2 .given .1) ∙ c .before .before .before .before .before .entry-list .ensures)))

@@ -13,8 +13,8 @@ use Rattle.prototype.specs.declared.parts.Tail as declared-tail
 use Rattle.prototype.specs.declared.parts.TailResult.the-variants as tail-answer
 use Rattle.chunk.specs.declared.walk.Walked.{Walked}
 use Rattle.prototype.specs.Parts as parts
-use Rattle.prototype.specs.PartsShown.{shownHead, shownTail}
-use Rattle.chunk.specs.Walk.{shownWhere, entered, shownWalk, finishedShown, againShown, joinedShown}
+use Rattle.prototype.specs.PartsShown.{headResult, tailResult}
+use Rattle.chunk.specs.Walk.{shownWhere, entered, walkResult, finishedShown, againShown, joinedShown}
 use borrow.Author.Needs.{needs}
 use native.Mathlib.Omega.{arith}
 use mathlib.Core.Path.{_≡_, sym, _∙_, ap}
@@ -119,25 +119,25 @@ module _ (t : ℕ) (f : read-function-lts.After-read-functions (function-calls t
   abbrev behind : Cursor
   behind = h .begins2 .given .0 .1 .0
 
-  begun : head-answer.Ok head behind ≡ shownHead (parts.head (a .limits) (a .place .instructions) (a .cursor .at) (drop (a .cursor .at) (a .s .now)))
+  begun : head-answer.Ok head behind ≡ headResult (parts.head (a .limits) (a .place .instructions) (a .cursor .at) (drop (a .cursor .at) (a .s .now)))
   begun = sym (h .begins2 .given .1) ∙ h .before .before .read-head .ensures
 
   module _ (w : grammar.Where) (p : a .place ≡ shownWhere w) where
     abbrev inner-place : grammar.Where
     inner-place = first (a .s .now) (a .limits) (a .left) (a .wanted) (a .place) w p (a .cursor .at) head behind begun
 
-    inner : f .read-functions .result ≡ shownWalk (a .wanted) inner-place (forest (head .protos .count) (entered (a .limits) (a .left)) inner-place (behind .at) (drop (behind .at) (a .s .now)))
+    inner : f .read-functions .result ≡ walkResult (a .wanted) inner-place (forest (head .protos .count) (entered (a .limits) (a .left)) inner-place (behind .at) (drop (behind .at) (a .s .now)))
     inner = f .read-functions .ensures inner-place (f .before .inside .ensures ∙ first-shown (a .s .now) (a .limits) (a .left) (a .wanted) (a .place) w p (a .cursor .at) head behind begun)
 
-    refused-inside : (q : Refusal) → f .read-functions .result ≡ answer.Err q → answer.Err q ≡ shownWalk (a .wanted) w (function (a .limits) (a .left) w (a .cursor .at) (drop (a .cursor .at) (a .s .now)))
+    refused-inside : (q : Refusal) → f .read-functions .result ≡ answer.Err q → answer.Err q ≡ walkResult (a .wanted) w (function (a .limits) (a .left) w (a .cursor .at) (drop (a .cursor .at) (a .s .now)))
     refused-inside q e = nested-refused (a .s .now) (a .limits) (a .left) (a .wanted) (a .place) w p (a .cursor .at) head behind begun q (sym e ∙ inner)
 
     module _ (nested : Walked) (e : f .read-functions .result ≡ answer.Ok nested) where
-      refused-behind : (q : Refusal) → tail-answer.Err q ≡ shownTail (parts.tail (a .limits .«max_string_bytes») (nested .next .at) (drop (nested .next .at) (a .s .now))) → answer.Err q ≡ shownWalk (a .wanted) w (function (a .limits) (a .left) w (a .cursor .at) (drop (a .cursor .at) (a .s .now)))
+      refused-behind : (q : Refusal) → tail-answer.Err q ≡ tailResult (parts.tail (a .limits .«max_string_bytes») (nested .next .at) (drop (nested .next .at) (a .s .now))) → answer.Err q ≡ walkResult (a .wanted) w (function (a .limits) (a .left) w (a .cursor .at) (drop (a .cursor .at) (a .s .now)))
       refused-behind q = tail-refused (a .s .now) (a .limits) (a .left) (a .wanted) (a .place) w p (a .cursor .at) head behind begun nested (sym e ∙ inner) q
 
-      all-read : (t : declared-tail.Tail) (end : Cursor) → tail-answer.Ok t end ≡ shownTail (parts.tail (a .limits .«max_string_bytes») (nested .next .at) (drop (nested .next .at) (a .s .now)))
-          → answer.Ok (finishedShown (a .place) (a .cursor .at) head t end nested (a .wanted)) ≡ shownWalk (a .wanted) w (function (a .limits) (a .left) w (a .cursor .at) (drop (a .cursor .at) (a .s .now)))
+      all-read : (t : declared-tail.Tail) (end : Cursor) → tail-answer.Ok t end ≡ tailResult (parts.tail (a .limits .«max_string_bytes») (nested .next .at) (drop (nested .next .at) (a .s .now)))
+          → answer.Ok (finishedShown (a .place) (a .cursor .at) head t end nested (a .wanted)) ≡ walkResult (a .wanted) w (function (a .limits) (a .left) w (a .cursor .at) (drop (a .cursor .at) (a .s .now)))
       all-read = function-read (a .s .now) (a .limits) (a .left) (a .wanted) (a .place) w p (a .cursor .at) head behind begun nested (sym e ∙ inner)
 
 read-function-returns-2 : (t : ℕ) → read-function-lts.Need-returns-2 (function-calls t) (read-function-at t) read-function.Post
@@ -207,7 +207,7 @@ module _ (t : ℕ) (f : read-functions-lts.After-read-function (functions-calls 
   abbrev b : read-functions-lts.Args (functions-calls t) (read-functions-at t) read-functions.Post read-functions-Inv-loop read-functions-μ-loop (l .before .before .κs)
   b = l .before .before .args
 
-  one : (w : grammar.Where) → againShown (b .first) (l .loop .walked) ≡ shownWhere w → f .read-function .result ≡ shownWalk (b .wanted) w (function (b .limits) (b .left - 1) w (l .loop .walked .next .at) (drop (l .loop .walked .next .at) (b .s .now)))
+  one : (w : grammar.Where) → againShown (b .first) (l .loop .walked) ≡ shownWhere w → f .read-function .result ≡ walkResult (b .wanted) w (function (b .limits) (b .left - 1) w (l .loop .walked .next .at) (drop (l .loop .walked .next .at) (b .s .now)))
   one w p = f .read-function .ensures w (g .again .ensures ∙ p)
 
   refused-next : (q : Refusal) → f .read-function .result ≡ answer.Err q → (w : grammar.Where) → b .first ≡ shownWhere w → answer.Err q ≡ all (b .s .now) (b .limits) (b .n) (b .left) (b .wanted) (b .cursor .at) w

@@ -17,8 +17,8 @@ use Rattle.prototype.specs.declared.parts.Head as declared-head
 use Rattle.prototype.specs.declared.parts.HeadResult.the-variants as head-answer
 use Rattle.chunk.specs.declared.walk.WalkResult.the-variants as answer
 use Rattle.prototype.specs.Parts as parts
-use Rattle.prototype.specs.PartsShown.{shownHead}
-use Rattle.chunk.specs.Walk.{shownWhere, shownWalk, againShown}
+use Rattle.prototype.specs.PartsShown.{headResult}
+use Rattle.chunk.specs.Walk.{shownWhere, walkResult, againShown}
 use Rattle.chunk.proofs.Turns.{all, Rest, starts, ends, deep, many, stops, goes-on}
 use Rattle.chunk.proofs.Functions.{in-total, first, first-shown, head-refused, nested-refused}
 use Rattle.copy_parts.specs.Parts.{functionBytes}
@@ -97,7 +97,7 @@ module _ (t : ℕ) (f : copy-function-lts.After-put-head (calls t) (at t) copy-f
   abbrev behind : Cursor
   behind = f .before .before .before .before .begins2 .given .0 .1 .0
 
-  begun : head-answer.Ok head behind ≡ shownHead (parts.head (a .limits) (a .place .instructions) (a .cursor .at) (drop (a .cursor .at) (a .s .now)))
+  begun : head-answer.Ok head behind ≡ headResult (parts.head (a .limits) (a .place .instructions) (a .cursor .at) (drop (a .cursor .at) (a .s .now)))
   begun = sym (f .before .before .before .before .begins2 .given .1) ∙ f .before .before .before .before .before .before .read-head .ensures
 
   module _ (w : grammar.Where) (p : a .place ≡ shownWhere w) where
@@ -108,7 +108,7 @@ module _ (t : ℕ) (f : copy-function-lts.After-put-head (calls t) (at t) copy-f
     stands = f .before .before .inside .ensures ∙ first-shown (a .s .now) (a .limits) (a .left) 0 (a .place) w p (a .cursor .at) head behind begun
 
     refused-inside : (q : Refusal) → answer.Err q ≡ all (a .s .now) (a .limits) (head .protos .count) (a .left) 0 (behind .at) inner-place
-        → answer.Err q ≡ shownWalk 0 w (function (a .limits) (a .left) w (a .cursor .at) (drop (a .cursor .at) (a .s .now)))
+        → answer.Err q ≡ walkResult 0 w (function (a .limits) (a .left) w (a .cursor .at) (drop (a .cursor .at) (a .s .now)))
     refused-inside q e = nested-refused (a .s .now) (a .limits) (a .left) 0 (a .place) w p (a .cursor .at) head behind begun q e
 
 inside-requires : (t : ℕ) → copy-function-lts.Need-inside-requires (calls t) (at t) copy-function.Post Inv μ-loop

@@ -4,7 +4,7 @@ use borrow.Author.Needs.{needs}
 use Rattle.format.specs.ReadChunk.{constant}
 use Rattle.format.proofs.Exact.{exact-many}
 use Rattle.format.proofs.ExactChunk.{exact-constant}
-use Rattle.lists.specs.Shown.{shownConstant}
+use Rattle.lists.specs.Shown.{constantResult}
 use Rattle.entries.proofs.Passing.{first-refused, second-read}
 use Rattle.entries.proofs.code.constant_at.Statement.{statement}
 use Rattle.entries.proofs.code.constant_at.Tie as tie
@@ -16,7 +16,7 @@ constant-at-spec =
     (λ c κs. search needs) (λ c. search needs) (λ c. search needs) (λ c κs. search needs)
     (λ c.
     let a = c .before .before .before .before .before .args in
-    first-refused (exact-many (a .entry) (exact-constant (a .max-string-bytes))) (constant (a .max-string-bytes)) shownConstant (a .s .now) (a .cursor .at) _ (sym (c .before .passed .given .1) ∙ c .before .before .before .skip-constants .ensures))
+    first-refused (exact-many (a .entry) (exact-constant (a .max-string-bytes))) (constant (a .max-string-bytes)) constantResult (a .s .now) (a .cursor .at) _ (sym (c .before .passed .given .1) ∙ c .before .before .before .skip-constants .ensures))
     (λ c.
     let a = c .before .before .before .before .before .before .args in
-    second-read (exact-many (a .entry) (exact-constant (a .max-string-bytes))) (constant (a .max-string-bytes)) shownConstant (a .s .now) (a .cursor .at) _ (sym (c .before .before .passed2 .given .1) ∙ c .before .before .before .before .skip-constants .ensures) (c .read-constant .ensures)))
+    second-read (exact-many (a .entry) (exact-constant (a .max-string-bytes))) (constant (a .max-string-bytes)) constantResult (a .s .now) (a .cursor .at) _ (sym (c .before .before .passed2 .given .1) ∙ c .before .before .before .before .skip-constants .ensures) (c .read-constant .ensures)))

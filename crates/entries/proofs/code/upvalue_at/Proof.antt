@@ -4,7 +4,7 @@ use borrow.Author.Needs.{needs}
 use Rattle.format.specs.ReadChunk.{upvalue}
 use Rattle.format.proofs.Exact.{exact-many}
 use Rattle.format.proofs.ExactChunk.{exact-upvalue}
-use Rattle.entries.specs.Shown.{shownUpvalue}
+use Rattle.entries.specs.Shown.{upvalueResult}
 use Rattle.entries.proofs.Passing.{first-refused, second-read}
 use Rattle.entries.proofs.code.upvalue_at.Statement.{statement}
 use Rattle.entries.proofs.code.upvalue_at.Tie as tie
@@ -16,7 +16,7 @@ upvalue-at-spec =
     (λ c κs. search needs) (λ c. search needs) (λ c. search needs) (λ c κs. search needs)
     (λ c.
     let a = c .before .before .before .before .before .args in
-    first-refused (exact-many (a .entry) exact-upvalue) upvalue shownUpvalue (a .s .now) (a .cursor .at) _ (sym (c .before .passed .given .1) ∙ c .before .before .before .skip-upvalues .ensures))
+    first-refused (exact-many (a .entry) exact-upvalue) upvalue upvalueResult (a .s .now) (a .cursor .at) _ (sym (c .before .passed .given .1) ∙ c .before .before .before .skip-upvalues .ensures))
     (λ c.
     let a = c .before .before .before .before .before .before .args in
-    second-read (exact-many (a .entry) exact-upvalue) upvalue shownUpvalue (a .s .now) (a .cursor .at) _ (sym (c .before .before .passed2 .given .1) ∙ c .before .before .before .before .skip-upvalues .ensures) (c .read-upvalue .ensures)))
+    second-read (exact-many (a .entry) exact-upvalue) upvalue upvalueResult (a .s .now) (a .cursor .at) _ (sym (c .before .before .passed2 .given .1) ∙ c .before .before .before .before .skip-upvalues .ensures) (c .read-upvalue .ensures)))

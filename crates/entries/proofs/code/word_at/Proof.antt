@@ -4,7 +4,7 @@ use borrow.Author.Needs.{needs}
 use Rattle.format.specs.ReadFields.{field}
 use Rattle.format.proofs.Exact.{exact-many}
 use Rattle.format.proofs.ExactFields.{exact-field}
-use Rattle.reader.specs.Shown.{shownU32}
+use Rattle.reader.specs.Shown.{u32Result}
 use Rattle.entries.proofs.Passing.{first-refused, second-read}
 use Rattle.entries.proofs.code.word_at.Statement.{statement}
 use Rattle.entries.proofs.code.word_at.Tie as tie
@@ -16,7 +16,7 @@ word-at-spec =
     (λ c κs. search needs) (λ c. search needs) (λ c. search needs) (λ c κs. search needs)
     (λ c.
     let a = c .before .before .before .before .before .args in
-    first-refused (exact-many (a .entry) (exact-field 4)) (field 4) shownU32 (a .s .now) (a .cursor .at) _ (sym (c .before .passed .given .1) ∙ c .before .before .before .skip-words .ensures))
+    first-refused (exact-many (a .entry) (exact-field 4)) (field 4) u32Result (a .s .now) (a .cursor .at) _ (sym (c .before .passed .given .1) ∙ c .before .before .before .skip-words .ensures))
     (λ c.
     let a = c .before .before .before .before .before .before .args in
-    second-read (exact-many (a .entry) (exact-field 4)) (field 4) shownU32 (a .s .now) (a .cursor .at) _ (sym (c .before .before .passed2 .given .1) ∙ c .before .before .before .before .skip-words .ensures) (c .read-u32-le .ensures)))
+    second-read (exact-many (a .entry) (exact-field 4)) (field 4) u32Result (a .s .now) (a .cursor .at) _ (sym (c .before .before .passed2 .given .1) ∙ c .before .before .before .before .skip-words .ensures) (c .read-u32-le .ensures)))

@@ -4,7 +4,7 @@ use borrow.Author.Needs.{needs}
 use Rattle.format.specs.ReadChunk.{anchor}
 use Rattle.format.proofs.Exact.{exact-many}
 use Rattle.format.proofs.ExactChunk.{exact-anchor}
-use Rattle.lists.specs.Shown.{shownAnchor}
+use Rattle.lists.specs.Shown.{anchorResult}
 use Rattle.entries.proofs.Passing.{first-refused, second-read}
 use Rattle.entries.proofs.debug.anchor_at.Statement.{statement}
 use Rattle.entries.proofs.debug.anchor_at.Tie as tie
@@ -16,7 +16,7 @@ anchor-at-spec =
     (λ c κs. search needs) (λ c. search needs) (λ c. search needs) (λ c κs. search needs)
     (λ c.
     let a = c .before .before .before .before .before .args in
-    first-refused (exact-many (a .entry) exact-anchor) anchor shownAnchor (a .s .now) (a .cursor .at) _ (sym (c .before .passed .given .1) ∙ c .before .before .before .skip-anchors .ensures))
+    first-refused (exact-many (a .entry) exact-anchor) anchor anchorResult (a .s .now) (a .cursor .at) _ (sym (c .before .passed .given .1) ∙ c .before .before .before .skip-anchors .ensures))
     (λ c.
     let a = c .before .before .before .before .before .before .args in
-    second-read (exact-many (a .entry) exact-anchor) anchor shownAnchor (a .s .now) (a .cursor .at) _ (sym (c .before .before .passed2 .given .1) ∙ c .before .before .before .before .skip-anchors .ensures) (c .read-anchor .ensures)))
+    second-read (exact-many (a .entry) exact-anchor) anchor anchorResult (a .s .now) (a .cursor .at) _ (sym (c .before .before .passed2 .given .1) ∙ c .before .before .before .before .skip-anchors .ensures) (c .read-anchor .ensures)))

@@ -3,7 +3,7 @@ use mathlib.Core.Path.{sym, _∙_}
 use borrow.Author.Needs.{needs}
 use Rattle.format.specs.ReadFields.{byte}
 use Rattle.format.proofs.Exact.{exact-run}
-use Rattle.reader.specs.Shown.{shownU8}
+use Rattle.reader.specs.Shown.{u8Result}
 use Rattle.entries.proofs.Passing.{first-refused, second-read}
 use Rattle.entries.proofs.debug.delta_at.Statement.{statement}
 use Rattle.entries.proofs.debug.delta_at.Tie as tie
@@ -15,7 +15,7 @@ delta-at-spec =
     (λ c κs. search needs) (λ c. search needs) (λ c. search needs) (λ c κs. search needs)
     (λ c.
     let a = c .before .before .before .before .before .args in
-    first-refused (exact-run (a .entry)) byte shownU8 (a .s .now) (a .cursor .at) _ (sym (c .before .passed .given .1) ∙ c .before .before .before .read-exact .ensures))
+    first-refused (exact-run (a .entry)) byte u8Result (a .s .now) (a .cursor .at) _ (sym (c .before .passed .given .1) ∙ c .before .before .before .read-exact .ensures))
     (λ c.
     let a = c .before .before .before .before .before .before .args in
-    second-read (exact-run (a .entry)) byte shownU8 (a .s .now) (a .cursor .at) _ (sym (c .before .before .passed2 .given .1) ∙ c .before .before .before .before .read-exact .ensures) (c .read-u8 .ensures)))
+    second-read (exact-run (a .entry)) byte u8Result (a .s .now) (a .cursor .at) _ (sym (c .before .before .passed2 .given .1) ∙ c .before .before .before .before .read-exact .ensures) (c .read-u8 .ensures)))

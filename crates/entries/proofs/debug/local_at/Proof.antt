@@ -5,7 +5,7 @@ use Rattle.format.specs.ReadChunk.{local}
 use Rattle.format.proofs.Exact.{exact-many}
 use Rattle.format.proofs.ExactChunk.{exact-local}
 use Rattle.lists.specs.Readers.{rawLocal}
-use Rattle.lists.specs.Shown.{shownLocal}
+use Rattle.lists.specs.Shown.{localResult}
 use Rattle.entries.proofs.Passing.{first-refused, second-read}
 use Rattle.entries.proofs.debug.local_at.Statement.{statement}
 use Rattle.entries.proofs.debug.local_at.Tie as tie
@@ -17,7 +17,7 @@ local-at-spec =
     (λ c κs. search needs) (λ c. search needs) (λ c. search needs) (λ c κs. search needs)
     (λ c.
     let a = c .before .before .before .before .before .args in
-    first-refused (exact-many (a .entry) (exact-local (a .max-string-bytes))) (rawLocal (a .max-string-bytes)) shownLocal (a .s .now) (a .cursor .at) _ (sym (c .before .passed .given .1) ∙ c .before .before .before .skip-locals .ensures))
+    first-refused (exact-many (a .entry) (exact-local (a .max-string-bytes))) (rawLocal (a .max-string-bytes)) localResult (a .s .now) (a .cursor .at) _ (sym (c .before .passed .given .1) ∙ c .before .before .before .skip-locals .ensures))
     (λ c.
     let a = c .before .before .before .before .before .before .args in
-    second-read (exact-many (a .entry) (exact-local (a .max-string-bytes))) (rawLocal (a .max-string-bytes)) shownLocal (a .s .now) (a .cursor .at) _ (sym (c .before .before .passed2 .given .1) ∙ c .before .before .before .before .skip-locals .ensures) (c .read-local .ensures)))
+    second-read (exact-many (a .entry) (exact-local (a .max-string-bytes))) (rawLocal (a .max-string-bytes)) localResult (a .s .now) (a .cursor .at) _ (sym (c .before .before .passed2 .given .1) ∙ c .before .before .before .before .skip-locals .ensures) (c .read-local .ensures)))

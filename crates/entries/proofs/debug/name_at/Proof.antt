@@ -4,7 +4,7 @@ use borrow.Author.Needs.{needs}
 use Rattle.format.specs.ReadFields.{string}
 use Rattle.format.proofs.Exact.{exact-many}
 use Rattle.format.proofs.ExactFields.{exact-string}
-use Rattle.reader.specs.Shown.{shownString}
+use Rattle.reader.specs.Shown.{stringResult}
 use Rattle.entries.proofs.Passing.{first-refused, second-read}
 use Rattle.entries.proofs.debug.name_at.Statement.{statement}
 use Rattle.entries.proofs.debug.name_at.Tie as tie
@@ -16,7 +16,7 @@ name-at-spec =
     (λ c κs. search needs) (λ c. search needs) (λ c. search needs) (λ c κs. search needs)
     (λ c.
     let a = c .before .before .before .before .before .args in
-    first-refused (exact-many (a .entry) (exact-string (a .max-string-bytes))) (string (a .max-string-bytes)) shownString (a .s .now) (a .cursor .at) _ (sym (c .before .passed .given .1) ∙ c .before .before .before .skip-strings .ensures))
+    first-refused (exact-many (a .entry) (exact-string (a .max-string-bytes))) (string (a .max-string-bytes)) stringResult (a .s .now) (a .cursor .at) _ (sym (c .before .passed .given .1) ∙ c .before .before .before .skip-strings .ensures))
     (λ c.
     let a = c .before .before .before .before .before .before .args in
-    second-read (exact-many (a .entry) (exact-string (a .max-string-bytes))) (string (a .max-string-bytes)) shownString (a .s .now) (a .cursor .at) _ (sym (c .before .before .passed2 .given .1) ∙ c .before .before .before .before .skip-strings .ensures) (c .read-string-lua54 .ensures)))
+    second-read (exact-many (a .entry) (exact-string (a .max-string-bytes))) (string (a .max-string-bytes)) stringResult (a .s .now) (a .cursor .at) _ (sym (c .before .before .passed2 .given .1) ∙ c .before .before .before .before .skip-strings .ensures) (c .read-string-lua54 .ensures)))

@@ -4,7 +4,7 @@ use mathlib.Core.List.{[]}
 use borrow.Author.Needs.{needs}
 use lib.ListN.{drop}
 use Rattle.format.specs.ReadChunk.{anchor}
-use Rattle.lists.specs.Shown.{shownAnchor}
+use Rattle.lists.specs.Shown.{anchorResult}
 use Rattle.boundary.specs.Status.{limitsOf}
 use Rattle.boundary.proofs.Calls.{call-refuses, call-answers}
 use Rattle.parts_at.specs.PartNumbers.{upTo, ofAnchorAt}
@@ -19,8 +19,8 @@ anchor-at-spec =
     (λ c.
     let k = c .before .before .before .before in
     let a = k .before .before .args in
-    call-refuses ofAnchorAt (λ L. shownAnchor (anchor (a .place) (drop (a .place) (a .chunk .now)))) (a .out .now) (λ i. limitsOf []) (k .read-anchor .ensures) (c .before .before .answer .given .1) refl (c .refused .ensures))
+    call-refuses ofAnchorAt (λ L. anchorResult (anchor (a .place) (drop (a .place) (a .chunk .now)))) (a .out .now) (λ i. limitsOf []) (k .read-anchor .ensures) (c .before .before .answer .given .1) refl (c .refused .ensures))
     (λ c.
     let k = c .before .before .before .before .before in
     let a = k .before .before .args in
-    call-answers ofAnchorAt (λ L. shownAnchor (anchor (a .place) (drop (a .place) (a .chunk .now)))) (a .out .now) (λ i. limitsOf []) (k .read-anchor .ensures) (c .before .before .before .answer2 .given .1) refl (c .up-to-two .ensures ∙ ap (λ l. upTo l (c .before .before .before .answer2 .given .0 .1 .0 .at)) (c .before .anchor-numbers .ensures))))
+    call-answers ofAnchorAt (λ L. anchorResult (anchor (a .place) (drop (a .place) (a .chunk .now)))) (a .out .now) (λ i. limitsOf []) (k .read-anchor .ensures) (c .before .before .before .answer2 .given .1) refl (c .up-to-two .ensures ∙ ap (λ l. upTo l (c .before .before .before .answer2 .given .0 .1 .0 .at)) (c .before .anchor-numbers .ensures))))

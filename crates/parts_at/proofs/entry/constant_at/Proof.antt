@@ -3,7 +3,7 @@ use mathlib.Core.Path.{refl, _∙_, ap}
 use borrow.Author.Needs.{needs}
 use lib.ListN.{drop}
 use Rattle.format.specs.ReadChunk.{constant}
-use Rattle.lists.specs.Shown.{shownConstant}
+use Rattle.lists.specs.Shown.{constantResult}
 use Rattle.boundary.proofs.Calls.{call-refuses, call-answers}
 use Rattle.parts_at.specs.PartNumbers.{upTo, ofConstantAt}
 use Rattle.parts_at.proofs.entry.constant_at.Statement.{statement}
@@ -17,8 +17,8 @@ constant-at-spec =
     (λ c.
     let k = c .before .before .before .before in
     let a = k .before .before .before .args in
-    call-refuses ofConstantAt (λ L. shownConstant (constant (L .«max_string_bytes») (a .place) (drop (a .place) (a .chunk .now)))) (a .out .now) (k .before .limits-of .ensures) (k .read-constant .ensures) (c .before .before .answer .given .1) refl (c .refused .ensures))
+    call-refuses ofConstantAt (λ L. constantResult (constant (L .«max_string_bytes») (a .place) (drop (a .place) (a .chunk .now)))) (a .out .now) (k .before .limits-of .ensures) (k .read-constant .ensures) (c .before .before .answer .given .1) refl (c .refused .ensures))
     (λ c.
     let k = c .before .before .before .before .before in
     let a = k .before .before .before .args in
-    call-answers ofConstantAt (λ L. shownConstant (constant (L .«max_string_bytes») (a .place) (drop (a .place) (a .chunk .now)))) (a .out .now) (k .before .limits-of .ensures) (k .read-constant .ensures) (c .before .before .before .answer2 .given .1) refl (c .up-to-three .ensures ∙ ap (λ l. upTo l (c .before .before .before .answer2 .given .0 .1 .0 .at)) (c .before .constant-numbers .ensures))))
+    call-answers ofConstantAt (λ L. constantResult (constant (L .«max_string_bytes») (a .place) (drop (a .place) (a .chunk .now)))) (a .out .now) (k .before .limits-of .ensures) (k .read-constant .ensures) (c .before .before .before .answer2 .given .1) refl (c .up-to-three .ensures ∙ ap (λ l. upTo l (c .before .before .before .answer2 .given .0 .1 .0 .at)) (c .before .constant-numbers .ensures))))

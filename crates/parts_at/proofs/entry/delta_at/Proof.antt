@@ -4,7 +4,7 @@ use mathlib.Core.List.{[], _∷_}
 use borrow.Author.Needs.{needs}
 use lib.ListN.{drop}
 use Rattle.format.specs.ReadFields.{field}
-use Rattle.reader.specs.Shown.{shownU8}
+use Rattle.reader.specs.Shown.{u8Result}
 use Rattle.boundary.specs.Status.{limitsOf}
 use Rattle.boundary.proofs.Calls.{call-refuses, call-answers}
 use Rattle.parts_at.specs.PartNumbers.{ofDeltaAt}
@@ -19,8 +19,8 @@ delta-at-spec =
     (λ c.
     let k = c .before .before .before .before in
     let a = k .before .before .args in
-    call-refuses ofDeltaAt (λ L. shownU8 (field 1 (a .place) (drop (a .place) (a .chunk .now)))) (a .out .now) (λ i. limitsOf []) (k .read-u8 .ensures) (c .before .before .answer .given .1) refl (c .refused .ensures))
+    call-refuses ofDeltaAt (λ L. u8Result (field 1 (a .place) (drop (a .place) (a .chunk .now)))) (a .out .now) (λ i. limitsOf []) (k .read-u8 .ensures) (c .before .before .answer .given .1) refl (c .refused .ensures))
     (λ c.
     let k = c .before .before .before .before .before in
     let a = k .before .before .args in
-    call-answers ofDeltaAt (λ L. shownU8 (field 1 (a .place) (drop (a .place) (a .chunk .now)))) (a .out .now) (λ i. limitsOf []) (k .read-u8 .ensures) (c .before .before .before .answer2 .given .1) refl (c .two .ensures ∙ ap (λ n. n ∷ c .before .before .before .answer2 .given .0 .1 .0 .at ∷ []) (c .before .delta-number .ensures))))
+    call-answers ofDeltaAt (λ L. u8Result (field 1 (a .place) (drop (a .place) (a .chunk .now)))) (a .out .now) (λ i. limitsOf []) (k .read-u8 .ensures) (c .before .before .before .answer2 .given .1) refl (c .two .ensures ∙ ap (λ n. n ∷ c .before .before .before .answer2 .given .0 .1 .0 .at ∷ []) (c .before .delta-number .ensures))))

@@ -3,7 +3,7 @@ use mathlib.Core.Path.{refl}
 use borrow.Author.Needs.{needs}
 use lib.ListN.{drop}
 use Rattle.lists.specs.Readers.{rawLocal}
-use Rattle.lists.specs.Shown.{shownLocal}
+use Rattle.lists.specs.Shown.{localResult}
 use Rattle.boundary.proofs.Calls.{call-refuses, call-answers}
 use Rattle.parts_at.specs.PartNumbers.{ofLocalAt}
 use Rattle.parts_at.proofs.entry.local_at.Statement.{statement}
@@ -17,8 +17,8 @@ local-at-spec =
     (λ c.
     let k = c .before .before .before .before in
     let a = k .before .before .before .args in
-    call-refuses ofLocalAt (λ L. shownLocal (rawLocal (L .«max_string_bytes») (a .place) (drop (a .place) (a .chunk .now)))) (a .out .now) (k .before .limits-of .ensures) (k .read-local .ensures) (c .before .before .answer .given .1) refl (c .refused .ensures))
+    call-refuses ofLocalAt (λ L. localResult (rawLocal (L .«max_string_bytes») (a .place) (drop (a .place) (a .chunk .now)))) (a .out .now) (k .before .limits-of .ensures) (k .read-local .ensures) (c .before .before .answer .given .1) refl (c .refused .ensures))
     (λ c.
     let k = c .before .before .before .before in
     let a = k .before .before .before .args in
-    call-answers ofLocalAt (λ L. shownLocal (rawLocal (L .«max_string_bytes») (a .place) (drop (a .place) (a .chunk .now)))) (a .out .now) (k .before .limits-of .ensures) (k .read-local .ensures) (c .before .before .answer2 .given .1) refl (c .local-numbers-at .ensures)))
+    call-answers ofLocalAt (λ L. localResult (rawLocal (L .«max_string_bytes») (a .place) (drop (a .place) (a .chunk .now)))) (a .out .now) (k .before .limits-of .ensures) (k .read-local .ensures) (c .before .before .answer2 .given .1) refl (c .local-numbers-at .ensures)))

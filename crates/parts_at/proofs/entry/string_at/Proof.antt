@@ -3,7 +3,7 @@ use mathlib.Core.Path.{refl, _∙_, ap}
 use borrow.Author.Needs.{needs}
 use lib.ListN.{drop}
 use Rattle.format.specs.ReadFields.{string}
-use Rattle.reader.specs.Shown.{shownString}
+use Rattle.reader.specs.Shown.{stringResult}
 use Rattle.boundary.proofs.Calls.{call-refuses, call-answers}
 use Rattle.parts_at.specs.PartNumbers.{upTo, ofStringAt}
 use Rattle.parts_at.proofs.entry.string_at.Statement.{statement}
@@ -17,8 +17,8 @@ string-at-spec =
     (λ c.
     let k = c .before .before .before .before in
     let a = k .before .before .before .args in
-    call-refuses ofStringAt (λ L. shownString (string (L .«max_string_bytes») (a .place) (drop (a .place) (a .chunk .now)))) (a .out .now) (k .before .limits-of .ensures) (k .read-string-lua54 .ensures) (c .before .before .answer .given .1) refl (c .refused .ensures))
+    call-refuses ofStringAt (λ L. stringResult (string (L .«max_string_bytes») (a .place) (drop (a .place) (a .chunk .now)))) (a .out .now) (k .before .limits-of .ensures) (k .read-string-lua54 .ensures) (c .before .before .answer .given .1) refl (c .refused .ensures))
     (λ c.
     let k = c .before .before .before .before .before in
     let a = k .before .before .before .args in
-    call-answers ofStringAt (λ L. shownString (string (L .«max_string_bytes») (a .place) (drop (a .place) (a .chunk .now)))) (a .out .now) (k .before .limits-of .ensures) (k .read-string-lua54 .ensures) (c .before .before .before .answer2 .given .1) refl (c .up-to-three .ensures ∙ ap (λ l. upTo l (c .before .before .before .answer2 .given .0 .1 .0 .at)) (c .before .string-numbers .ensures))))
+    call-answers ofStringAt (λ L. stringResult (string (L .«max_string_bytes») (a .place) (drop (a .place) (a .chunk .now)))) (a .out .now) (k .before .limits-of .ensures) (k .read-string-lua54 .ensures) (c .before .before .before .answer2 .given .1) refl (c .up-to-three .ensures ∙ ap (λ l. upTo l (c .before .before .before .answer2 .given .0 .1 .0 .at)) (c .before .string-numbers .ensures))))

@@ -4,7 +4,7 @@ use mathlib.Core.List.{[]}
 use borrow.Author.Needs.{needs}
 use lib.ListN.{drop}
 use Rattle.format.specs.ReadChunk.{upvalue}
-use Rattle.entries.specs.Shown.{shownUpvalue}
+use Rattle.entries.specs.Shown.{upvalueResult}
 use Rattle.boundary.specs.Status.{limitsOf}
 use Rattle.boundary.proofs.Calls.{call-refuses, call-answers}
 use Rattle.parts_at.specs.PartNumbers.{upTo, ofUpvalueAt}
@@ -19,8 +19,8 @@ upvalue-at-spec =
     (λ c.
     let k = c .before .before .before .before in
     let a = k .before .before .args in
-    call-refuses ofUpvalueAt (λ L. shownUpvalue (upvalue (a .place) (drop (a .place) (a .chunk .now)))) (a .out .now) (λ i. limitsOf []) (k .read-upvalue .ensures) (c .before .before .answer .given .1) refl (c .refused .ensures))
+    call-refuses ofUpvalueAt (λ L. upvalueResult (upvalue (a .place) (drop (a .place) (a .chunk .now)))) (a .out .now) (λ i. limitsOf []) (k .read-upvalue .ensures) (c .before .before .answer .given .1) refl (c .refused .ensures))
     (λ c.
     let k = c .before .before .before .before .before in
     let a = k .before .before .args in
-    call-answers ofUpvalueAt (λ L. shownUpvalue (upvalue (a .place) (drop (a .place) (a .chunk .now)))) (a .out .now) (λ i. limitsOf []) (k .read-upvalue .ensures) (c .before .before .before .answer2 .given .1) refl (c .up-to-three .ensures ∙ ap (λ l. upTo l (c .before .before .before .answer2 .given .0 .1 .0 .at)) (c .before .upvalue-numbers .ensures))))
+    call-answers ofUpvalueAt (λ L. upvalueResult (upvalue (a .place) (drop (a .place) (a .chunk .now)))) (a .out .now) (λ i. limitsOf []) (k .read-upvalue .ensures) (c .before .before .before .answer2 .given .1) refl (c .up-to-three .ensures ∙ ap (λ l. upTo l (c .before .before .before .answer2 .given .0 .1 .0 .at)) (c .before .upvalue-numbers .ensures))))

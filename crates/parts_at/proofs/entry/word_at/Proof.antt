@@ -4,7 +4,7 @@ use mathlib.Core.List.{[]}
 use borrow.Author.Needs.{needs}
 use lib.ListN.{drop}
 use Rattle.format.specs.ReadFields.{field}
-use Rattle.reader.specs.Shown.{shownU32}
+use Rattle.reader.specs.Shown.{u32Result}
 use Rattle.boundary.specs.Status.{limitsOf}
 use Rattle.boundary.proofs.Calls.{call-refuses, call-answers}
 use Rattle.parts_at.specs.PartNumbers.{ofWordAt}
@@ -19,8 +19,8 @@ word-at-spec =
     (λ c.
     let k = c .before .before .before .before in
     let a = k .before .before .args in
-    call-refuses ofWordAt (λ L. shownU32 (field 4 (a .place) (drop (a .place) (a .chunk .now)))) (a .out .now) (λ i. limitsOf []) (k .read-u32-le .ensures) (c .before .before .answer .given .1) refl (c .refused .ensures))
+    call-refuses ofWordAt (λ L. u32Result (field 4 (a .place) (drop (a .place) (a .chunk .now)))) (a .out .now) (λ i. limitsOf []) (k .read-u32-le .ensures) (c .before .before .answer .given .1) refl (c .refused .ensures))
     (λ c.
     let k = c .before .before .before .before in
     let a = k .before .before .args in
-    call-answers ofWordAt (λ L. shownU32 (field 4 (a .place) (drop (a .place) (a .chunk .now)))) (a .out .now) (λ i. limitsOf []) (k .read-u32-le .ensures) (c .before .before .answer2 .given .1) refl (c .two .ensures)))
+    call-answers ofWordAt (λ L. u32Result (field 4 (a .place) (drop (a .place) (a .chunk .now)))) (a .out .now) (λ i. limitsOf []) (k .read-u32-le .ensures) (c .before .before .answer2 .given .1) refl (c .two .ensures)))

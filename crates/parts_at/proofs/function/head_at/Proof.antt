@@ -3,7 +3,7 @@ use mathlib.Core.Path.{refl}
 use borrow.Author.Needs.{needs}
 use lib.ListN.{drop}
 use Rattle.prototype.specs.Parts as parts
-use Rattle.prototype.specs.PartsShown.{shownHead}
+use Rattle.prototype.specs.PartsShown.{headResult}
 use Rattle.boundary.proofs.Calls.{call-refuses, call-answers}
 use Rattle.parts_at.specs.PartNumbers.{ofHead}
 use Rattle.parts_at.proofs.function.head_at.Statement.{statement}
@@ -17,8 +17,8 @@ head-at-spec =
     (λ c.
     let k = c .before .before .before .before in
     let a = k .before .before .before .args in
-    call-refuses ofHead (λ L. shownHead (parts.head L 0 (a .place) (drop (a .place) (a .chunk .now)))) (a .out .now) (k .before .limits-of .ensures) (k .read-head .ensures) (c .before .before .answer .given .1) refl (c .refused .ensures))
+    call-refuses ofHead (λ L. headResult (parts.head L 0 (a .place) (drop (a .place) (a .chunk .now)))) (a .out .now) (k .before .limits-of .ensures) (k .read-head .ensures) (c .before .before .answer .given .1) refl (c .refused .ensures))
     (λ c.
     let k = c .before .before .before .before in
     let a = k .before .before .before .args in
-    call-answers ofHead (λ L. shownHead (parts.head L 0 (a .place) (drop (a .place) (a .chunk .now)))) (a .out .now) (k .before .limits-of .ensures) (k .read-head .ensures) (c .before .before .answer2 .given .1) refl (c .head-numbers .ensures)))
+    call-answers ofHead (λ L. headResult (parts.head L 0 (a .place) (drop (a .place) (a .chunk .now)))) (a .out .now) (k .before .limits-of .ensures) (k .read-head .ensures) (c .before .before .answer2 .given .1) refl (c .head-numbers .ensures)))

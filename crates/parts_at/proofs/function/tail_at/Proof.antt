@@ -3,7 +3,7 @@ use mathlib.Core.Path.{refl}
 use borrow.Author.Needs.{needs}
 use lib.ListN.{drop}
 use Rattle.prototype.specs.Parts as parts
-use Rattle.prototype.specs.PartsShown.{shownTail}
+use Rattle.prototype.specs.PartsShown.{tailResult}
 use Rattle.boundary.proofs.Calls.{call-refuses, call-answers}
 use Rattle.parts_at.specs.PartNumbers.{ofTail}
 use Rattle.parts_at.proofs.function.tail_at.Statement.{statement}
@@ -17,8 +17,8 @@ tail-at-spec =
     (λ c.
     let k = c .before .before .before .before in
     let a = k .before .before .before .args in
-    call-refuses ofTail (λ L. shownTail (parts.tail (L .«max_string_bytes») (a .place) (drop (a .place) (a .chunk .now)))) (a .out .now) (k .before .limits-of .ensures) (k .read-tail .ensures) (c .before .before .answer .given .1) refl (c .refused .ensures))
+    call-refuses ofTail (λ L. tailResult (parts.tail (L .«max_string_bytes») (a .place) (drop (a .place) (a .chunk .now)))) (a .out .now) (k .before .limits-of .ensures) (k .read-tail .ensures) (c .before .before .answer .given .1) refl (c .refused .ensures))
     (λ c.
     let k = c .before .before .before .before in
     let a = k .before .before .before .args in
-    call-answers ofTail (λ L. shownTail (parts.tail (L .«max_string_bytes») (a .place) (drop (a .place) (a .chunk .now)))) (a .out .now) (k .before .limits-of .ensures) (k .read-tail .ensures) (c .before .before .answer2 .given .1) refl (c .tail-numbers .ensures)))
+    call-answers ofTail (λ L. tailResult (parts.tail (L .«max_string_bytes») (a .place) (drop (a .place) (a .chunk .now)))) (a .out .now) (k .before .limits-of .ensures) (k .read-tail .ensures) (c .before .before .answer2 .given .1) refl (c .tail-numbers .ensures)))

@@ -7,7 +7,7 @@ use borrow.Author.Needs.{needs}
 use lib.ListN.{length, drop}
 use Rattle.format.specs.ReadFields.{groups}
 use Rattle.format.proofs.Steps.{groups-short, groups-overflow, groups-last, groups-more}
-use Rattle.reader.specs.Shown.{shownU64}
+use Rattle.reader.specs.Shown.{u64Result}
 use Rattle.reader.proofs.varint.read_groups.Statement.{statement}
 use Rattle.reader.proofs.varint.read_groups.Tie as tie
 
@@ -21,14 +21,14 @@ returns : tie.Need-returns Inv-loop μ-loop
 returns c =
     let s = c .before .before .before .before .args .s .now in
     let l = c .before .before .loop in
-    sym (ap shownU64 (l .inv ∙ groups-overflow s (l .i) (l .value) (omega arith) (omega arith)))
+    sym (ap u64Result (l .inv ∙ groups-overflow s (l .i) (l .value) (omega arith) (omega arith)))
 
 returns-2 : tie.Need-returns-2 Inv-loop μ-loop
 returns-2 c =
     let s = c .before .before .before .before .before .before .before .args .s .now in
     let l = c .before .before .before .before .before .loop in
     let w = c .before .wide in
-    sym (ap shownU64 (l .inv ∙ groups-last s (l .i) (l .value) (omega arith) (w .result) (w .ensures .0) (omega arith) (omega arith) (omega arith)))
+    sym (ap u64Result (l .inv ∙ groups-last s (l .i) (l .value) (omega arith) (w .result) (w .ensures .0) (omega arith) (omega arith) (omega arith)))
 
 loop-again : tie.Need-loop-again Inv-loop μ-loop
 loop-again c =
@@ -41,7 +41,7 @@ returns-3 : tie.Need-returns-3 Inv-loop μ-loop
 returns-3 c =
     let s = c .before .before .before .before .args .s .now in
     let l = c .before .before .loop in
-    rw (c .short .ensures) (sym (ap shownU64 (l .inv ∙ groups-short s (l .i) (l .value) (omega arith))))
+    rw (c .short .ensures) (sym (ap u64Result (l .inv ∙ groups-short s (l .i) (l .value) (omega arith))))
 
 pub read-groups-spec : {M : Type 1} → statement M
 read-groups-spec =

@@ -8,7 +8,7 @@ use Rattle.format.specs.Form.{Bytes}
 use Rattle.format.specs.Read.{ok}
 use Rattle.format.specs.ReadFields.{groups}
 use Rattle.format.proofs.Steps.{groups-short, groups-last}
-use Rattle.reader.specs.Shown.{shownU64}
+use Rattle.reader.specs.Shown.{u64Result}
 use Rattle.reader.proofs.varint.read_varint_lua54.Statement.{statement}
 use Rattle.reader.proofs.varint.read_varint_lua54.Tie as tie
 
@@ -20,13 +20,13 @@ one-byte s i x h byte l m =
 returns : tie.Need-returns
 returns c =
     let a = c .before .before .before .args in
-    rw (c .short .ensures) (sym (ap shownU64 (groups-short (a .s .now) (a .cursor .at) 0 (omega arith))))
+    rw (c .short .ensures) (sym (ap u64Result (groups-short (a .s .now) (a .cursor .at) 0 (omega arith))))
 
 returns-2 : tie.Need-returns-2
 returns-2 c =
     let a = c .before .before .before .before .before .args in
     let w = c .before .wide in
-    sym (ap shownU64 (one-byte (a .s .now) (a .cursor .at) (w .result) (omega arith) (w .ensures .0) (omega arith) (omega arith)))
+    sym (ap u64Result (one-byte (a .s .now) (a .cursor .at) (w .result) (omega arith) (w .ensures .0) (omega arith) (omega arith)))
 
 pub read-varint-lua54-spec : {M : Type 1} → statement M
 read-varint-lua54-spec =

@@ -13,12 +13,12 @@ use Rattle.prototype.specs.declared.parts.Head as declared-head
 use Rattle.prototype.specs.declared.parts.HeadResult.the-variants as head-answer
 use Rattle.chunk.specs.declared.walk.WalkResult.the-variants as answer
 use Rattle.prototype.specs.Parts as parts
-use Rattle.prototype.specs.PartsShown.{shownHead}
-use Rattle.chunk.specs.Walk.{shownWhere, shownWalk, finishedShown}
+use Rattle.prototype.specs.PartsShown.{headResult}
+use Rattle.chunk.specs.Walk.{shownWhere, walkResult, finishedShown}
 use Rattle.chunk.proofs.Functions as functions
 use Rattle.skim.specs.declared.walk.Skimmed.{Skimmed}
 use Rattle.skim.specs.declared.walk.SkimResult.the-variants as skim
-use Rattle.skim.specs.Skim.{shownSkim, walkedShown}
+use Rattle.skim.specs.Skim.{skimResult, walkedShown}
 use Rattle.skim.proofs.Skims.{refused-too, without-row}
 use Rattle.skim.proofs.outer.read_outer.Statement.{statement}
 use Rattle.skim.proofs.outer.read_outer.Tie as tie
@@ -60,7 +60,7 @@ module _ (f : lts.After-skim-functions calls reads.Pre reads.Post) where
   abbrev behind : Cursor
   behind = h .begins2 .given .0 .1 .0
 
-  begun : head-answer.Ok head behind ≡ shownHead (parts.head (a .limits) (a .place .instructions) (a .cursor .at) (drop (a .cursor .at) (a .s .now)))
+  begun : head-answer.Ok head behind ≡ headResult (parts.head (a .limits) (a .place .instructions) (a .cursor .at) (drop (a .cursor .at) (a .s .now)))
   begun = sym (h .begins2 .given .1) ∙ h .before .before .read-head .ensures
 
   module _ (w : grammar.Where) (p : a .place ≡ shownWhere w) where
@@ -76,10 +76,10 @@ module _ (f : lts.After-skim-functions calls reads.Pre reads.Post) where
     abbrev inner : Read (List Prototype)
     inner = functions.inner (a .s .now) (a .limits) (a .left) (a .wanted) (a .place) w p (a .cursor .at) head behind begun
 
-    skimmed : f .skim-functions .result ≡ shownSkim first inner
+    skimmed : f .skim-functions .result ≡ skimResult first inner
     skimmed = f .skim-functions .ensures first number instructions
 
-    nested : (k : Skimmed) → f .skim-functions .result ≡ skim.Ok k → answer.Ok (walkedShown k) ≡ shownWalk (a .wanted) first inner
+    nested : (k : Skimmed) → f .skim-functions .result ≡ skim.Ok k → answer.Ok (walkedShown k) ≡ walkResult (a .wanted) first inner
     nested k e =
         let below = h .before .before .before .before .pre .3 in
         let behind-it = number in

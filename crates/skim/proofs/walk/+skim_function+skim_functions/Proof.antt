@@ -14,11 +14,11 @@ use Rattle.cursor.specs.declared.Cursor.{Cursor}
 use Rattle.prototype.specs.declared.parts.Head as declared-head
 use Rattle.prototype.specs.declared.parts.HeadResult.the-variants as head-answer
 use Rattle.prototype.specs.Parts as parts
-use Rattle.prototype.specs.PartsShown.{shownHead}
+use Rattle.prototype.specs.PartsShown.{headResult}
 use Rattle.chunk.proofs.Functions.{in-total}
 use Rattle.skim.specs.declared.walk.Skimmed.{Skimmed}
 use Rattle.skim.specs.declared.walk.SkimResult.the-variants as skim
-use Rattle.skim.specs.Skim.{shownSkim}
+use Rattle.skim.specs.Skim.{skimResult}
 use Rattle.skim.proofs.Skims as skims
 use Rattle.skim.proofs.walk.skim_function.Reads as skim-function
 use Rattle.skim.proofs.walk.skim_function.Kinds as skim-function-kinds
@@ -109,11 +109,11 @@ module _ (t : ℕ) (f : skim-function-lts.After-skim-functions (function-calls t
   abbrev behind : Cursor
   behind = h .begins2 .given .0 .1 .0
 
-  begun : head-answer.Ok head behind ≡ shownHead (parts.head (a .limits) (a .from .instructions) (a .from .next .at) (drop (a .from .next .at) (a .s .now)))
+  begun : head-answer.Ok head behind ≡ headResult (parts.head (a .limits) (a .from .instructions) (a .from .next .at) (drop (a .from .next .at) (a .s .now)))
   begun = sym (h .begins2 .given .1) ∙ h .before .before .read-head .ensures
 
   module _ (w : grammar.Where) (n : a .from .number ≡ w .number) (i : a .from .instructions ≡ w .instructions) where
-    inner : f .skim-functions .result ≡ shownSkim (skims.first (a .s .now) (a .limits) (a .left) (a .from) w n i head behind begun) (skims.inner (a .s .now) (a .limits) (a .left) (a .from) w n i head behind begun)
+    inner : f .skim-functions .result ≡ skimResult (skims.first (a .s .now) (a .limits) (a .left) (a .from) w n i head behind begun) (skims.inner (a .s .now) (a .limits) (a .left) (a .from) w n i head behind begun)
     inner = f .skim-functions .ensures (skims.first (a .s .now) (a .limits) (a .left) (a .from) w n i head behind begun)
         (skims.first-number (a .s .now) (a .limits) (a .left) (a .from) w n i head behind begun)
         (skims.first-instructions (a .s .now) (a .limits) (a .left) (a .from) w n i head behind begun)
