@@ -1,14 +1,14 @@
 -- The row of a function by its number, and where its lists stand, in the code's terms.
 -- Assumes nothing.
 use mathlib.Core.Path.{_≡_, refl, sym, _∙_, ap}
-use mathlib.Core.Bool.{Bool, true, false}
+use mathlib.Core.Bool.{Bool, true, false, cond}
 use mathlib.Core.List.{List, [], _∷_}
 use mathlib.Core.Option.{Option, none, some}
 use Prim.Native.Nat.{ℕ, zero, suc, _+_, _≤_, _<_}
 use native.Mathlib.Omega.{arith}
+use lib.ListN.{getElem?}
 use borrow.Author.Tests.{lt-ltb, le-ltb, eq-eqb, ne-eqb}
 use lib.Dec.{eqb, ltb}
-use Rattle.format.specs.Pick.{pick}
 use Rattle.format.specs.declared.refusal.Refusal.{Refusal}
 use Rattle.format.specs.declared.refusal.Refusal.the-variants.{NoFunction, NoEntry}
 use Rattle.format.specs.Reading.{Prototype, Reading}
@@ -21,7 +21,6 @@ use Rattle.prototype.specs.Row.{rowOf, shownRow, lookup}
 use Rattle.decode.specs.declared.summary.Decoded.{Decoded}
 use Rattle.decode.specs.declared.summary.DecodedResult.the-variants as decoded
 use Rattle.decode.specs.Decoded.{decodedResult}
-use Rattle.entries.specs.Nth.{nth}
 use Rattle.access.specs.declared.row.RowAnswer.{RowAnswer}
 use Rattle.access.specs.declared.row.RowAnswer.the-variants as row
 use Rattle.access.specs.declared.place.EntryKind.{EntryKind}
@@ -30,14 +29,14 @@ use Rattle.access.specs.Asked.{Asked, found, refused, orRefuse, function
 use Rattle.access.specs.Places.{shownRowAnswer, listOf, placeIn, shownPlace}
 
 -- a function by its number is the item of that number
-lookup-from : (n k : ℕ) (ps : List Prototype) → lookup (k + n) k ps ≡ nth n ps
+lookup-from : (n k : ℕ) (ps : List Prototype) → lookup (k + n) k ps ≡ getElem? ps n
 lookup-from n k [] = refl
 lookup-from zero k (p ∷ ps) = rw (eq-eqb (k + 0) k (omega arith))
 lookup-from (suc n) k (p ∷ ps) =
     let e : k + suc n ≡ k + 1 + n = omega arith in
-    ap (λ b. pick b (some p) (lookup (k + suc n) (k + 1) ps)) (ne-eqb (k + suc n) k (λ e. omega arith)) ∙ ap (λ m. lookup m (k + 1) ps) e ∙ lookup-from n (k + 1) ps
+    ap (λ b. cond b (some p) (lookup (k + suc n) (k + 1) ps)) (ne-eqb (k + suc n) k (λ e. omega arith)) ∙ ap (λ m. lookup m (k + 1) ps) e ∙ lookup-from n (k + 1) ps
 
-lookup-nth : (n : ℕ) (ps : List Prototype) → lookup n 0 ps ≡ nth n ps
+lookup-nth : (n : ℕ) (ps : List Prototype) → lookup n 0 ps ≡ getElem? ps n
 lookup-nth n ps = let e : n ≡ 0 + n = omega arith in ap (λ m. lookup m 0 ps) e ∙ lookup-from n 0 ps
 
 -- what is shown of a row that was looked for
@@ -57,7 +56,7 @@ module _ (f : ℕ) where
   by-row : (o : Outcome) (d : Decoded) → decoded.Ok d ≡ decodedResult f o → rowOr (d .row) ≡ shownRowAnswer (functionOf f o)
   by-row (shown r) d e =
       let same : d .row ≡ shownRow (lookup f 0 (r .functions)) = cc in
-      ap rowOr same ∙ ap (λ p. rowOr (shownRow p)) (lookup-nth f (r .functions)) ∙ shown-or (nth f (r .functions))
+      ap rowOr same ∙ ap (λ p. rowOr (shownRow p)) (lookup-nth f (r .functions)) ∙ shown-or (getElem? (r .functions) f)
   by-row (refusal p) d e = absurd (let z : _≡_ {A = ℕ} 0 1 = cc in omega arith)
 
   pub row-none : (o : Outcome) (d : Decoded) → decoded.Ok d ≡ decodedResult f o → d .row ≡ option.None → row.Err NoFunction ≡ shownRowAnswer (functionOf f o)
@@ -77,7 +76,7 @@ module _ (k : EntryKind) (i : ℕ) where
   in-row (refused p) x e = absurd (let z : _≡_ {A = ℕ} 0 1 = cc in omega arith)
 
   pub place-there : (a : Asked Prototype) (x : FunctionRow) → row.Ok x ≡ shownRowAnswer a → i < listOf k x .count → place.Ok (cursorAt (listOf k x .place)) ≡ shownPlace k i a
-  place-there a x e h = sym (ap (λ b. pick b (place.Ok (cursorAt (listOf k x .place))) (place.Err NoEntry)) (lt-ltb i (listOf k x .count) h)) ∙ in-row a x e
+  place-there a x e h = sym (ap (λ b. cond b (place.Ok (cursorAt (listOf k x .place))) (place.Err NoEntry)) (lt-ltb i (listOf k x .count) h)) ∙ in-row a x e
 
   pub place-beyond : (a : Asked Prototype) (x : FunctionRow) → row.Ok x ≡ shownRowAnswer a → listOf k x .count ≤ i → place.Err NoEntry ≡ shownPlace k i a
-  place-beyond a x e h = sym (ap (λ b. pick b (place.Ok (cursorAt (listOf k x .place))) (place.Err NoEntry)) (le-ltb i (listOf k x .count) h)) ∙ in-row a x e
+  place-beyond a x e h = sym (ap (λ b. cond b (place.Ok (cursorAt (listOf k x .place))) (place.Err NoEntry)) (le-ltb i (listOf k x .count) h)) ∙ in-row a x e

@@ -5,7 +5,7 @@ use mathlib.Core.List.{List, [], _∷_}
 use mathlib.Core.Option.{Option, none, some}
 use Prim.Native.Nat.{ℕ, zero, suc}
 use native.Mathlib.Omega.{arith}
-use lib.ListN.{length, drop}
+use lib.ListN.{length, drop, getElem?}
 use Rattle.format.specs.declared.limits.ResourceLimits.{ResourceLimits}
 use Rattle.format.specs.Form.{Bytes}
 use Rattle.format.specs.Reading.{Reading, Prototype}
@@ -17,10 +17,9 @@ use Rattle.format.proofs.ExactChunk.{exact-main}
 use Rattle.format.proofs.Left.{left}
 use Rattle.format.proofs.Located.{Located, all-located}
 use Rattle.format.proofs.ReadChunkLaws.{read-sound, main-complete}
-use Rattle.entries.specs.Nth.{nth}
 
 -- of items that all have a property, each has it
-pub all-nth : {A : Type 0} (P : A → Type 0) (xs : List A) → All P xs → (i : ℕ) {x : A} → nth i xs ≡ some x → P x
+pub all-nth : {A : Type 0} (P : A → Type 0) (xs : List A) → All P xs → (i : ℕ) {x : A} → getElem? xs i ≡ some x → P x
 all-nth P [] a i e = absurd (let z : _≡_ {A = ℕ} 0 1 = cc in omega arith)
 all-nth P (y ∷ ys) a zero {x} e = let same : y ≡ x = cc in rw same at (a .0)
 all-nth P (y ∷ ys) a (suc i) e = all-nth P ys (a .1) i e

@@ -3,11 +3,11 @@
 use mathlib.Core.List.{List}
 use mathlib.Core.Option.{Option, none, some}
 use Prim.Native.Nat.{ℕ}
+use lib.ListN.{getElem?}
 use Rattle.format.specs.declared.refusal.Refusal.{Refusal}
 use Rattle.format.specs.declared.refusal.Refusal.the-variants.{NoFunction, NoEntry}
 use Rattle.format.specs.Reading.{Prototype}
 use Rattle.format.specs.ReadChunk.{Outcome, shown, refusal}
-use Rattle.entries.specs.Nth.{nth}
 
 pub data Asked (A : Type 0) : Type 0 where
   found : A → Asked A
@@ -19,12 +19,12 @@ orRefuse q (some x) = found x
 
 -- the function of that number, in the order their bytes begin
 abbrev pub functionOf : ℕ → Outcome → Asked Prototype
-functionOf n (shown r) = orRefuse NoFunction (nth n (r .functions))
+functionOf n (shown r) = orRefuse NoFunction (getElem? (r .functions) n)
 functionOf n (refusal q) = refused q
 
 -- the entry of that number in a list of a function
 abbrev pub entryIn : {A : Type 0} → (Prototype → List A) → ℕ → Asked Prototype → Asked A
-entryIn list n (found p) = orRefuse NoEntry (nth n (list p))
+entryIn list n (found p) = orRefuse NoEntry (getElem? (list p) n)
 entryIn list n (refused q) = refused q
 
 abbrev pub entryOf : {A : Type 0} → (Prototype → List A) → ℕ → ℕ → Outcome → Asked A

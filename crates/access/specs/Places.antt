@@ -1,7 +1,7 @@
 -- A function's row, and where a list with an entry of a number stands.
+use mathlib.Core.Bool.{cond}
 use Prim.Native.Nat.{ℕ}
 use lib.Dec.{ltb}
-use Rattle.format.specs.Pick.{pick}
 use Rattle.format.specs.declared.refusal.Refusal.the-variants.{NoEntry}
 use Rattle.format.specs.Reading.{Prototype}
 use Rattle.cursor.specs.Shown.{cursorAt}
@@ -32,7 +32,7 @@ listOf kind.UpvalueName r = r .lists .«upvalue_names»
 
 -- of a list: its first entry, if it has one of that number
 abbrev pub placeIn : ListAt → ℕ → PlaceAnswer
-placeIn l n = pick (ltb n (l .count)) (answer.Ok (cursorAt (l .place))) (answer.Err NoEntry)
+placeIn l n = cond (ltb n (l .count)) (answer.Ok (cursorAt (l .place))) (answer.Err NoEntry)
 
 abbrev pub shownPlace : EntryKind → ℕ → Asked Prototype → PlaceAnswer
 shownPlace k n (found p) = placeIn (listOf k (rowOf p)) n

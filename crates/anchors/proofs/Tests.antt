@@ -1,23 +1,22 @@
 -- What the small functions give, by the tests on the way.
 -- Assumes nothing.
 use mathlib.Core.Path.{_≡_, refl, sym, _∙_, ap}
-use mathlib.Core.Bool.{Bool, true, false}
+use mathlib.Core.Bool.{Bool, true, false, cond}
 use mathlib.Core.List.{[], _∷_}
 use Prim.Native.Nat.{ℕ, zero, suc, _+_, _≤_, _<_}
 use native.Mathlib.Omega.{arith}
 use borrow.Author.Tests.{lt-ltb, le-ltb, eq-eqb, ne-eqb}
 use lib.ListN.{length, drop, getD}
-use Rattle.format.specs.Pick.{pick}
 use Rattle.format.specs.declared.entry.AbsLineInfo.{AbsLineInfo}
 use Rattle.format.specs.Form.{Bytes}
 use Rattle.anchors.specs.Scan.{resetBy}
 
 -- what is picked, where the test is known
-pub picked : {A : Type 0} {t : Bool} (a b : A) → t ≡ true → a ≡ pick t a b
-picked a b e = sym (ap (λ t. pick t a b) e)
+pub picked : {A : Type 0} {t : Bool} (a b : A) → t ≡ true → a ≡ cond t a b
+picked a b e = sym (ap (λ t. cond t a b) e)
 
-pub other : {A : Type 0} {t : Bool} (a b : A) → t ≡ false → b ≡ pick t a b
-other a b e = sym (ap (λ t. pick t a b) e)
+pub other : {A : Type 0} {t : Bool} (a b : A) → t ≡ false → b ≡ cond t a b
+other a b e = sym (ap (λ t. cond t a b) e)
 
 -- ## Beyond the deltas
 pub beyond : (ds : Bytes) (i : ℕ) → length ds ≤ i → getD ds i 0 ≡ 0

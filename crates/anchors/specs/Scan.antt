@@ -1,10 +1,9 @@
 -- One pass over a function's anchors: what the code's parts give.
-use mathlib.Core.Bool.{Bool, true, false}
+use mathlib.Core.Bool.{Bool, true, false, cond}
 use mathlib.Core.List.{List, [], _∷_}
 use Prim.Native.Nat.{ℕ, _+_, _-_, _^_}
 use lib.Dec.{eqb, leb, ltb}
 use lib.ListN.{getD}
-use Rattle.format.specs.Pick.{pick}
 use Rattle.format.specs.declared.entry.AbsLineInfo.{AbsLineInfo}
 use Rattle.format.specs.Form.{Bytes}
 use Rattle.format.specs.Read.{Read, ok, refused}
@@ -15,24 +14,24 @@ use Rattle.anchors.specs.declared.Sought.the-variants.{Ahead, At}
 use Rattle.anchors.specs.declared.ScanResult.the-variants as scan
 
 abbrev pub orLarge : Bool → ℕ → Bool
-orLarge b line = pick b true (leb (2 ^ 62) line)
+orLarge b line = cond b true (leb (2 ^ 62) line)
 
 abbrev pub stillTaking : Bool → ℕ → AbsLineInfo → Bool
-stillTaking b pc a = pick b (leb (a .pc) pc) false
+stillTaking b pc a = cond b (leb (a .pc) pc) false
 
 -- `deltas` are those up to the pc
 abbrev pub resetBy : Bytes → AbsLineInfo → AbsLineInfo → AbsLineInfo
-resetBy deltas r a = pick (eqb (getD deltas (a .pc) 0) 128) (pick (ltb (a .pc) (r .pc)) r (record { pc = a .pc + 1; line = a .line })) r
+resetBy deltas r a = cond (eqb (getD deltas (a .pc) 0) 128) (cond (ltb (a .pc) (r .pc)) r (record { pc = a .pc + 1; line = a .line })) r
 
 abbrev pub seekBy : Sought → ℕ → Sought
 seekBy (At l) line = At l
-seekBy (Ahead before) line = pick (eqb before 0) (At line) (Ahead (before - 1))
+seekBy (Ahead before) line = cond (eqb before 0) (At line) (Ahead (before - 1))
 
 abbrev pub passed : Bytes → ℕ → Scan → AbsLineInfo → Scan
 passed deltas pc z a = record {
   large = orLarge (z .large) (a .line);
   taking = stillTaking (z .taking) pc a;
-  base = pick (stillTaking (z .taking) pc a) a (z .base);
+  base = cond (stillTaking (z .taking) pc a) a (z .base);
   reset = resetBy deltas (z .reset) a;
   sought = seekBy (z .sought) (a .line);
 }

@@ -1,8 +1,7 @@
 // One pass over a function's anchors: from where deltas are added, and whether a line is too large.
 ghost use mathlib.Core.Path.{_≡_};
-ghost use mathlib.Core.Bool.{true, false};
+ghost use mathlib.Core.Bool.{true, false, cond};
 ghost use lib.ListN.{drop};
-ghost use Rattle.format.specs.Pick.{pick};
 ghost use Rattle.format.specs.Read.{many};
 ghost use Rattle.format.specs.ReadChunk.{anchor};
 ghost use Rattle.anchors.specs.Scan.{orLarge, stillTaking, resetBy, seekBy, passed, startOf, scanResult};
@@ -55,7 +54,7 @@ fn still_taking(taking: bool, pc: usize, anchor: AbsLineInfo) -> bool
 }
 
 fn taken(taking: bool, anchor: AbsLineInfo, base: AbsLineInfo) -> AbsLineInfo
-    ensures { λ r. ⌜ r ≡ pick taking anchor base ⌝ }
+    ensures { λ r. ⌜ r ≡ cond taking anchor base ⌝ }
 {
     if taking {
         return anchor;

@@ -4,6 +4,7 @@
 --     status a             what a call returns: 0, or the refusal
 --     written a old        what then stands in the array that held `old`
 --     complement z         a signed number in 64 bits
+use mathlib.Core.Bool.{cond}
 use mathlib.Core.List.{List}
 use Prim.Native.Nat.{ℕ, _+_, _*_, _^_}
 use lib.Dec.{leb}
@@ -11,7 +12,6 @@ use lib.ListN.{getD}
 use lib.IntN.{ℤ}
 use mir.Syntax.{w64}
 use mir.Val.{ofZ}
-use Rattle.format.specs.Pick.{pick}
 use Rattle.format.specs.declared.limits.ResourceLimits.{ResourceLimits}
 use Rattle.format.specs.declared.refusal.Refusal.{Refusal}
 use Rattle.format.specs.declared.refusal.Place.{Place}
@@ -33,7 +33,7 @@ limitsOf l = record {
 
 abbrev pub withPlace : ℕ → Place → ℕ
 withPlace n place.None = n
-withPlace n (place.At at) = pick (leb (2 ^ 32) at) n (n + 32 * (at + 1))
+withPlace n (place.At at) = cond (leb (2 ^ 32) at) n (n + 32 * (at + 1))
 
 abbrev pub coded : Refusal → ℕ
 coded q = withPlace (reported q .number) (reported q .place)

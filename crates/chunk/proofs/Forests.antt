@@ -1,14 +1,13 @@
 -- Functions one after the other, one turn at a time: what the rest of them shows, behind a walk over the first.
 -- Assumes nothing.
 use mathlib.Core.Path.{_≡_, refl, sym, _∙_, ap}
-use mathlib.Core.Bool.{Bool, true, false}
+use mathlib.Core.Bool.{Bool, true, false, cond}
 use mathlib.Core.List.{List, [], _∷_, _++_}
 use mathlib.Core.Option.{Option, none, some}
 use Prim.Native.Nat.{ℕ, zero, suc, _+_, _-_, _<_, _≤_}
 use native.Mathlib.Omega.{arith}
 use lib.Dec.{eqb}
 use lib.ListN.{length, length-append, drop}
-use Rattle.format.specs.Pick.{pick}
 use Rattle.format.specs.Form.{Bytes, Form}
 use Rattle.format.specs.declared.refusal.Refusal.{Refusal}
 use Rattle.format.specs.Reading.{Prototype}
@@ -37,7 +36,7 @@ or-none : (a : OptionRow) → orRow a option.None ≡ a
 or-none (option.Some r) = refl
 or-none option.None = refl
 
-shown-pick : (b : Bool) (p : Prototype) (all some-of : Option Prototype) (more : OptionRow) → shownRow all ≡ orRow (shownRow some-of) more → shownRow (pick b (some p) all) ≡ orRow (shownRow (pick b (some p) some-of)) more
+shown-pick : (b : Bool) (p : Prototype) (all some-of : Option Prototype) (more : OptionRow) → shownRow all ≡ orRow (shownRow some-of) more → shownRow (cond b (some p) all) ≡ orRow (shownRow (cond b (some p) some-of)) more
 shown-pick true p all some-of more e = refl
 shown-pick false p all some-of more e = e
 

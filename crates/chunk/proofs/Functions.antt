@@ -3,13 +3,12 @@
 use mathlib.Core.Path.{_≡_, refl, sym, _∙_, ap}
 use mathlib.Core.List.{List, _∷_}
 use mathlib.Core.Option.{Option, none, some}
-use mathlib.Core.Bool.{Bool, true, false}
+use mathlib.Core.Bool.{Bool, true, false, cond}
 use Prim.Native.Nat.{ℕ, zero, suc, _+_, _-_, _<_, _≤_}
 use native.Mathlib.Omega.{arith}
 use borrow.Author.Tests.{le-leb, lt-leb}
 use lib.Dec.{eqb}
 use lib.ListN.{length, drop}
-use Rattle.format.specs.Pick.{pick}
 use Rattle.format.specs.GrammarFields.{LuaString, String}
 use Rattle.format.specs.declared.limits.ResourceLimits.{ResourceLimits}
 use Rattle.format.specs.declared.refusal.Refusal.{Refusal}
@@ -161,7 +160,7 @@ row-shown w at v t end = λ i. record {
   lists = rowOf (prototypeOf w at v t end) .lists;
 }
 
-shown-pick : (b : Bool) (p : Prototype) (later : Option Prototype) → pick b (option.Some (rowOf p)) (shownRow later) ≡ shownRow (pick b (some p) later)
+shown-pick : (b : Bool) (p : Prototype) (later : Option Prototype) → cond b (option.Some (rowOf p)) (shownRow later) ≡ shownRow (cond b (some p) later)
 shown-pick true p later = refl
 shown-pick false p later = refl
 
@@ -171,7 +170,7 @@ finish wanted w at v t end ps to =
     let p = prototypeOf w at v t (end .at) in
     let number : w .number + 1 + length ps ≡ w .number + length (p ∷ ps) = omega arith in
     let instructions : w .instructions + length (v .lists .instructions .items) + instructionsOf ps ≡ w .instructions + (length (v .lists .instructions .items) + instructionsOf ps) = omega arith in
-    let row = ap (λ row. pick (eqb wanted (w .number)) (option.Some row) (shownRow (lookup wanted (w .number + 1) ps))) (row-shown w at v t (end .at)) ∙ shown-pick (eqb wanted (w .number)) p (lookup wanted (w .number + 1) ps) in
+    let row = ap (λ row. cond (eqb wanted (w .number)) (option.Some row) (shownRow (lookup wanted (w .number + 1) ps))) (row-shown w at v t (end .at)) ∙ shown-pick (eqb wanted (w .number)) p (lookup wanted (w .number + 1) ps) in
     λ i. record { next = end; number = number i; instructions = instructions i; row = row i }
 
 -- ## The answers of `read_function`

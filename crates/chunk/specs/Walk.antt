@@ -1,10 +1,10 @@
 -- What a walk shows of the functions that a reader gives.
+use mathlib.Core.Bool.{cond}
 use mathlib.Core.List.{List}
 use mathlib.Core.Option.{Option}
 use Prim.Native.Nat.{ℕ, zero, suc, _+_}
 use lib.Dec.{eqb}
 use lib.ListN.{length}
-use Rattle.format.specs.Pick.{pick}
 use Rattle.format.specs.declared.limits.ResourceLimits.{ResourceLimits}
 use Rattle.format.specs.declared.refusal.Refusal.the-variants.{NestingDepth, TotalPrototypes}
 use Rattle.format.specs.Reading.{Prototype}
@@ -100,7 +100,7 @@ finishedShown place start head tail end nested wanted = record {
   next = end;
   number = nested .number;
   instructions = nested .instructions;
-  row = pick (eqb wanted (place .number)) (option.Some (rowShown place start head tail (end .at))) (nested .row);
+  row = cond (eqb wanted (place .number)) (option.Some (rowShown place start head tail (end .at))) (nested .row);
 }
 
 -- where the next function stands, behind those that were walked over

@@ -1,9 +1,9 @@
 // The walk over a chunk's functions: one pass that judges them all and brings back the row of one, by its number.
 ghost use mathlib.Core.Path.{_≡_};
+ghost use mathlib.Core.Bool.{cond};
 ghost use Prim.Native.Nat.{_+_, _≤_};
 ghost use lib.Dec.{eqb};
 ghost use lib.ListN.{drop};
-ghost use Rattle.format.specs.Pick.{pick};
 ghost use Rattle.format.specs.GrammarChunk as grammar;
 ghost use Rattle.format.specs.ReadChunk.{forest, function};
 ghost use Rattle.prototype.specs.declared.row.OptionRow.the-variants as option;
@@ -113,7 +113,7 @@ pub fn row_of(place: Where, start: usize, head: Head, tail: Tail, end: usize) ->
 
 // The row of this function where its number is the one wanted, else what was found in it.
 fn chosen(wanted: usize, number: usize, row: FunctionRow, nested: OptionRow) -> OptionRow
-    ensures { λ r. ⌜ r ≡ pick (eqb wanted number) (option.Some row) nested ⌝ }
+    ensures { λ r. ⌜ r ≡ cond (eqb wanted number) (option.Some row) nested ⌝ }
 {
     if wanted == number {
         OptionRow::Some(row)

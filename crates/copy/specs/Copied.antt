@@ -2,12 +2,12 @@
 --     shownLength o            the length of the copy, where o was read
 --     shownCopy space o        the same; 26 where the space is shorter, after every other refusal
 --     copyWritten old o        what then stands in the lent memory that held `old`
+use mathlib.Core.Bool.{cond}
 use mathlib.Core.List.{_++_}
 use Prim.Native.Nat.{ℕ}
 use lib.Dec.{leb}
 use lib.ListN.{length, drop}
 use Rattle.format.specs.declared.refusal.Refusal.the-variants.{LentSpace}
-use Rattle.format.specs.Pick.{pick}
 use Rattle.format.specs.Form.{Bytes}
 use Rattle.format.specs.ReadChunk.{Outcome, shown, refusal}
 use Rattle.format.specs.Copy.{copy}
@@ -19,10 +19,10 @@ shownLength (shown r) = answer.Ok (length (copy r))
 shownLength (refusal q) = answer.Err q
 
 abbrev pub shownCopy : ℕ → Outcome → CopyAnswer
-shownCopy space (shown r) = pick (leb (length (copy r)) space) (answer.Ok (length (copy r))) (answer.Err LentSpace)
+shownCopy space (shown r) = cond (leb (length (copy r)) space) (answer.Ok (length (copy r))) (answer.Err LentSpace)
 shownCopy space (refusal q) = answer.Err q
 
 -- the copy, and behind it what stood there; on any refusal all that stood there
 abbrev pub copyWritten : Bytes → Outcome → Bytes
-copyWritten old (shown r) = pick (leb (length (copy r)) (length old)) (copy r ++ drop (length (copy r)) old) old
+copyWritten old (shown r) = cond (leb (length (copy r)) (length old)) (copy r ++ drop (length (copy r)) old) old
 copyWritten old (refusal q) = old

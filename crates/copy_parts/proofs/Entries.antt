@@ -6,7 +6,7 @@
 use mathlib.Core.Path.{_≡_, refl, sym, _∙_, ap, ap₂}
 use mathlib.Core.Bool.{Bool, true, false}
 use mathlib.Core.List.{List, [], _∷_, _++_, map, flatten}
-use mathlib.Core.Option.{Option, none, some}
+use mathlib.Core.Option.{Option, none, some, Option·getD}
 use Prim.Native.Nat.{ℕ, zero, suc, _+_, _-_, _*_, _≤_, _<_}
 use native.Mathlib.Nat.{suc-mul, add-comm, add-assoc}
 use native.Mathlib.Omega.{arith}
@@ -17,7 +17,6 @@ use lib.Seq.{length-take-le, take-add, drop-drop}
 use Rattle.format.specs.declared.refusal.Refusal.{Refusal}
 use Rattle.format.specs.Form.{Bytes, Below, Form}
 use Rattle.format.specs.GrammarFields.{LuaString, little}
-use Rattle.format.specs.GrammarChunk.{orElse}
 use Rattle.format.specs.Read.{Read, ok, refused, Reader, next, _>>=_, give, piece, run, many}
 use Rattle.format.specs.ReadFields.{field}
 use Rattle.format.specs.Shortest.{shortest}
@@ -57,7 +56,7 @@ module _ (s : Bytes) where
   pub name-is : (l : RawLocal) → StandsIf s (l .name) → speltName s (optionString (l .name)) ≡ stringBytes (named l .name)
   name-is l h = from (l .name) h
     where
-      from : (t : Option LuaString) → StandsIf s t → speltName s (optionString t) ≡ stringBytes (orElse t (record { place = l .behind; bytes = 63 ∷ [] }))
+      from : (t : Option LuaString) → StandsIf s t → speltName s (optionString t) ≡ stringBytes (Option·getD t (record { place = l .behind; bytes = 63 ∷ [] }))
       from none h = refl
       from (some t) h = spelt-is (some t) h
 

@@ -6,7 +6,7 @@
 use mathlib.Core.Path.{_≡_, refl, sym, _∙_, ap}
 use mathlib.Core.Bool.{Bool, true, false}
 use mathlib.Core.List.{List, [], _∷_, _++_, map, flatten}
-use mathlib.Core.Option.{Option, none, some}
+use mathlib.Core.Option.{Option, none, some, Option·getD}
 use Prim.Native.Nat.{ℕ, zero, suc, _+_, _-_, _*_, _≤_}
 use native.Mathlib.Omega.{arith}
 use lib.Dec.{eqb, leb, lit≤}
@@ -16,7 +16,7 @@ use Rattle.format.specs.declared.refusal.Refusal.{Refusal}
 use Rattle.format.specs.declared.refusal.Refusal.the-variants.{StringBytes}
 use Rattle.format.specs.Form.{Bytes, Below, Form}
 use Rattle.format.specs.GrammarFields.{LuaString}
-use Rattle.format.specs.GrammarChunk.{Listed, orElse}
+use Rattle.format.specs.GrammarChunk.{Listed}
 use Rattle.format.specs.Read.{Read, ok, Reader, next, _>>=_, give, here, test, atMost, run, many}
 use Rattle.format.specs.ReadFields.{number, content, string}
 use Rattle.format.specs.ReadChunk.{counted, countedUpTo, always, constant, anchor, local}
@@ -83,7 +83,7 @@ short-string {s} {at} limit = record { holds = λ e. (at-then {s = s} {at = at} 
 short-always : {s : Bytes} {at : ℕ} (limit : ℕ) (instead : Bytes) → length (shortest (suc (length instead)) ++ instead) ≤ 2 → AtPlace s at (always limit instead) (λ to t. Short (stringBytes t) at to)
 short-always {s} {at} limit instead few = at-then (exact-string limit) (short-string limit) λ t mid h. at-here λ place. at-give λ _. from t place mid h
   where
-    from : (t : Option LuaString) (place mid : ℕ) → Short (optionBytes t) at mid → Short (stringBytes (orElse t (record { place = place; bytes = instead }))) at mid
+    from : (t : Option LuaString) (place mid : ℕ) → Short (optionBytes t) at mid → Short (stringBytes (Option·getD t (record { place = place; bytes = instead }))) at mid
     from none place mid h = record { on = h .on; short = omega (arith, few, h .short, h .on, length-zero) }
     from (some t) place mid h = h
 

@@ -1,7 +1,7 @@
 -- The two parts of a function at their place: how long the copy's bytes of each are, and where its lists stand.
 -- Assumes nothing.
 use mathlib.Core.Path.{_≡_, refl, sym, _∙_, ap}
-use mathlib.Core.Bool.{Bool, true, false}
+use mathlib.Core.Bool.{Bool, true, false, cond}
 use mathlib.Core.List.{List, [], _∷_, _++_, append-assoc}
 use mathlib.Core.Option.{Option, none, some}
 use Prim.Native.Nat.{ℕ, zero, suc, _+_, _-_, _*_, _%_, _≤_, _<_}
@@ -10,7 +10,6 @@ use lib.ListN.{length, take, drop, length-drop, length-append}
 use lib.Seq.{length-take-le}
 use Rattle.format.specs.declared.limits.ResourceLimits.{ResourceLimits}
 use Rattle.format.specs.declared.refusal.Refusal.the-variants.{Instructions, TotalInstructions, Constants, Upvalues, Prototypes}
-use Rattle.format.specs.Pick.{pick}
 use Rattle.format.specs.Form.{Bytes, Below, Form}
 use Rattle.format.specs.GrammarFields.{LuaString, little}
 use Rattle.format.specs.GrammarChunk.{Listed}

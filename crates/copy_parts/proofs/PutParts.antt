@@ -1,14 +1,13 @@
 -- The two parts of a function, put: by what the calls put of each list.
 -- Assumes nothing.
 use mathlib.Core.Path.{_≡_, refl, sym, subst, _∙_, ap}
-use mathlib.Core.Bool.{Bool, true, false}
+use mathlib.Core.Bool.{Bool, true, false, cond}
 use mathlib.Core.List.{List, [], _∷_, _++_, map, flatten}
 use mathlib.Core.Option.{Option}
 use Prim.Native.Nat.{ℕ, _-_, _*_, _≤_}
 use native.Mathlib.Nat.{mul-one}
 use lib.ListN.{length, take, drop}
 use Rattle.format.specs.declared.limits.ResourceLimits.{ResourceLimits}
-use Rattle.format.specs.Pick.{pick}
 use Rattle.format.specs.Form.{Bytes, Below, Form}
 use Rattle.format.specs.GrammarFields.{LuaString}
 use Rattle.format.specs.GrammarChunk.{Listed}
@@ -93,7 +92,7 @@ module _ (s : Bytes) where
       (all-put s (string limit) (t .upvalue-names) (tail′ .«upvalue_names» .count) (tail′ .«upvalue_names» .place) (ap (λ x. x .«upvalue_names» .count) shows) (ap (λ x. x .«upvalue_names» .place) shows) (z .upvalue-names) u)))
 
   source-put : (named : Bool) (source : OptionString) (t : Option LuaString) {at b : ℕ} {k k′ : Bytes} → StandsIf s t → source ≡ optionString t
-      → (There s source → Put (pick named (spelt s source) (shortest 0)) at k b k′) → Put (sourceBytes named t) at k b k′
+      → (There s source → Put (cond named (spelt s source) (shortest 0)) at k b k′) → Put (sourceBytes named t) at k b k′
   source-put true source t stands e p = string-put s t source stands e p
   source-put false source t stands e p = p (rw e (there-is s t stands))
 
@@ -101,7 +100,7 @@ module _ (s : Bytes) where
   sizes-put z y {at} {b} {k} {k′} e f p = subst (λ x. Put x at k b k′) ((λ i. e i .numparams ∷ e i .«is_vararg» ∷ e i .maxstacksize ∷ []) ∙ sym f) p
 
   pub head-put : (L : ResourceLimits) (named : Bool) (head′ : declared-head.Head) {w₀ w₁ w₂ w₃ w₄ b : ℕ} {k k₁ k₂ k₃ k₄ k′ : Bytes}
-      → (There s (head′ .front .source) → Put (pick named (spelt s (head′ .front .source)) (shortest 0)) w₀ k w₁ k₁)
+      → (There s (head′ .front .source) → Put (cond named (spelt s (head′ .front .source)) (shortest 0)) w₀ k w₁ k₁)
       → Put (linesBytes (head′ .front .lines)) w₁ k₁ w₂ k₂
       → Put (head′ .front .sizes .numparams ∷ head′ .front .sizes .«is_vararg» ∷ head′ .front .sizes .maxstacksize ∷ []) w₂ k₂ w₃ k₃
       → ((before from to : ℕ) (h : HeadLists) (rest : Bytes) → Below 256 s → headLists L before from (drop from s) ≡ ok h to rest → head′ .lists ≡ listsOf h → Put (listsBytes h) w₃ k₃ w₄ k₄)

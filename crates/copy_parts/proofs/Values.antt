@@ -1,18 +1,16 @@
 -- A constant that was read, and the copy's bytes of it: a string's size is written anew, any other constant's bytes are those that stand there.
 -- Assumes nothing.
 use mathlib.Core.Path.{_≡_, refl, sym, _∙_, ap}
-use mathlib.Core.Bool.{Bool, true, false}
+use mathlib.Core.Bool.{Bool, true, false, cond}
 use mathlib.Core.List.{List, [], _∷_, _++_}
-use mathlib.Core.Option.{Option, none, some}
+use mathlib.Core.Option.{Option, none, some, Option·getD}
 use Prim.Native.Nat.{ℕ, zero, suc, _+_, _-_, _≤_, zero-le}
 use native.Mathlib.Omega.{arith}
 use borrow.Author.Tests.{eqb-true}
 use lib.Dec.{eqb}
 use lib.ListN.{length, take, drop}
-use Rattle.format.specs.Pick.{pick}
 use Rattle.format.specs.Form.{Bytes, Below}
 use Rattle.format.specs.GrammarFields.{LuaString}
-use Rattle.format.specs.GrammarChunk.{orElse}
 use Rattle.format.specs.Read.{Reader}
 use Rattle.format.specs.ReadChunk.{always, tagged, constant}
 use Rattle.format.specs.Reading.{ConstantValue, nil, boolean, integer, float, short-string, long-string}
@@ -29,14 +27,14 @@ pub record Kept (s : Bytes) (at to : ℕ) (k : ConstantValue) : Type 0 where
   pub stood : Stood s at to (constantValue k)
   pub same : valueBytes s at to (constantValue k) ≡ constantBytes k
 
-pub at-pick : {A : Type 0} {s : Bytes} {at : ℕ} {r q : Reader A} {P : ℕ → A → Type 0} (b : Bool) → (b ≡ true → AtPlace s at r P) → (b ≡ false → AtPlace s at q P) → AtPlace s at (pick b r q) P
+pub at-pick : {A : Type 0} {s : Bytes} {at : ℕ} {r q : Reader A} {P : ℕ → A → Type 0} (b : Bool) → (b ≡ true → AtPlace s at r P) → (b ≡ false → AtPlace s at q P) → AtPlace s at (cond b r q) P
 at-pick true f g = f refl
 at-pick false f g = g refl
 
 at-always : {s : Bytes} {at : ℕ} (limit : ℕ) → AtPlace s at (always limit []) (λ to t. Stands s t)
 at-always {s} limit = at-then (exact-string limit) (at-string limit) λ t _ h. at-here λ place. at-give λ _. from t place h
   where
-    from : (t : Option LuaString) (place : ℕ) → StandsIf s t → Stands s (orElse t (record { place = place; bytes = [] }))
+    from : (t : Option LuaString) (place : ℕ) → StandsIf s t → Stands s (Option·getD t (record { place = place; bytes = [] }))
     from none place h = record { inside = zero-le; there = refl }
     from (some t) place h = h
 

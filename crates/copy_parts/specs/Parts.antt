@@ -2,11 +2,10 @@
 --     sourceBytes named t      main's source is kept, a nested function's is absent
 --     headBytes, tailBytes     the two parts. (crates/copy_walk/proofs/Nests.antt: the copy of a function is made of these.)
 --     functionBytes named ps   a function and all that nest in it
-use mathlib.Core.Bool.{Bool}
+use mathlib.Core.Bool.{Bool, cond}
 use mathlib.Core.List.{List, [], _∷_, _++_, foldr, flatten}
 use mathlib.Core.Option.{Option, none}
 use lib.ListN.{length}
-use Rattle.format.specs.Pick.{pick}
 use Rattle.format.specs.Form.{Bytes}
 use Rattle.format.specs.GrammarFields.{LuaString}
 use Rattle.format.specs.Reading.{Prototype}
@@ -17,7 +16,7 @@ use Rattle.prototype.specs.declared.front.Sizes.{Sizes}
 use Rattle.prototype.specs.Parts.{HeadLists, Head, Tail}
 
 abbrev pub sourceBytes : Bool → Option LuaString → Bytes
-sourceBytes named t = optionBytes (pick named t none)
+sourceBytes named t = optionBytes (cond named t none)
 
 abbrev pub linesBytes : Lines → Bytes
 linesBytes l = shortest (l .«line_defined») ++ shortest (l .«last_line_defined»)

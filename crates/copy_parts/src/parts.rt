@@ -1,9 +1,9 @@
 // A function before and behind the functions that nest in it: what was read of it, put into the copy.
 ghost use mathlib.Core.Path.{_≡_};
+ghost use mathlib.Core.Bool.{cond};
 ghost use mathlib.Core.List.{[], _∷_, _++_};
 ghost use Prim.Native.Nat.{ℕ};
 ghost use lib.ListN.{drop};
-ghost use Rattle.format.specs.Pick.{pick};
 ghost use Rattle.format.specs.Form.{Bytes, Below};
 ghost use Rattle.format.specs.Read.{ok};
 ghost use Rattle.format.specs.Shortest.{shortest};
@@ -30,7 +30,7 @@ use reader::string::OptionString;
 
 // Main's source; a nested function's is written as absent.
 fn put_source(s: &[u8], named: bool, source: OptionString, out: &mut [u8]) -> usize
-    ensures { λ r. ⌜ (There (now (s .entry)) source → Put (pick named (spelt (now (s .entry)) source) (shortest 0)) 0 (now (out .entry)) r (now (out .exit))) ⌝ }
+    ensures { λ r. ⌜ (There (now (s .entry)) source → Put (cond named (spelt (now (s .entry)) source) (shortest 0)) 0 (now (out .entry)) r (now (out .exit))) ⌝ }
 {
     if named {
         return put_string(s, source, out, 0);

@@ -1,11 +1,10 @@
 // The functions of a chunk, judged and copied in one walk.
 ghost use mathlib.Core.Path.{_≡_};
-ghost use mathlib.Core.Bool.{true};
+ghost use mathlib.Core.Bool.{true, cond};
 ghost use mathlib.Core.Option.{none};
 ghost use Prim.Native.Nat.{_+_, _≤_};
 ghost use lib.Dec.{leb};
 ghost use lib.ListN.{drop};
-ghost use Rattle.format.specs.Pick.{pick};
 ghost use Rattle.format.specs.Form.{Below};
 ghost use Rattle.format.specs.GrammarChunk as grammar;
 ghost use Rattle.format.specs.ReadChunk.{function};
@@ -31,7 +30,7 @@ use prototype::row::OptionRow;
 
 // The smaller of two numbers.
 pub fn within(n: usize, limit: usize) -> usize
-    ensures { λ r. ⌜ r ≡ pick (leb n limit) n limit ⌝ }
+    ensures { λ r. ⌜ r ≡ cond (leb n limit) n limit ⌝ }
 {
     if n <= limit { n } else { limit }
 }

@@ -1,14 +1,13 @@
 -- The summary of a chunk against its reading.
 -- Assumes nothing.
 use mathlib.Core.Path.{_≡_, refl, sym, _∙_, ap}
-use mathlib.Core.Bool.{Bool, true, false, true≢false, _&&_}
+use mathlib.Core.Bool.{Bool, true, false, true≢false, _&&_, cond}
 use mathlib.Core.List.{List, [], _∷_, _++_}
 use Prim.Native.Nat.{ℕ, zero, suc, _+_, _≤_, _<_}
 use native.Mathlib.Omega.{arith}
 use borrow.Author.Tests.{leb-true, le-leb, lt-leb, lt-ltb, ne-eqb}
 use lib.Dec.{leb, ltb, eqb}
 use lib.ListN.{length, take, drop}
-use Rattle.format.specs.Pick.{pick}
 use Rattle.format.specs.declared.limits.ResourceLimits.{ResourceLimits}
 use Rattle.format.specs.declared.refusal.Refusal.{Refusal}
 use Rattle.format.specs.declared.refusal.Refusal.the-variants.{InputBytes, LimitAboveCeiling}
@@ -40,19 +39,19 @@ take-none : (n : ℕ) → take {A = Warning} n [] ≡ []
 take-none zero = refl
 take-none (suc n) = refl
 
-pub none-first : (limit : ℕ) (b : OptionWarning) → shownWarnings (take limit (listOf option.None ++ listOf b)) ≡ record { first = pick (ltb 0 limit) b option.None; second = option.None }
+pub none-first : (limit : ℕ) (b : OptionWarning) → shownWarnings (take limit (listOf option.None ++ listOf b)) ≡ record { first = cond (ltb 0 limit) b option.None; second = option.None }
 none-first zero option.None = refl
 none-first zero (option.Some w) = refl
 none-first (suc n) option.None = rw (lt-ltb 0 (suc n) (omega arith))
 none-first (suc n) (option.Some w) = rw (lt-ltb 0 (suc n) (omega arith), take-none n)
 
-pub some-first : (limit : ℕ) (w : Warning) (b : OptionWarning) → shownWarnings (take limit (listOf (option.Some w) ++ listOf b)) ≡ record { first = pick (ltb 0 limit) (option.Some w) option.None; second = pick (ltb 1 limit) b option.None }
+pub some-first : (limit : ℕ) (w : Warning) (b : OptionWarning) → shownWarnings (take limit (listOf (option.Some w) ++ listOf b)) ≡ record { first = cond (ltb 0 limit) (option.Some w) option.None; second = cond (ltb 1 limit) b option.None }
 some-first zero w b = refl
 some-first (suc zero) w b = refl
 some-first (suc (suc n)) w option.None = rw (lt-ltb 0 (suc (suc n)) (omega arith), lt-ltb 1 (suc (suc n)) (omega arith))
 some-first (suc (suc n)) w (option.Some v) = rw (lt-ltb 0 (suc (suc n)) (omega arith), lt-ltb 1 (suc (suc n)) (omega arith))
 
-pub trailing-list : (at : ℕ) (rest : Bytes) → listOf (pick (eqb (length rest) 0) option.None (option.Some (code.TrailingBytes at))) ≡ trailingWarnings at rest
+pub trailing-list : (at : ℕ) (rest : Bytes) → listOf (cond (eqb (length rest) 0) option.None (option.Some (code.TrailingBytes at))) ≡ trailingWarnings at rest
 trailing-list at [] = refl
 trailing-list at (x ∷ xs) = rw (ne-eqb (length (x ∷ xs)) 0 (λ e. omega arith))
 
@@ -60,7 +59,7 @@ trailing-list at (x ∷ xs) = rw (ne-eqb (length (x ∷ xs)) 0 (λ e. omega arit
 one-warning : (place format : ℕ) → formatWarnings place format ≡ listOf (firstWarning (formatWarnings place format))
 one-warning place format = by (eqb format 0)
   where
-    by : (b : Bool) → pick b [] (code.NonStandardFormat place ∷ []) ≡ listOf (firstWarning (pick b [] (code.NonStandardFormat place ∷ [])))
+    by : (b : Bool) → cond b [] (code.NonStandardFormat place ∷ []) ≡ listOf (firstWarning (cond b [] (code.NonStandardFormat place ∷ [])))
     by true = refl
     by false = refl
 
@@ -109,7 +108,7 @@ module _ (s : Bytes) (L : ResourceLimits) (wanted : ℕ) where
     unfolding read
     by-main h = judged (withinCeilings L) (leb (length s) (L .«max_input_bytes»)) within (le-leb _ _ h) ∙ of-main (main L 0 s) refl
       where
-        judged : (a b : Bool) → a ≡ true → b ≡ true → decodedResult wanted (pick a (pick b (outcome L (main L 0 s)) (refusal InputBytes)) (refusal LimitAboveCeiling)) ≡ decodedResult wanted (outcome L (main L 0 s))
+        judged : (a b : Bool) → a ≡ true → b ≡ true → decodedResult wanted (cond a (cond b (outcome L (main L 0 s)) (refusal InputBytes)) (refusal LimitAboveCeiling)) ≡ decodedResult wanted (outcome L (main L 0 s))
         judged a b p q = rw (p, q)
 
 -- ## The ceilings

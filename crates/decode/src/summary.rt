@@ -1,9 +1,9 @@
 // What a whole chunk shows: its summary, and the row of one function.
 ghost use mathlib.Core.Path.{_≡_};
+ghost use mathlib.Core.Bool.{cond};
 ghost use mathlib.Core.List.{_++_};
 ghost use lib.Dec.{ltb, eqb};
 ghost use lib.ListN.{take};
-ghost use Rattle.format.specs.Pick.{pick};
 ghost use Rattle.format.specs.declared.header.Warning.the-variants as code;
 ghost use Rattle.format.specs.ReadChunk as format;
 ghost use Rattle.header.specs.declared.OptionWarning.the-variants as option;
@@ -46,7 +46,7 @@ pub enum DecodedResult {
 
 // The warning of this index, where the limit leaves room for it.
 fn kept(index: usize, limit: usize, warning: OptionWarning) -> OptionWarning
-    ensures { λ r. ⌜ r ≡ pick (ltb index limit) warning option.None ⌝ }
+    ensures { λ r. ⌜ r ≡ cond (ltb index limit) warning option.None ⌝ }
 {
     if index < limit {
         warning
@@ -73,7 +73,7 @@ fn in_order(limit: usize, of_header: OptionWarning, of_trailing: OptionWarning) 
 
 // Trailing bytes are a warning, at the first of them.
 fn trailing_warning(at: usize, len: usize) -> OptionWarning
-    ensures { λ r. ⌜ r ≡ pick (eqb len 0) option.None (option.Some (code.TrailingBytes at)) ⌝ }
+    ensures { λ r. ⌜ r ≡ cond (eqb len 0) option.None (option.Some (code.TrailingBytes at)) ⌝ }
 {
     if len == 0 {
         OptionWarning::None

@@ -15,7 +15,7 @@ use mathlib.Core.List.{List, [], _++_}
 use mathlib.Core.Option.{Option, none, some}
 use Prim.Native.Nat.{ℕ, _≤_, _<_}
 use borrow.Author.Tests.{le-leb, lt-leb}
-use lib.ListN.{length, drop}
+use lib.ListN.{length, drop, getElem?}
 use Rattle.format.specs.declared.limits.ResourceLimits.{ResourceLimits}
 use Rattle.format.specs.declared.refusal.Refusal.{Refusal}
 use Rattle.format.specs.declared.refusal.Refusal.the-variants.{NoFunction, NoEntry, LentSpace}
@@ -26,7 +26,6 @@ use Rattle.format.specs.ReadFields.{string}
 use Rattle.format.specs.ReadChunk.{constant, shown, refusal, read}
 use Rattle.format.specs.Copy.{copy}
 use Rattle.format.proofs.Located.{Located, StandsIf}
-use Rattle.entries.specs.Nth.{nth}
 use Rattle.entries.proofs.Items.{many-nth}
 use Rattle.entries.proofs.Strings.{ConstantStands, constant-stands, name-stands}
 use Rattle.index.specs.Index.{index, shownIndex, indexWritten}
@@ -46,29 +45,29 @@ use Rattle.access.proofs.Whole.{all-nth, whole}
 pub record ShowsFunction (L : ResourceLimits) (s : Bytes) (f : ℕ) (p : Prototype) : Type 0 where
   pub fields : shownFields (functionOf f (read L s)) ≡ fields-answer.Ok (fieldsOf p)
   -- an entry by its number, or refusal 24
-  pub instruction : (i : ℕ) → entryOf (λ p. p .instructions) f i (read L s) ≡ orRefuse NoEntry (nth i (p .instructions))
-  pub constant : (i : ℕ) → entryOf (λ p. p .constants) f i (read L s) ≡ orRefuse NoEntry (nth i (p .constants))
-  pub upvalue : (i : ℕ) → entryOf (λ p. p .upvalues) f i (read L s) ≡ orRefuse NoEntry (nth i (p .upvalues))
-  pub delta : (i : ℕ) → entryOf (λ p. p .line-info) f i (read L s) ≡ orRefuse NoEntry (nth i (p .line-info))
-  pub anchor : (i : ℕ) → entryOf (λ p. p .abs-line-info) f i (read L s) ≡ orRefuse NoEntry (nth i (p .abs-line-info))
-  pub local : (i : ℕ) → entryOf (λ p. p .loc-vars) f i (read L s) ≡ orRefuse NoEntry (nth i (p .loc-vars))
-  pub upvalue-name : (i : ℕ) → entryOf (λ p. p .upvalue-names) f i (read L s) ≡ orRefuse NoEntry (nth i (p .upvalue-names))
+  pub instruction : (i : ℕ) → entryOf (λ p. p .instructions) f i (read L s) ≡ orRefuse NoEntry (getElem? (p .instructions) i)
+  pub constant : (i : ℕ) → entryOf (λ p. p .constants) f i (read L s) ≡ orRefuse NoEntry (getElem? (p .constants) i)
+  pub upvalue : (i : ℕ) → entryOf (λ p. p .upvalues) f i (read L s) ≡ orRefuse NoEntry (getElem? (p .upvalues) i)
+  pub delta : (i : ℕ) → entryOf (λ p. p .line-info) f i (read L s) ≡ orRefuse NoEntry (getElem? (p .line-info) i)
+  pub anchor : (i : ℕ) → entryOf (λ p. p .abs-line-info) f i (read L s) ≡ orRefuse NoEntry (getElem? (p .abs-line-info) i)
+  pub local : (i : ℕ) → entryOf (λ p. p .loc-vars) f i (read L s) ≡ orRefuse NoEntry (getElem? (p .loc-vars) i)
+  pub upvalue-name : (i : ℕ) → entryOf (λ p. p .upvalue-names) f i (read L s) ≡ orRefuse NoEntry (getElem? (p .upvalue-names) i)
   -- a local variable's name is written into lent space that has room for it
-  pub local-name : (i : ℕ) (l : LocalVar) → nth i (p .loc-vars) ≡ some l → (old : Bytes) → length (l .name .bytes) ≤ length old
+  pub local-name : (i : ℕ) (l : LocalVar) → getElem? (p .loc-vars) i ≡ some l → (old : Bytes) → length (l .name .bytes) ≤ length old
       → (shownLocal (length old) (entryOf (λ p. p .loc-vars) f i (read L s)) ≡ local-answer.Ok (length (l .name .bytes)) (l .startpc) (l .endpc))
       × (nameWritten old (entryOf (λ p. p .loc-vars) f i (read L s)) ≡ l .name .bytes ++ drop (length (l .name .bytes)) old)
   -- strings: what `string_bytes` shows by the place and length that are shown are their bytes
   pub source-bytes : StandsIf s (p .source-name)
-  pub constant-bytes : (i : ℕ) (k : ConstantValue) → nth i (p .constants) ≡ some k → ConstantStands s k
-  pub upvalue-name-bytes : (i : ℕ) (t : Option LuaString) → nth i (p .upvalue-names) ≡ some t → StandsIf s t
+  pub constant-bytes : (i : ℕ) (k : ConstantValue) → getElem? (p .constants) i ≡ some k → ConstantStands s k
+  pub upvalue-name-bytes : (i : ℕ) (t : Option LuaString) → getElem? (p .upvalue-names) i ≡ some t → StandsIf s t
 
 -- ## What is shown of a chunk
 pub record Shows (L : ResourceLimits) (s : Bytes) (r : Reading) : Type 0 where
   pub summary : shownSummary (read L s) ≡ summary-answer.Ok (summaryOf r)
   pub trailing : trailingOf (read L s) ≡ r .trailing
-  pub function : (f : ℕ) (p : Prototype) → nth f (r .functions) ≡ some p → ShowsFunction L s f p
+  pub function : (f : ℕ) (p : Prototype) → getElem? (r .functions) f ≡ some p → ShowsFunction L s f p
   -- refusal 23
-  pub no-function : (f : ℕ) → nth f (r .functions) ≡ none → functionOf f (read L s) ≡ refused NoFunction
+  pub no-function : (f : ℕ) → getElem? (r .functions) f ≡ none → functionOf f (read L s) ≡ refused NoFunction
   -- the index is written into lent space that has room for it
   pub index-rows : (old : List ℕ) → length (index (r .functions)) ≤ length old
       → (shownIndex (length old) (read L s) ≡ index-answer.Ok (length (r .functions))) × (indexWritten old (read L s) ≡ index (r .functions) ++ drop (length (index (r .functions))) old)
@@ -78,14 +77,14 @@ pub record Shows (L : ResourceLimits) (s : Bytes) (r : Reading) : Type 0 where
   pub copy-too-long : (old : Bytes) → length old < length (copy r) → (shownCopy (length old) (read L s) ≡ copy-answer.Err LentSpace) × (copyWritten old (read L s) ≡ old)
 
 module _ (L : ResourceLimits) (s : Bytes) (r : Reading) (is : read L s ≡ shown r) where
-  module _ (f : ℕ) (p : Prototype) (there : nth f (r .functions) ≡ some p) where
+  module _ (f : ℕ) (p : Prototype) (there : getElem? (r .functions) f ≡ some p) where
     here : functionOf f (read L s) ≡ found p
     here = ap (functionOf f) is ∙ ap (orRefuse NoFunction) there
 
-    entry : {A : Type 0} (list : Prototype → List A) (i : ℕ) → entryOf list f i (read L s) ≡ orRefuse NoEntry (nth i (list p))
+    entry : {A : Type 0} (list : Prototype → List A) (i : ℕ) → entryOf list f i (read L s) ≡ orRefuse NoEntry (getElem? (list p) i)
     entry list i = ap (entryIn list i) here
 
-    name : (i : ℕ) (l : LocalVar) → nth i (p .loc-vars) ≡ some l → (old : Bytes) → length (l .name .bytes) ≤ length old
+    name : (i : ℕ) (l : LocalVar) → getElem? (p .loc-vars) i ≡ some l → (old : Bytes) → length (l .name .bytes) ≤ length old
         → (shownLocal (length old) (entryOf (λ p. p .loc-vars) f i (read L s)) ≡ local-answer.Ok (length (l .name .bytes)) (l .startpc) (l .endpc))
         × (nameWritten old (entryOf (λ p. p .loc-vars) f i (read L s)) ≡ l .name .bytes ++ drop (length (l .name .bytes)) old)
     name i l e old room =

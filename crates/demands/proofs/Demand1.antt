@@ -8,7 +8,7 @@
 --     ..-kept          a call that refuses leaves lent memory as it was
 -- Assumes nothing.
 use mathlib.Core.Path.{_≡_, refl, sym, _∙_, ap}
-use mathlib.Core.Bool.{Bool, true, false}
+use mathlib.Core.Bool.{Bool, true, false, cond}
 use mathlib.Core.List.{List, [], _∷_, _++_}
 use mathlib.Core.Option.{Option, none, some}
 use Prim.Native.Nat.{ℕ, _≤_, _<_, _^_}
@@ -16,12 +16,11 @@ use native.Mathlib.Omega.{arith}
 use native.Mathlib.Nat.{zero-add}
 use lib.Dec.{leb, ltb}
 use lib.IntN.{ℤ, pos, negsuc, _+ℤ_}
-use lib.ListN.{length, drop}
+use lib.ListN.{length, drop, getElem?}
 use borrow.Author.Tests.{leb-true, le-leb}
 use Rattle.format.specs.declared.limits.ResourceLimits.{ResourceLimits}
 use Rattle.format.specs.declared.refusal.Refusal.{Refusal}
 use Rattle.format.specs.declared.refusal.Refusal.the-variants as refusals
-use Rattle.format.specs.Pick.{pick}
 use Rattle.format.specs.Form.{Bytes}
 use Rattle.format.specs.Limits.{withinCeilings}
 use Rattle.format.specs.Refusals.{reported}
@@ -30,7 +29,6 @@ use Rattle.format.specs.GrammarChunk.{Loaded}
 use Rattle.format.specs.Read.{Read, ok, refused}
 use Rattle.format.specs.ReadChunk.{Outcome, shown, refusal, main, outcome, read}
 use Rattle.format.specs.Copy.{copy}
-use Rattle.entries.specs.Nth.{nth}
 use Rattle.access.specs.Asked.{Asked, found, orRefuse, functionOf, entryIn, entryOf}
 use Rattle.access.specs.Asked as asked
 use Rattle.index.specs.Index.{index, shownIndex, indexWritten}
@@ -108,7 +106,7 @@ unfolding read
 places L s q = go (withinCeilings L) refl (leb (length s) (L .«max_input_bytes»)) refl (main L 0 s) refl
   where
     go : (within : Bool) → withinCeilings L ≡ within → (short : Bool) → leb (length s) (L .«max_input_bytes») ≡ short → (m : Read Loaded) → main L 0 s ≡ m
-        → pick within (pick short (outcome L m) (refusal refusals.InputBytes)) (refusal refusals.LimitAboveCeiling) ≡ refusal q
+        → cond within (cond short (outcome L m) (refusal refusals.InputBytes)) (refusal refusals.LimitAboveCeiling) ≡ refusal q
         → Inside (length s) (reported q .place) × Inside 16777216 (reported q .place)
     go true f true g (ok m to rest) k e = absurd (let z : _≡_ {A = ℕ} 0 1 = cc in omega arith)
     go true f true g (refused p) k e =
@@ -134,17 +132,17 @@ never e = absurd (let z : _≡_ {A = ℕ} 0 1 = cc in omega arith)
 
 -- 26 is tested last, and where it is met nothing is written
 module _ {B : Type 0} (inside : B → Option Refusal) (x y : B) (fine : inside x ≡ none) where
-  by-room : (b : Bool) → inside y ≡ some refusals.LentSpace → inside (pick b x y) ≡ first (unless b refusals.LentSpace ∷ [])
+  by-room : (b : Bool) → inside y ≡ some refusals.LentSpace → inside (cond b x y) ≡ first (unless b refusals.LentSpace ∷ [])
   by-room true e = fine
   by-room false e = e
 
-  room-kept : {A : Type 0} (b : Bool) (new old : List A) (q : Refusal) → inside (pick b x y) ≡ some q → pick b new old ≡ old
+  room-kept : {A : Type 0} (b : Bool) (new old : List A) (q : Refusal) → inside (cond b x y) ≡ some q → cond b new old ≡ old
   room-kept true new old q e = never (sym fine ∙ e)
   room-kept false new old q e = refl
 
 module _ (L : ResourceLimits) (s : Bytes) where
   module _ (later : Reading → List (Option Refusal)) where
-    by-tests : (within short : Bool) (m : Read Loaded) → let o = pick within (pick short (outcome L m) (refusal refusals.InputBytes)) (refusal refusals.LimitAboveCeiling) in
+    by-tests : (within short : Bool) (m : Read Loaded) → let o = cond within (cond short (outcome L m) (refusal refusals.InputBytes)) (refusal refusals.LimitAboveCeiling) in
         after o later ≡ first (unless within refusals.LimitAboveCeiling ∷ unless short refusals.InputBytes ∷ byReader m ∷ andThen o later)
     by-tests true true (ok m to rest) = refl
     by-tests true true (refused q) = refl
@@ -180,12 +178,12 @@ module _ (L : ResourceLimits) (s : Bytes) where
     of-entry none = bad refusals.NoEntry
     of-entry (some x) = fine x
 
-    of-list : (p : Option Prototype) → inside (answer (entryIn list i (orRefuse refusals.NoFunction p))) ≡ first (missing p refusals.NoFunction ∷ ofFunction p (λ p. missing (nth i (list p)) refusals.NoEntry) ∷ [])
+    of-list : (p : Option Prototype) → inside (answer (entryIn list i (orRefuse refusals.NoFunction p))) ≡ first (missing p refusals.NoFunction ∷ ofFunction p (λ p. missing (getElem? (list p) i) refusals.NoEntry) ∷ [])
     of-list none = bad refusals.NoFunction
-    of-list (some p) = of-entry (nth i (list p))
+    of-list (some p) = of-entry (getElem? (list p) i)
 
     of-function : (o : Outcome) → inside (answer (entryOf list f i o)) ≡ after o (λ r. noFunction f r ∷ noEntry list f i r ∷ [])
-    of-function (shown r) = of-list (nth f (r .functions))
+    of-function (shown r) = of-list (getElem? (r .functions) f)
     of-function (refusal q) = bad q
 
     entry : inside (answer (entryOf list f i (read L s))) ≡ first (ofChunk L s (andThen (read L s) (λ r. noFunction f r ∷ noEntry list f i r ∷ [])))
@@ -228,23 +226,23 @@ module _ (L : ResourceLimits) (s : Bytes) where
       there (some p) = refl
 
       go : (o : Outcome) → inFields (shownFields (functionOf f o)) ≡ after o (λ r. noFunction f r ∷ [])
-      go (shown r) = there (nth f (r .functions))
+      go (shown r) = there (getElem? (r .functions) f)
       go (refusal q) = refl
 
   -- get_line_for_pc: then 23, 25
   pub line : (f pc : ℕ) → inLine (shownLine pc (functionOf f (read L s))) ≡ first (ofChunk L s (andThen (read L s) (λ r. noFunction f r ∷ largeLine f r ∷ [])))
   line f pc = go (read L s) ∙ order _
     where
-      of-lines : (b : Bool) (n : ℕ) → inLine (pick b (line-answer.Err refusals.LineTooLarge) (line-answer.Ok n)) ≡ first (pick b (some refusals.LineTooLarge) none ∷ [])
+      of-lines : (b : Bool) (n : ℕ) → inLine (cond b (line-answer.Err refusals.LineTooLarge) (line-answer.Ok n)) ≡ first (cond b (some refusals.LineTooLarge) none ∷ [])
       of-lines true n = refl
       of-lines false n = refl
 
-      there : (p : Option Prototype) → inLine (shownLine pc (orRefuse refusals.NoFunction p)) ≡ first (missing p refusals.NoFunction ∷ ofFunction p (λ p. pick (large (p .line-defined) (p .abs-line-info)) (some refusals.LineTooLarge) none) ∷ [])
+      there : (p : Option Prototype) → inLine (shownLine pc (orRefuse refusals.NoFunction p)) ≡ first (missing p refusals.NoFunction ∷ ofFunction p (λ p. cond (large (p .line-defined) (p .abs-line-info)) (some refusals.LineTooLarge) none) ∷ [])
       there none = refl
       there (some p) = of-lines (large (p .line-defined) (p .abs-line-info)) _
 
       go : (o : Outcome) → inLine (shownLine pc (functionOf f o)) ≡ after o (λ r. noFunction f r ∷ largeLine f r ∷ [])
-      go (shown r) = there (nth f (r .functions))
+      go (shown r) = there (getElem? (r .functions) f)
       go (refusal q) = refl
 
   -- instruction, constant, upvalue, delta, anchor, upvalue_name: then 23, 24
@@ -276,12 +274,12 @@ module _ (L : ResourceLimits) (s : Bytes) where
         named (some l) = by-room inLocal _ _ refl (leb (length (l .name .bytes)) space) refl
 
         there : (p : Option Prototype) → inLocal (shownLocal space (entryIn (λ p. p .loc-vars) i (orRefuse refusals.NoFunction p)))
-            ≡ first (missing p refusals.NoFunction ∷ ofFunction p (λ p. missing (nth i (p .loc-vars)) refusals.NoEntry) ∷ ofFunction p (λ p. ofLocal (nth i (p .loc-vars)) (λ l. tooLong (l .name .bytes) space)) ∷ [])
+            ≡ first (missing p refusals.NoFunction ∷ ofFunction p (λ p. missing (getElem? (p .loc-vars) i) refusals.NoEntry) ∷ ofFunction p (λ p. ofLocal (getElem? (p .loc-vars) i) (λ l. tooLong (l .name .bytes) space)) ∷ [])
         there none = refl
-        there (some p) = named (nth i (p .loc-vars))
+        there (some p) = named (getElem? (p .loc-vars) i)
 
         go : (o : Outcome) → inLocal (shownLocal space (entryOf (λ p. p .loc-vars) f i o)) ≡ after o (λ r. noFunction f r ∷ noEntry (λ p. p .loc-vars) f i r ∷ longName space f i r ∷ [])
-        go (shown r) = there (nth f (r .functions))
+        go (shown r) = there (getElem? (r .functions) f)
         go (refusal q) = refl
 
 -- ## Lent memory
@@ -305,7 +303,7 @@ findings-kept old (refusal p) q e = refl
 
 -- ## Words
 -- decoding refuses nothing; encoding: 28, then 27
-range-only : (b : Bool) (w : ℕ) → inEncoded (pick b (word.Word w) (word.Refused refusals.FieldRange)) ≡ unless (isWord (pick b (word.Word w) (word.Refused refusals.FieldRange))) refusals.FieldRange
+range-only : (b : Bool) (w : ℕ) → inEncoded (cond b (word.Word w) (word.Refused refusals.FieldRange)) ≡ unless (isWord (cond b (word.Word w) (word.Refused refusals.FieldRange))) refusals.FieldRange
 range-only true w = refl
 range-only false w = refl
 

@@ -3,7 +3,7 @@
 --                      alone, with a place that is at most the end. Only 1 and 2 (bytes are missing) can go away with more bytes
 -- Assumes nothing.
 use mathlib.Core.Path.{_≡_, refl, _∙_, ap}
-use mathlib.Core.Bool.{Bool, true, false}
+use mathlib.Core.Bool.{Bool, true, false, cond}
 use mathlib.Core.List.{List, [], _∷_, _++_}
 use Prim.Native.Nat.{ℕ, zero, suc, _+_, _-_, _*_, _%_, _≤_, _<_, _^_}
 use native.Mathlib.Omega.{arith}
@@ -35,7 +35,6 @@ use Rattle.format.specs.declared.refusal.Refusal.the-variants.{
   NestingDepth,
   TotalPrototypes,
 }
-use Rattle.format.specs.Pick.{pick}
 use Rattle.format.specs.Form.{Bytes}
 use Rattle.format.specs.Refusals.{reported}
 use Rattle.format.specs.declared.refusal.Place.{Place}
@@ -116,7 +115,7 @@ steady-then {A} {B} {low} {r} {f} one two = record { more = λ at s t h. go at (
         rw (g .same) (behind at mid e (f x mid rest) (f x mid (rest ++ t)) t le (rw (g .end) at on))
     go at e (refused q) p t h g = record { by-file = g .by-file; stays = λ k. ap (λ o. next o f) (g .stays k) }
 
-steady-pick : {A : Type 0} {low : ℕ} {r s : Reader A} (b : Bool) → Steady low r → Steady low s → Steady low (pick b r s)
+steady-pick : {A : Type 0} {low : ℕ} {r s : Reader A} (b : Bool) → Steady low r → Steady low s → Steady low (cond b r s)
 steady-pick true one two = one
 steady-pick false one two = two
 
@@ -128,7 +127,7 @@ steady-atMost : {low : ℕ} (n m : ℕ) (q : Refusal) → ByFile low q → Stead
 steady-atMost n m q is = steady-test (leb n m) q is
 
 -- bytes are missing
-missing : {A : Type 0} {e : ℕ} (b : Bool) (at : ℕ) (o : Read A) → at ≤ e → StillRefused e (pick b (Truncated at) Overflow) o
+missing : {A : Type 0} {e : ℕ} (b : Bool) (at : ℕ) (o : Read A) → at ≤ e → StillRefused e (cond b (Truncated at) Overflow) o
 missing true at o h = record { by-file = listed (Truncated at) refl refl h; stays = λ k. absurd (omega arith) }
 missing false at o h = record { by-file = listed Overflow refl refl tt; stays = λ k. absurd (omega arith) }
 
@@ -162,7 +161,7 @@ steady-groups high at (x ∷ s) t = go (ltb high (2 ^ 57 - 1)) (ltb x 128) (grou
     first (refused q) p g = rw end at g
 
     go : (fits low : Bool) (o p : Read ℕ) → Same (at + 1) (at + 1 + length s) o p t
-        → Same at (at + suc (length s)) (pick fits (pick low o (ok (high * 128 + x % 128) (at + 1) s)) (refused VarintOverflow)) (pick fits (pick low p (ok (high * 128 + x % 128) (at + 1) (s ++ t))) (refused VarintOverflow)) t
+        → Same at (at + suc (length s)) (cond fits (cond low o (ok (high * 128 + x % 128) (at + 1) s)) (refused VarintOverflow)) (cond fits (cond low p (ok (high * 128 + x % 128) (at + 1) (s ++ t))) (refused VarintOverflow)) t
     go true true o p on = first o p on
     go true false o p on = record { same = refl; forward = omega arith; end = end }
     go false low o p on = record { by-file = listed VarintOverflow refl refl tt; stays = λ h. refl }

@@ -2,22 +2,20 @@
 --     first qs         the first of the conditions that holds
 --     ofChunk L s      21, 22, then 1 to 20: what every call on a chunk tests
 --     noFunction ..    23, 24, 25 and 26, of a chunk that is read
-use mathlib.Core.Bool.{Bool}
+use mathlib.Core.Bool.{Bool, cond}
 use mathlib.Core.List.{List, [], _∷_}
 use mathlib.Core.Option.{Option, none, some}
 use Prim.Native.Nat.{ℕ}
 use lib.Dec.{leb}
-use lib.ListN.{length}
+use lib.ListN.{length, getElem?}
 use Rattle.format.specs.declared.limits.ResourceLimits.{ResourceLimits}
 use Rattle.format.specs.declared.refusal.Refusal.{Refusal}
 use Rattle.format.specs.declared.refusal.Refusal.the-variants.{LimitAboveCeiling, InputBytes, NoFunction, NoEntry, LineTooLarge, LentSpace, FieldRange, NoOpcode}
-use Rattle.format.specs.Pick.{pick}
 use Rattle.format.specs.Form.{Bytes}
 use Rattle.format.specs.Limits.{withinCeilings}
 use Rattle.format.specs.Reading.{Reading, Prototype, LocalVar}
 use Rattle.format.specs.Read.{Read, ok, refused}
 use Rattle.format.specs.ReadChunk.{Outcome, shown, refusal, main}
-use Rattle.entries.specs.Nth.{nth}
 use Rattle.lines.specs.Lines.{large}
 use Rattle.opcodes.specs.declared.opcode.OptionOpcode54.{OptionOpcode54}
 use Rattle.opcodes.specs.declared.opcode.OptionOpcode54.the-variants as option
@@ -60,7 +58,7 @@ use Rattle.finding_plan.specs.declared.FindingsAnswer.the-variants as findings
 -- ## Conditions, in an order
 -- a refusal where a test fails, and where something is not there
 abbrev pub unless : Bool → Refusal → Option Refusal
-unless b q = pick b none (some q)
+unless b q = cond b none (some q)
 
 abbrev pub missing : {A : Type 0} → Option A → Refusal → Option Refusal
 missing none q = some q
@@ -86,7 +84,7 @@ andThen (refusal q) later = []
 
 -- ## 23 to 26
 abbrev pub noFunction : ℕ → Reading → Option Refusal
-noFunction f r = missing (nth f (r .functions)) NoFunction
+noFunction f r = missing (getElem? (r .functions) f) NoFunction
 
 -- of a function that is there
 abbrev pub ofFunction : Option Prototype → (Prototype → Option Refusal) → Option Refusal
@@ -94,10 +92,10 @@ ofFunction none q = none
 ofFunction (some p) q = q p
 
 abbrev pub noEntry : {A : Type 0} → (Prototype → List A) → ℕ → ℕ → Reading → Option Refusal
-noEntry list f i r = ofFunction (nth f (r .functions)) (λ p. missing (nth i (list p)) NoEntry)
+noEntry list f i r = ofFunction (getElem? (r .functions) f) (λ p. missing (getElem? (list p) i) NoEntry)
 
 abbrev pub largeLine : ℕ → Reading → Option Refusal
-largeLine f r = ofFunction (nth f (r .functions)) (λ p. pick (large (p .line-defined) (p .abs-line-info)) (some LineTooLarge) none)
+largeLine f r = ofFunction (getElem? (r .functions) f) (λ p. cond (large (p .line-defined) (p .abs-line-info)) (some LineTooLarge) none)
 
 abbrev pub tooLong : {A : Type 0} → List A → ℕ → Option Refusal
 tooLong result space = unless (leb (length result) space) LentSpace
@@ -108,7 +106,7 @@ ofLocal (some l) q = q l
 
 -- a local variable's name that is longer than the lent space
 abbrev pub longName : ℕ → ℕ → ℕ → Reading → Option Refusal
-longName space f i r = ofFunction (nth f (r .functions)) (λ p. ofLocal (nth i (p .loc-vars)) (λ l. tooLong (l .name .bytes) space))
+longName space f i r = ofFunction (getElem? (r .functions) f) (λ p. ofLocal (getElem? (p .loc-vars) i) (λ l. tooLong (l .name .bytes) space))
 
 -- ## 28, 27
 abbrev pub noOpcode : OptionOpcode54 → Option Refusal

@@ -5,7 +5,7 @@
 --     writes                   a chunk that is read has its copy written wherever there is room
 -- Assumes nothing.
 use mathlib.Core.Path.{_≡_, refl, sym, _∙_, ap}
-use mathlib.Core.Bool.{Bool, true, false}
+use mathlib.Core.Bool.{Bool, true, false, cond}
 use mathlib.Core.List.{_++_}
 use Prim.Native.Nat.{ℕ, _≤_}
 use native.Mathlib.Omega.{arith}
@@ -14,7 +14,6 @@ use lib.ListN.{length, take, drop}
 use lib.Seq.{take-append-seam}
 use Rattle.format.specs.declared.limits.ResourceLimits.{ResourceLimits}
 use Rattle.format.specs.declared.refusal.Refusal.the-variants.{LentSpace}
-use Rattle.format.specs.Pick.{pick}
 use Rattle.format.specs.Form.{Bytes}
 use Rattle.format.specs.Reading.{Reading}
 use Rattle.format.specs.ReadChunk.{Outcome, shown, refusal, read}
@@ -36,8 +35,8 @@ pub record ByReading (L : ResourceLimits) (chunk written : Bytes) : Type 0 where
 pub by-reading : (L : ResourceLimits) (chunk old written : Bytes) → Writes L chunk old written → ByReading L chunk written
 by-reading L chunk old written w = from (read L chunk) refl (w .answers) (w .bytes)
   where
-    room : (r : Reading) → read L chunk ≡ shown r → (t : Bool) → pick t (copy-answer.Ok (length (copy r))) (copy-answer.Err LentSpace) ≡ copy-answer.Ok (w .len)
-        → take (w .len) (pick t (copy r ++ drop (length (copy r)) old) old) ≡ written → ByReading L chunk written
+    room : (r : Reading) → read L chunk ≡ shown r → (t : Bool) → cond t (copy-answer.Ok (length (copy r))) (copy-answer.Err LentSpace) ≡ copy-answer.Ok (w .len)
+        → take (w .len) (cond t (copy r ++ drop (length (copy r)) old) old) ≡ written → ByReading L chunk written
     room r is true a b =
         let size : length (copy r) ≡ w .len = cc in
         record { reading = r; is = is; bytes = sym b ∙ ap (λ n. take n (copy r ++ drop (length (copy r)) old)) (sym size) ∙ take-append-seam (copy r) (drop (length (copy r)) old) }

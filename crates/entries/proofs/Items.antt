@@ -8,7 +8,7 @@ use mathlib.Core.List.{List, [], _∷_}
 use mathlib.Core.Option.{Option, none, some}
 use Prim.Native.Nat.{ℕ, zero, suc, _+_, _*_, _<_}
 use native.Mathlib.Omega.{arith}
-use lib.ListN.{length, take, drop}
+use lib.ListN.{length, take, drop, getElem?}
 use Rattle.format.specs.Form.{Bytes}
 use Rattle.format.specs.Read.{Read, ok, refused, Reader, next, _>>=_, give, run, many}
 use Rattle.format.specs.ReadFields.{byte}
@@ -19,7 +19,7 @@ use Rattle.format.proofs.Steps.{run-enough, run-was, field-enough}
 use Rattle.format.proofs.Located.{Found}
 use Rattle.lists.specs.Readers.{RawLocal, rawLocal, named}
 use Rattle.lists.proofs.DebugInfo.{local-named}
-use Rattle.entries.specs.Nth.{nth, entryAt, byteAt, localAt}
+use Rattle.entries.specs.Nth.{entryAt, byteAt, localAt}
 
 -- what a reader gives, with the rest left open
 record Gives {A : Type 0} (o : Read A) (x : A) : Type 0 where
@@ -61,7 +61,7 @@ module _ {A : Type 0} (r : Reader A) where
   onward : (i at : ℕ) (s : Bytes) {y : A} {mid : ℕ} {t : Bytes} → r at s ≡ ok y mid t → entryAt (suc i) r at s ≡ entryAt i r mid t
   onward i at s {y} {mid} {t} e = ap (λ o. next (next o (λ y. many i r >>= λ ys. give (y ∷ ys))) (λ _. r)) e ∙ one-passed y (many i r mid t) r
 
-  nth-read : (n i at : ℕ) (s : Bytes) {xs : List A} → Gives (many n r at s) xs → {x : A} → nth i xs ≡ some x → Gives (entryAt i r at s) x
+  nth-read : (n i at : ℕ) (s : Bytes) {xs : List A} → Gives (many n r at s) xs → {x : A} → getElem? xs i ≡ some x → Gives (entryAt i r at s) x
   nth-read zero i at s {xs} g found = not-none (let e = g .is in let z : xs ≡ [] = cc in rw z at found)
   nth-read (suc n) zero at s {xs} g {x} found =
       let p = split r n at s g in
@@ -69,33 +69,33 @@ module _ {A : Type 0} (r : Reader A) where
       record { to = p .mid; rest = p .behind; is = p .first ∙ ap (λ y. ok y (p .mid) (p .behind)) same }
   nth-read (suc n) (suc i) at s {xs} g {x} found =
       let p = split r n at s g in
-      let f : nth i (p .tail) ≡ some x = rw (p .is) at found in
+      let f : getElem? (p .tail) i ≡ some x = rw (p .is) at found in
       let later = nth-read n i (p .mid) (p .behind) (p .others) f in
       record { to = later .to; rest = later .rest; is = onward i at s (p .first) ∙ later .is }
 
-  pub many-nth : {s : Bytes} (n : ℕ) {at : ℕ} {xs : List A} → Found s (many n r) at xs → (i : ℕ) {x : A} → nth i xs ≡ some x → Found s (entryAt i r) at x
+  pub many-nth : {s : Bytes} (n : ℕ) {at : ℕ} {xs : List A} → Found s (many n r) at xs → (i : ℕ) {x : A} → getElem? xs i ≡ some x → Found s (entryAt i r) at x
   many-nth {s} n {at} {xs} f i {x} found =
       let g = nth-read n i at (drop at s) (record { to = f .to; rest = f .rest; is = f .is }) found in
       record { to = g .to; rest = g .rest; is = g .is }
 
 -- ## A run of bytes
-nth-drop : (i : ℕ) (t : Bytes) {x : ℕ} → nth i t ≡ some x → drop i t ≡ x ∷ drop (suc i) t
+nth-drop : (i : ℕ) (t : Bytes) {x : ℕ} → getElem? t i ≡ some x → drop i t ≡ x ∷ drop (suc i) t
 nth-drop i [] e = not-none e
 nth-drop zero (y ∷ t) {x} e = let same : y ≡ x = cc in ap (λ z. z ∷ t) same
 nth-drop (suc i) (y ∷ t) e = nth-drop i t e
 
-nth-below : (i : ℕ) (t : Bytes) {x : ℕ} → nth i t ≡ some x → i < length t
+nth-below : (i : ℕ) (t : Bytes) {x : ℕ} → getElem? t i ≡ some x → i < length t
 nth-below i [] e = not-none e
 nth-below zero (y ∷ t) e = omega arith
 nth-below (suc i) (y ∷ t) e = let below = nth-below i t e in omega arith
 
-nth-take : (n i : ℕ) (t : Bytes) {x : ℕ} → nth i (take n t) ≡ some x → nth i t ≡ some x
+nth-take : (n i : ℕ) (t : Bytes) {x : ℕ} → getElem? (take n t) i ≡ some x → getElem? t i ≡ some x
 nth-take zero i t e = not-none e
 nth-take (suc n) i [] e = not-none e
 nth-take (suc n) zero (y ∷ t) e = e
 nth-take (suc n) (suc i) (y ∷ t) e = nth-take n i t e
 
-byte-read : (i at : ℕ) (t : Bytes) {x : ℕ} → nth i t ≡ some x → Gives (byteAt i at t) x
+byte-read : (i at : ℕ) (t : Bytes) {x : ℕ} → getElem? t i ≡ some x → Gives (byteAt i at t) x
 byte-read i at t {x} e =
     let below = nth-below i t e in
     let one : byte (at + i) (x ∷ drop (suc i) t) ≡ ok (x + 256 * 0) (at + i + 1) (drop (suc i) t) = field-enough 1 (at + i) (x ∷ drop (suc i) t) (omega arith) in
@@ -106,7 +106,7 @@ byte-read i at t {x} e =
       is = ap (λ o. next o (λ _. byte)) (run-enough i at t (omega arith)) ∙ ap (λ u. byte (at + i) u) (nth-drop i t e) ∙ one ∙ ap (λ n. ok n (at + i + 1) (drop (suc i) t)) value;
     }
 
-pub run-nth : {s : Bytes} (n : ℕ) {at : ℕ} {xs : Bytes} → Found s (run n) at xs → (i : ℕ) {x : ℕ} → nth i xs ≡ some x → Found s (byteAt i) at x
+pub run-nth : {s : Bytes} (n : ℕ) {at : ℕ} {xs : Bytes} → Found s (run n) at xs → (i : ℕ) {x : ℕ} → getElem? xs i ≡ some x → Found s (byteAt i) at x
 run-nth {s} n {at} {xs} f i {x} found =
     let g = byte-read i at (drop at s) (nth-take n i (drop at s) (rw (← run-was n at (drop at s) (f .is) .1) at found)) in
     record { to = g .to; rest = g .rest; is = g .is }
@@ -128,7 +128,7 @@ spelt : (o : Read RawLocal) {l : LocalVar} {to : ℕ} {rest : Bytes} → next o 
 spelt (ok raw to rest) e = record { raw = raw; gives = record { to = to; rest = rest; is = refl }; is = cc }
 spelt (refused q) e = absurd (never e)
 
-pub local-nth : {s : Bytes} (n limit : ℕ) {at : ℕ} {ls : List LocalVar} → Found s (many n (local limit)) at ls → (i : ℕ) {l : LocalVar} → nth i ls ≡ some l → LocalFound s i limit at l
+pub local-nth : {s : Bytes} (n limit : ℕ) {at : ℕ} {ls : List LocalVar} → Found s (many n (local limit)) at ls → (i : ℕ) {l : LocalVar} → getElem? ls i ≡ some l → LocalFound s i limit at l
 local-nth {s} n limit {at} f i {l} found = go (many i (local limit) at (drop at s)) refl (many-nth (local limit) n f i found)
   where
     go : (o : Read (List LocalVar)) → many i (local limit) at (drop at s) ≡ o → Found s (entryAt i (local limit)) at l → LocalFound s i limit at l

@@ -4,16 +4,14 @@
 --     local-stands       a local variable's name, if it has one
 -- Assumes nothing.
 use mathlib.Core.Path.{_≡_, refl}
-use mathlib.Core.Bool.{Bool, true, false}
+use mathlib.Core.Bool.{Bool, true, false, cond}
 use mathlib.Core.List.{[]}
-use mathlib.Core.Option.{Option, none, some}
+use mathlib.Core.Option.{Option, none, some, Option·getD}
 use Prim.Native.Nat.{ℕ, _≤_}
 use native.Mathlib.Omega.{arith}
 use lib.Dec.{eqb}
-use Rattle.format.specs.Pick.{pick}
 use Rattle.format.specs.Form.{Bytes, Form}
 use Rattle.format.specs.GrammarFields.{LuaString}
-use Rattle.format.specs.GrammarChunk.{orElse}
 use Rattle.format.specs.Reading.{ConstantValue, nil, boolean, integer, float, short-string, long-string}
 use Rattle.format.specs.Read.{Reader, next, _>>=_, many}
 use Rattle.format.specs.ReadFields.{byte, string}
@@ -35,14 +33,14 @@ module _ (s : Bytes) where
   ConstantStands (integer n) = Unit {0}
   ConstantStands (float n) = Unit {0}
 
-  or-empty : (t : Option LuaString) (place : ℕ) → StandsIf s t → Stands s (orElse t (record { place = place; bytes = [] }))
+  or-empty : (t : Option LuaString) (place : ℕ) → StandsIf s t → Stands s (Option·getD t (record { place = place; bytes = [] }))
   or-empty none place h = record { inside = omega arith; there = refl }
   or-empty (some t) place h = h
 
   at-always : (limit at : ℕ) → AtPlace s at (always limit []) (λ to t. Stands s t)
   at-always limit at = at-then (exact-string limit) (at-string limit) λ t _ h. at-here λ place. at-give λ _. or-empty t place h
 
-  at-pick : {A : Type 0} {at : ℕ} {P : ℕ → A → Type 0} (b : Bool) {one two : Reader A} → AtPlace s at one P → AtPlace s at two P → AtPlace s at (pick b one two) P
+  at-pick : {A : Type 0} {at : ℕ} {P : ℕ → A → Type 0} (b : Bool) {one two : Reader A} → AtPlace s at one P → AtPlace s at two P → AtPlace s at (cond b one two) P
   at-pick true h k = h
   at-pick false h k = k
 

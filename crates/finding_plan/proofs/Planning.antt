@@ -1,7 +1,7 @@
 -- A plan is good for what its contract says: on a refusal, and where the findings are all there and there is room for them or not.
 -- Assumes nothing.
 use mathlib.Core.Path.{_≡_, refl, sym, ap, _∙_}
-use mathlib.Core.Bool.{Bool, true, false}
+use mathlib.Core.Bool.{Bool, true, false, cond}
 use mathlib.Core.List.{List, []}
 use Prim.Native.Nat.{ℕ, _≤_, _<_}
 use native.Mathlib.Omega.{arith}
@@ -9,7 +9,6 @@ use lib.Dec.{leb}
 use lib.ListN.{length}
 use lib.Seq.{take-length}
 use borrow.Author.Tests.{leb-true, lt-leb, le-leb}
-use Rattle.format.specs.Pick.{pick}
 use Rattle.format.specs.declared.limits.ResourceLimits.{ResourceLimits}
 use Rattle.format.specs.declared.refusal.Refusal.{Refusal}
 use Rattle.format.specs.declared.refusal.Refusal.the-variants.{LentSpace}
@@ -55,11 +54,11 @@ module _ (L : ResourceLimits) (s : Bytes) (room : ℕ) (start : Position) where
     list-is : (old : List Finding) → findingsWritten old (read L s) ≡ listingWritten old (all .findings)
     list-is old = ap (findingsWritten old) is ∙ ap (λ l. listingWritten old (l .findings)) (sym same)
 
-    found-is : foundIn room (read L s) ≡ pick (leb (length (all .findings)) room) (all .findings) []
-    found-is = ap (foundIn room) is ∙ ap (λ l. pick (leb (length (l .findings)) room) (l .findings) []) (sym same)
+    found-is : foundIn room (read L s) ≡ cond (leb (length (all .findings)) room) (all .findings) []
+    found-is = ap (foundIn room) is ∙ ap (λ l. cond (leb (length (l .findings)) room) (l .findings) []) (sym same)
 
     by-room : (b : Bool) → leb (length (all .findings)) room ≡ b
-        → Planned L s room (pick b (record { answer = answer.Ok (verdict all) (length (all .findings)); count = length (all .findings); start = start }) (refusedPlan LentSpace start))
+        → Planned L s room (cond b (record { answer = answer.Ok (verdict all) (length (all .findings)); count = length (all .findings); start = start }) (refusedPlan LentSpace start))
     unfolding written
     by-room true e = record {
       answers = sym (answer-is ∙ rw e);

@@ -1,5 +1,6 @@
 -- What is decided before the writer writes.
 use mathlib.Core.Path.{_≡_}
+use mathlib.Core.Bool.{cond}
 use mathlib.Core.List.{List, _++_}
 use Prim.Native.Nat.{ℕ, _≤_, _<_}
 use lib.Dec.{leb}
@@ -8,7 +9,6 @@ use Rattle.format.specs.declared.limits.ResourceLimits.{ResourceLimits}
 use Rattle.format.specs.declared.refusal.Refusal.{Refusal}
 use Rattle.format.specs.declared.refusal.Refusal.the-variants.{LentSpace}
 use Rattle.format.specs.Form.{Bytes}
-use Rattle.format.specs.Pick.{pick}
 use Rattle.format.specs.ReadChunk.{read}
 use Rattle.rules.specs.declared.finding.Finding.{Finding}
 use Rattle.validator.specs.declared.search.Position.{Position}
@@ -24,7 +24,7 @@ refusedPlan q start = record { answer = answer.Err q; count = 0; start = start }
 -- all findings where there is room for them, and else none
 abbrev pub planOf : Listing → ℕ → Position → Plan
 planOf l room start =
-    pick (leb (length (l .findings)) room)
+    cond (leb (length (l .findings)) room)
     (record { answer = answer.Ok (verdict l) (length (l .findings)); count = length (l .findings); start = start })
     (refusedPlan LentSpace start)
 

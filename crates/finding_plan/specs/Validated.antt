@@ -2,12 +2,12 @@
 --     shownFindings room o         the verdict and the number of findings, where o was read; 26 where there is room for fewer, after every other refusal
 --     findingsWritten old o        what then stands in the list that held `old`
 --     foundIn room o               the findings that are written where there is room for so many: all, or on a refusal none
+use mathlib.Core.Bool.{cond}
 use mathlib.Core.List.{List, [], _++_}
 use Prim.Native.Nat.{ℕ}
 use lib.Dec.{leb}
 use lib.ListN.{length, drop}
 use Rattle.format.specs.declared.refusal.Refusal.the-variants.{LentSpace}
-use Rattle.format.specs.Pick.{pick}
 use Rattle.format.specs.ReadChunk.{Outcome, shown, refusal}
 use Rattle.rules.specs.declared.finding.Finding.{Finding}
 use Rattle.rules.specs.Findings.{Listing, chunkFindings, verdict}
@@ -16,11 +16,11 @@ use Rattle.finding_plan.specs.declared.FindingsAnswer.the-variants as an
 
 -- of a listing of findings
 abbrev pub listingAnswer : ℕ → Listing → FindingsAnswer
-listingAnswer room l = pick (leb (length (l .findings)) room) (answer.Ok (verdict l) (length (l .findings))) (answer.Err LentSpace)
+listingAnswer room l = cond (leb (length (l .findings)) room) (answer.Ok (verdict l) (length (l .findings))) (answer.Err LentSpace)
 
 -- the findings, and behind them what stood there; where there is no room for them, all that stood there
 abbrev pub listingWritten : List Finding → List Finding → List Finding
-listingWritten old new = pick (leb (length new) (length old)) (new ++ drop (length new) old) old
+listingWritten old new = cond (leb (length new) (length old)) (new ++ drop (length new) old) old
 
 abbrev pub shownFindings : ℕ → Outcome → FindingsAnswer
 shownFindings room (shown r) = listingAnswer room (chunkFindings r)
@@ -32,5 +32,5 @@ findingsWritten old (shown r) = listingWritten old (chunkFindings r .findings)
 findingsWritten old (refusal q) = old
 
 abbrev pub foundIn : ℕ → Outcome → List Finding
-foundIn room (shown r) = pick (leb (length (chunkFindings r .findings)) room) (chunkFindings r .findings) []
+foundIn room (shown r) = cond (leb (length (chunkFindings r .findings)) room) (chunkFindings r .findings) []
 foundIn room (refusal q) = []

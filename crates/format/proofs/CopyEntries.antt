@@ -3,16 +3,16 @@
 use mathlib.Core.Path.{_≡_, refl, sym, _∙_, ap, ap₂}
 use mathlib.Core.Bool.{Bool, true, false}
 use mathlib.Core.List.{List, [], _∷_, _++_, append-assoc, append-nil, map, flatten, map-id}
-use mathlib.Core.Option.{Option, none}
+use mathlib.Core.Option.{Option, none, Option·getD, Option·map}
 use Prim.Native.Nat.{ℕ, zero, suc, _+_, _-_, _^_, _≤_, _<_, zero-le}
 use lib.Dec.{T, eqb, eqb→eq, lit<}
 use lib.ListN.{length}
 use Rattle.format.specs.Form.{Bytes, Below, Form, Then, Is, When, Many}
 use Rattle.format.specs.GrammarFields.{Field, LuaString, Content, String}
 use Rattle.format.specs.Reading.{short-string, long-string}
-use Rattle.format.specs.GrammarChunk.{Listed, Counted, CountedUpTo, orElse, Always, Tagged, Constant, Upvalue, Anchor, Local}
+use Rattle.format.specs.GrammarChunk.{Listed, Counted, CountedUpTo, Always, Tagged, Constant, Upvalue, Anchor, Local}
 use Rattle.format.specs.Shortest.{shortest}
-use Rattle.format.specs.Copy.{fieldBytes, stringBytes, optionBytes, constantBytes, upvalueBytes, anchorBytes, localBytes, listBytes, keptString, keptOption, keptConstant, keptLocal}
+use Rattle.format.specs.Copy.{fieldBytes, stringBytes, optionBytes, constantBytes, upvalueBytes, anchorBytes, localBytes, listBytes, keptString, keptConstant, keptLocal}
 use Rattle.format.proofs.Below.{below-join}
 use Rattle.format.proofs.Build.{put, skip, last}
 use Rattle.format.proofs.FieldBytes.{field-below, field-spells}
@@ -20,11 +20,11 @@ use Rattle.format.proofs.ShortestLaws.{shortest-spells, shortest-below}
 use Rattle.format.proofs.Copies.{Copies, parts, As, then-copies, is-copies, none-copies, here-copies, given-copies, number-copies, field-copies, run-copies, many-copies}
 
 -- ## Strings
-content-copies : (limit size : ℕ) → Copies (Content limit size) (Content limit size) (λ t t′ c. As optionBytes keptOption t t′ (shortest size ++ c))
+content-copies : (limit size : ℕ) → Copies (Content limit size) (Content limit size) (λ t t′ c. As optionBytes (Option·map keptString) t t′ (shortest size ++ c))
 content-copies limit zero = is-copies (append-nil _, refl)
 content-copies limit (suc n) = given-copies (λ le. le) (here-copies λ p p′. run-copies λ c size. is-copies (rw (append-nil, size), refl))
 
-pub string-copies : (limit : ℕ) → Copies (String limit) (String limit) (As optionBytes keptOption)
+pub string-copies : (limit : ℕ) → Copies (String limit) (String limit) (As optionBytes (Option·map keptString))
 string-copies limit = number-copies λ size. content-copies limit size
 
 -- a nested function's source: written as absent, whatever it was
@@ -53,7 +53,7 @@ always-put limit to instead c k =
     (skip _ (refl, refl) (refl, refl))
 
 content-spellable : (limit size at : ℕ) (b : Bytes) (t : Option LuaString) (u : LuaString) → size < 2 ^ 64 - 128 → Below 256 b → Content limit size at b t → Spellable limit (u .bytes)
-    → Spellable limit (orElse t u .bytes)
+    → Spellable limit (Option·getD t u .bytes)
 content-spellable limit zero at b t u fits h d k = rw (← d .1) k
 content-spellable limit (suc n) at b t u fits h d k =
     let e = d .two .two in

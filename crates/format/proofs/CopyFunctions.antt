@@ -4,7 +4,7 @@
 -- Assumes nothing.
 use mathlib.Core.Path.{_≡_, refl, sym, _∙_, ap, ap₂}
 use mathlib.Core.List.{List, [], _∷_, _++_, append-nil, foldr}
-use mathlib.Core.Option.{Option, none, some}
+use mathlib.Core.Option.{Option, none, some, Option·map}
 use Prim.Native.Nat.{ℕ, zero, suc, _≤_}
 use lib.ListN.{length}
 use lib.Seq.{take-at, drop-at}
@@ -13,7 +13,7 @@ use Rattle.format.specs.Form.{Bytes, Form}
 use Rattle.format.specs.GrammarFields.{LuaString, String}
 use Rattle.format.specs.Reading.{Prototype}
 use Rattle.format.specs.GrammarChunk.{inherit, Where, Body, Function, outermost}
-use Rattle.format.specs.Copy.{fieldBytes, optionBytes, behindSource, nest, functionsBytes, keptOption, keptFunction, keptFunctions}
+use Rattle.format.specs.Copy.{fieldBytes, optionBytes, behindSource, nest, functionsBytes, keptFunction, keptFunctions, keptString}
 use Rattle.format.proofs.Copies.{Copies, As, then-copies, is-copies, none-copies, here-copies, given-copies, number-copies, field-copies, run-copies, many-copies, weaken}
 use Rattle.format.proofs.CopyEntries.{string-copies, absent-copies, constant-copies, upvalue-copies, anchor-copies, local-copies, field-again, as-list, counted-copies, upTo-copies, unmap}
 use Rattle.format.proofs.CopyForest.{Once, Each, Around, around-within, forest-copies}
@@ -122,11 +122,11 @@ pub record Whole (ps ps′ : List Prototype) (b : Bytes) : Type 0 where
   pub alike : keptFunctions ps′ ≡ keptFunctions ps
   pub joined : b ≡ functionsBytes ps
 
-whole : (ps ps′ : List Prototype) (b : Bytes) → Behind (As optionBytes keptOption) outermost outermost ps ps′ b → Whole ps ps′ b
+whole : (ps ps′ : List Prototype) (b : Bytes) → Behind (As optionBytes (Option·map keptString)) outermost outermost ps ps′ b → Whole ps ps′ b
 whole ps ps′ b s =
     let source : s .p .source-name ≡ s .spelt = s .source ∙ inherit-none (s .spelt) in
     let source′ : s .p′ .source-name ≡ s .spelt′ = s .source′ ∙ inherit-none (s .spelt′) in
-    let kept : keptOption (s .p′ .source-name) ≡ keptOption (s .p .source-name) = ap keptOption source′ ∙ s .related .1 ∙ ap keptOption (sym source) in
+    let kept : Option·map keptString (s .p′ .source-name) ≡ Option·map keptString (s .p .source-name) = ap (Option·map keptString) source′ ∙ s .related .1 ∙ ap (Option·map keptString) (sym source) in
     record {
       alike = rw (s .new, s .old) (ap₂ _∷_ (ap (λ t. keptFunction t (s .p′)) kept ∙ s .alike _) (s .each .alike));
       joined = rw (s .old, s .joined, s .related .0, source, s .each .stack [], append-nil, s .each .joined);

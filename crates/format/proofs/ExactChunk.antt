@@ -1,7 +1,7 @@
 -- The reader of a chunk reads exactly the grammar: one line for each step of a production.
 -- Assumes nothing.
 use mathlib.Core.Path.{_≡_, refl}
-use mathlib.Core.Bool.{Bool, true, false}
+use mathlib.Core.Bool.{Bool, true, false, cond}
 use mathlib.Core.List.{List, [], _∷_, _++_}
 use Prim.Native.Nat.{ℕ, zero, suc, _+_}
 use lib.Dec.{eqb}
@@ -9,7 +9,6 @@ use lib.ListN.{length}
 use Rattle.format.specs.declared.limits.ResourceLimits.{ResourceLimits}
 use Rattle.format.specs.declared.refusal.Refusal.{Refusal}
 use Rattle.format.specs.declared.refusal.Refusal.the-variants.{ConstantTag, Instructions, TotalInstructions, Constants, Upvalues, Prototypes, TotalPrototypes}
-use Rattle.format.specs.Pick.{pick}
 use Rattle.format.specs.Form.{Bytes, Form, Nothing, When}
 use Rattle.format.specs.Reading.{Prototype}
 use Rattle.format.specs.GrammarChunk.{Counted, CountedUpTo, Always, Tagged, Constant, Upvalue, Anchor, Local, inherit, Where, after, within, Forest, Body, Function, Main}
@@ -36,7 +35,7 @@ exact-countedUpTo limit refusal one =
 pub exact-always : (limit : ℕ) (instead : Bytes) → Exact (always limit instead) (Always limit instead)
 exact-always limit instead = exact-then (exact-string limit) λ t. exact-then exact-here λ place. exact-give _
 
-exact-pick : {A : Type 0} {r s : Reader A} {F G : Form A} (b : Bool) → Exact r F → Exact s G → Exact (pick b r s) (When b F G)
+exact-pick : {A : Type 0} {r s : Reader A} {F G : Form A} (b : Bool) → Exact r F → Exact s G → Exact (cond b r s) (When b F G)
 exact-pick true one two = one
 exact-pick false one two = two
 

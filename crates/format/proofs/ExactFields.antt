@@ -1,7 +1,7 @@
 -- The readers of fields, numbers and strings read exactly their forms.
 -- Assumes nothing.
 use mathlib.Core.Path.{_≡_, refl, sym, _∙_, ap}
-use mathlib.Core.Bool.{Bool, true, false, not}
+use mathlib.Core.Bool.{Bool, true, false, not, cond}
 use mathlib.Core.List.{List, [], _∷_, _++_}
 use mathlib.Core.Option.{Option, none, some}
 use Prim.Native.Nat.{ℕ, zero, suc, _+_, _-_, _*_, _%_, _^_, _≤_, _<_}
@@ -10,7 +10,6 @@ use lib.Dec.{T, ltb, ltb→lt, nltb→le}
 use borrow.Author.Tests.{lt-ltb, le-ltb}
 use lib.ListN.{length, length-append}
 use Rattle.format.specs.declared.refusal.Refusal.the-variants.{VarintOverflow, StringBytes}
-use Rattle.format.specs.Pick.{pick}
 use Rattle.format.specs.Form.{Bytes, Below, Form}
 use Rattle.format.specs.GrammarFields.{Field, base128, Varint, Number, Content, String}
 use Rattle.format.specs.Read.{Read, ok, refused}
@@ -42,7 +41,7 @@ record Groups (high : ℕ) (at : ℕ) (bytes : Bytes) (v : ℕ) : Type 0 where
 -- one group, by what its two tests say
 module _ (high at x v to : ℕ) (s rest : Bytes) (more : Read ℕ) (later : more ≡ ok v to rest → Split (Groups (high * 128 + x)) (at + 1) s v to rest) where
   group-sound : (fits small : Bool) → (T fits → high < 2 ^ 57 - 1) → (T small → x < 128) → (T (not small) → 128 ≤ x)
-      → pick fits (pick small more (ok (high * 128 + x % 128) (at + 1) s)) (refused VarintOverflow) ≡ ok v to rest → Split (Groups high) at (x ∷ s) v to rest
+      → cond fits (cond small more (ok (high * 128 + x % 128) (at + 1) s)) (refused VarintOverflow) ≡ ok v to rest → Split (Groups high) at (x ∷ s) v to rest
   group-sound true true f y n e =
       let a = later e in
       let g = a .spelt in

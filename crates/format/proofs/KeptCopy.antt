@@ -3,13 +3,13 @@
 -- Assumes nothing.
 use mathlib.Core.Path.{_≡_, refl, sym, _∙_, ap, ap₂}
 use mathlib.Core.List.{List, [], _∷_, _++_, map, foldr, flatten}
-use mathlib.Core.Option.{Option, none, some}
+use mathlib.Core.Option.{Option, none, some, Option·map}
 use lib.ListN.{take, length-map}
 use Rattle.format.specs.Form.{Bytes}
 use Rattle.format.specs.GrammarFields.{LuaString}
 use Rattle.format.specs.Reading.{ConstantValue, nil, boolean, integer, float, short-string, long-string, Prototype, Reading}
 use Rattle.format.specs.Shortest.{shortest}
-use Rattle.format.specs.Copy.{optionBytes, constantBytes, localBytes, listBytes, behindSource, nest, functionsBytes, upvaluesOfMain, copy, keptOption, keptConstant, keptLocal, keptFunction, keptNested, keptFunctions, kept}
+use Rattle.format.specs.Copy.{optionBytes, constantBytes, localBytes, listBytes, behindSource, nest, functionsBytes, upvaluesOfMain, copy, keptConstant, keptLocal, keptFunction, keptNested, keptFunctions, kept, keptString}
 
 list-kept : {A : Type 0} (enc : A → Bytes) (plainly : A → A) → ((x : A) → enc (plainly x) ≡ enc x) → (xs : List A) → listBytes enc (map plainly xs) ≡ listBytes enc xs
 unfolding listBytes
@@ -19,7 +19,7 @@ list-kept enc plainly h xs = ap₂ _++_ (ap shortest (length-map xs plainly)) (a
     maps [] = refl
     maps (x ∷ xs) = ap₂ _∷_ (h x) (maps xs)
 
-option-kept : (t : Option LuaString) → optionBytes (keptOption t) ≡ optionBytes t
+option-kept : (t : Option LuaString) → optionBytes (Option·map keptString t) ≡ optionBytes t
 option-kept none = refl
 option-kept (some t) = refl
 
@@ -34,7 +34,7 @@ constant-kept (long-string t) = refl
 behind-kept : (source : Option LuaString) (p : Prototype) (nested : Bytes) → behindSource (keptFunction source p) nested ≡ behindSource p nested
 unfolding behindSource
 behind-kept source p nested =
-    rw (list-kept constantBytes keptConstant constant-kept (p .constants), list-kept localBytes keptLocal (λ x. refl) (p .loc-vars), list-kept optionBytes keptOption option-kept (p .upvalue-names))
+    rw (list-kept constantBytes keptConstant constant-kept (p .constants), list-kept localBytes keptLocal (λ x. refl) (p .loc-vars), list-kept optionBytes (Option·map keptString) option-kept (p .upvalue-names))
 
 nested-kept : (ps : List Prototype) (later : List Bytes) → foldr nest later (map keptNested ps) ≡ foldr nest later ps
 nested-kept [] later = refl
@@ -42,7 +42,7 @@ nested-kept (p ∷ ps) later = rw (nested-kept ps later, behind-kept none p (fla
 
 functions-kept : (ps : List Prototype) → functionsBytes (keptFunctions ps) ≡ functionsBytes ps
 functions-kept [] = refl
-functions-kept (p ∷ ps) = rw (nested-kept ps [], option-kept (p .source-name), behind-kept (keptOption (p .source-name)) p (flatten (foldr nest [] ps)))
+functions-kept (p ∷ ps) = rw (nested-kept ps [], option-kept (p .source-name), behind-kept (Option·map keptString (p .source-name)) p (flatten (foldr nest [] ps)))
 
 upvalues-kept : (ps : List Prototype) → upvaluesOfMain (keptFunctions ps) ≡ upvaluesOfMain ps
 upvalues-kept [] = refl

@@ -6,7 +6,7 @@
 use mathlib.Core.Path.{_≡_, refl, _∙_, ap, ap₂}
 use mathlib.Core.Bool.{true, false}
 use mathlib.Core.List.{List, [], _∷_, _++_, append-assoc, map, flatten}
-use mathlib.Core.Option.{Option, none, some}
+use mathlib.Core.Option.{Option, none, some, Option·getD}
 use Prim.Native.Nat.{ℕ, zero, suc, _-_, _^_, _<_}
 use native.Mathlib.Omega.{arith}
 use lib.Dec.{eqb, lit<}
@@ -18,7 +18,7 @@ use Rattle.format.specs.LdumpFunctions.{dumpString, dumpEach, dumpConsta
 use Rattle.format.specs.declared.limits.ResourceLimits.{ResourceLimits}
 use Rattle.format.specs.Form.{Bytes, Form}
 use Rattle.format.specs.GrammarFields.{LuaString, Content, String}
-use Rattle.format.specs.GrammarChunk.{orElse, Counted, CountedUpTo, Always, Tagged, Constant, Anchor, Local, Where, after, within, inherit, Forest, Body, Function, Loaded, Chunk}
+use Rattle.format.specs.GrammarChunk.{Counted, CountedUpTo, Always, Tagged, Constant, Anchor, Local, Where, after, within, inherit, Forest, Body, Function, Loaded, Chunk}
 use Rattle.format.proofs.Every.{Every, any, every-then, every-is, every-nothing, every-when, every-number, every-run, every-many, All, all-any, all-append}
 use Rattle.format.proofs.LdumpLaws.{dumped}
 
@@ -130,7 +130,7 @@ content-fits limit (suc n) h =
 string-fits : (limit : ℕ) → Every (String limit) StringFits
 string-fits limit = every-then every-number λ size h. content-fits limit size h
 
-or-fits : (t : Option LuaString) (u : LuaString) → StringFits t → StringFits (some u) → StringFits (some (orElse t u))
+or-fits : (t : Option LuaString) (u : LuaString) → StringFits t → StringFits (some u) → StringFits (some (Option·getD t u))
 or-fits none u h k = k
 or-fits (some t) u h k = h
 

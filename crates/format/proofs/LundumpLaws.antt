@@ -5,7 +5,7 @@
 -- Assumes nothing.
 use mathlib.Core.Path.{_≡_, refl, sym, _∙_, ap}
 use mathlib.Core.Logic.{_↔_}
-use mathlib.Core.Bool.{Bool, true, false}
+use mathlib.Core.Bool.{Bool, true, false, cond}
 use mathlib.Core.List.{List, [], _∷_, _++_}
 use Prim.Native.Nat.{ℕ, zero, suc, _+_, _-_, _*_, _/_, _%_, _^_, _≤_, _<_}
 use native.Mathlib.Omega.{arith}
@@ -13,7 +13,6 @@ use lib.Bits.{bitAnd, bitOr, and-mask, and-high, or-shifted}
 use lib.Dec.{ltb, leb, eqb, lit<}
 use borrow.Author.Tests.{lt-ltb, le-ltb, ltb-true, ltb-false, leb-true, leb-false, lt-leb, eq-eqb, ne-eqb, eqb-true, eqb-false}
 use Rattle.format.specs.declared.refusal.Refusal.the-variants.{VarintOverflow}
-use Rattle.format.specs.Pick.{pick}
 use Rattle.format.specs.Form.{Bytes, Below}
 use Rattle.format.specs.Read.{Read, ok, refused}
 use Rattle.format.specs.ReadFields.{groups, number}
@@ -45,17 +44,17 @@ module _ (high b : ℕ) (byte : b < 256) where
 
 -- one turn of the loop, by whether the byte is the last
 module _ (l high at b v : ℕ) (s rest : Bytes) (small : l ≤ 2 ^ 57 - 1) (byte : b < 256) where
-  loop-is : high < l → loadUnsignedLoop l high (b ∷ s) ≡ pick (ltb b 128) (loadUnsignedLoop l (high * 128 + b) s) (loaded (high * 128 + b % 128) s)
+  loop-is : high < l → loadUnsignedLoop l high (b ∷ s) ≡ cond (ltb b 128) (loadUnsignedLoop l (high * 128 + b) s) (loaded (high * 128 + b % 128) s)
   loop-is h = go (ltb b 128) refl
     where
-      go : (t : Bool) → ltb b 128 ≡ t → loadUnsignedLoop l high (b ∷ s) ≡ pick t (loadUnsignedLoop l (high * 128 + b) s) (loaded (high * 128 + b % 128) s)
+      go : (t : Bool) → ltb b 128 ≡ t → loadUnsignedLoop l high (b ∷ s) ≡ cond t (loadUnsignedLoop l (high * 128 + b) s) (loaded (high * 128 + b % 128) s)
       go true e =
           let under = ltb-true b 128 e in
           let same : b % 128 ≡ b = omega arith in
           rw (lt-leb l high h, next-is high b byte (omega arith), goes-on high b byte under, same)
       go false e = rw (lt-leb l high h, next-is high b byte (omega arith), ends high b byte (ltb-false b 128 e))
 
-  groups-is : high < l → groups high at (b ∷ s) ≡ pick (ltb b 128) (groups (high * 128 + b) (at + 1) s) (ok (high * 128 + b % 128) (at + 1) s)
+  groups-is : high < l → groups high at (b ∷ s) ≡ cond (ltb b 128) (groups (high * 128 + b) (at + 1) s) (ok (high * 128 + b % 128) (at + 1) s)
   groups-is h = rw (lt-ltb high (2 ^ 57 - 1) (omega arith))
 
 -- what is both ours and below the limit, Lua loads
@@ -66,9 +65,9 @@ c-of-ours (b ∷ s) l high at {v} {to} {rest} small bytes e under =
     rw (loop-is l high at b v s rest small (bytes .0) h)
     (go (ltb b 128) (rw (groups-is l high at b v s rest small (bytes .0) h) at e) (λ f. c-of-ours s l (high * 128 + b) (at + 1) small (bytes .1) f under))
   where
-    go : (t : Bool) → pick t (groups (high * 128 + b) (at + 1) s) (ok (high * 128 + b % 128) (at + 1) s) ≡ ok v to rest
+    go : (t : Bool) → cond t (groups (high * 128 + b) (at + 1) s) (ok (high * 128 + b % 128) (at + 1) s) ≡ ok v to rest
         → (groups (high * 128 + b) (at + 1) s ≡ ok v to rest → loadUnsignedLoop l (high * 128 + b) s ≡ loaded v rest)
-        → pick t (loadUnsignedLoop l (high * 128 + b) s) (loaded (high * 128 + b % 128) s) ≡ loaded v rest
+        → cond t (loadUnsignedLoop l (high * 128 + b) s) (loaded (high * 128 + b % 128) s) ≡ loaded v rest
     go true f later = later f
     go false f later = cc
 
@@ -77,7 +76,7 @@ ours-of-c : (s : Bytes) (l high at : ℕ) {v : ℕ} {rest : Bytes} → l ≤ 2 ^
 ours-of-c [] l high at small bytes e = absurd (let z : _≡_ {A = ℕ} 0 1 = cc in omega arith)
 ours-of-c (b ∷ s) l high at {v} {rest} small bytes e = by-limit (leb l high) refl (ours-of-c s l (high * 128 + b) (at + 1) small (bytes .1))
   where
-    by-byte : high < l → (t : Bool) → ltb b 128 ≡ t → pick t (loadUnsignedLoop l (high * 128 + b) s) (loaded (high * 128 + b % 128) s) ≡ loaded v rest
+    by-byte : high < l → (t : Bool) → ltb b 128 ≡ t → cond t (loadUnsignedLoop l (high * 128 + b) s) (loaded (high * 128 + b % 128) s) ≡ loaded v rest
         → (loadUnsignedLoop l (high * 128 + b) s ≡ loaded v rest → Ours (high * 128 + b) (at + 1) s v rest × (v < l * 128)) → Ours high at (b ∷ s) v rest × (v < l * 128)
     by-byte h true t e later =
         let o = later e in

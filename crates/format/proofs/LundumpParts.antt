@@ -7,7 +7,7 @@
 -- Assumes nothing.
 use mathlib.Core.Path.{_≡_, sym, _∙_}
 use mathlib.Core.List.{[], _∷_, append-nil}
-use mathlib.Core.Option.{Option, none, some}
+use mathlib.Core.Option.{Option, none, some, Option·getD}
 use Prim.Native.Nat.{ℕ, zero, suc, _≤_}
 use lib.Dec.{eqb}
 use lib.ListN.{length}
@@ -15,7 +15,7 @@ use Rattle.format.specs.Form.{Bytes, Form, Then, Is, Here}
 use Rattle.format.specs.GrammarFields.{Number, LuaString, String}
 use Rattle.format.specs.GrammarFields as ours
 use Rattle.format.specs.Reading.{ConstantValue, nil, boolean, integer, float, short-string, long-string, LocalVar}
-use Rattle.format.specs.GrammarChunk.{orElse, Counted, CountedUpTo, Always, Constant, Anchor, Local}
+use Rattle.format.specs.GrammarChunk.{Counted, CountedUpTo, Always, Constant, Anchor, Local}
 use Rattle.format.specs.LundumpFunctions.{LoadSize, LoadInt, Content, LoadStringN, NotNull, LoadString, LoadCounted, LoadConstant, LoadAbsLineInfo, LoadVarName, LoadLocVar}
 use Rattle.format.proofs.ExactFields.{exact-number}
 use Rattle.format.proofs.LundumpLaws.{Ours, size-exactly, int-exactly}
@@ -73,7 +73,7 @@ module _ (limit : ℕ) where
   string-within = untested size-wider content-within
 
   -- a string that is no NULL is shown as it is
-  not-null : (instead : Bytes) (st : Option LuaString) → WiderIf BytesWithin (StringWithin st × Unit {0}) (NotNull st) (Then Here (λ place. Is (orElse st (record { place = place; bytes = instead }))))
+  not-null : (instead : Bytes) (st : Option LuaString) → WiderIf BytesWithin (StringWithin st × Unit {0}) (NotNull st) (Then Here (λ place. Is (Option·getD st (record { place = place; bytes = instead }))))
   not-null instead none = none-if
   not-null instead (some t) = noted λ place. ends λ p. (p, tt)
 
@@ -104,7 +104,7 @@ module _ (limit : ℕ) where
   abbrev pub LocalWithin : LocalVar → Type 0
   LocalWithin l = BytesWithin (l .name)
 
-  or-within : (t : Option LuaString) (u : LuaString) → BytesWithin (orElse t u) → StringWithin t
+  or-within : (t : Option LuaString) (u : LuaString) → BytesWithin (Option·getD t u) → StringWithin t
   or-within none u p = tt
   or-within (some t) u p = p
 

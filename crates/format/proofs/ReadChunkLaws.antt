@@ -5,7 +5,7 @@
 --     chunk-unique     a chunk has one reading
 -- Assumes nothing.
 use mathlib.Core.Path.{_≡_, refl, sym, _∙_, ap}
-use mathlib.Core.Bool.{Bool, true, false}
+use mathlib.Core.Bool.{Bool, true, false, cond}
 use mathlib.Core.List.{List, _++_}
 use Prim.Native.Nat.{ℕ, _+_, _≤_}
 use native.Mathlib.Omega.{arith}
@@ -16,7 +16,6 @@ use lib.ListN.{length}
 use Rattle.format.specs.declared.limits.ResourceLimits.{ResourceLimits}
 use Rattle.format.specs.declared.refusal.Refusal.{Refusal}
 use Rattle.format.specs.declared.refusal.Refusal.the-variants.{InputBytes, LimitAboveCeiling}
-use Rattle.format.specs.Pick.{pick}
 use Rattle.format.specs.Form.{Bytes}
 use Rattle.format.specs.Limits.{withinCeilings}
 use Rattle.format.specs.Reading.{Reading}
@@ -40,7 +39,7 @@ unfolding read
 judged L chunk r e = first (withinCeilings L) (leb (length chunk) (L .«max_input_bytes»)) refl refl e
   where
     first : (a b : Bool) → withinCeilings L ≡ a → leb (length chunk) (L .«max_input_bytes») ≡ b
-        → pick a (pick b (outcome L (main L 0 chunk)) (refusal InputBytes)) (refusal LimitAboveCeiling) ≡ shown r → Judged L chunk r
+        → cond a (cond b (outcome L (main L 0 chunk)) (refusal InputBytes)) (refusal LimitAboveCeiling) ≡ shown r → Judged L chunk r
     first true true p q e = record { ceilings = p; input = leb-true (length chunk) (L .«max_input_bytes») q; rest = e }
     first true false p q e = no-refusal e
     first false b p q e = no-refusal e

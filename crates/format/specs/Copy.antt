@@ -2,7 +2,7 @@
 -- nested sources absent, trailing bytes as they were; and what a copy keeps of a reading. After ldump.c (`specs/LdumpFunctions.antt`).
 use mathlib.Core.Bool.{Bool, true, false}
 use mathlib.Core.List.{List, [], _∷_, _++_, map, foldr, flatten}
-use mathlib.Core.Option.{Option, none, some}
+use mathlib.Core.Option.{Option, none, some, Option·map}
 use Prim.Native.Nat.{ℕ, zero, suc, _/_, _%_}
 use lib.ListN.{length, take, drop}
 use Rattle.format.specs.declared.entry.UpvalueDesc.{UpvalueDesc}
@@ -92,10 +92,6 @@ copy r = headerBytes 0 ++ (fieldBytes 1 (upvaluesOfMain (r .functions)) ++ (func
 abbrev pub keptString : LuaString → LuaString
 keptString t = record { place = 0; bytes = t .bytes }
 
-abbrev pub keptOption : Option LuaString → Option LuaString
-keptOption none = none
-keptOption (some t) = some (keptString t)
-
 abbrev pub keptConstant : ConstantValue → ConstantValue
 keptConstant nil = nil
 keptConstant (boolean b) = boolean b
@@ -130,7 +126,7 @@ keptFunction source p = record {
   line-info = p .line-info;
   abs-line-info = p .abs-line-info;
   loc-vars = map keptLocal (p .loc-vars);
-  upvalue-names = map keptOption (p .upvalue-names);
+  upvalue-names = map (Option·map keptString) (p .upvalue-names);
   places = noPlaces;
 }
 
@@ -139,7 +135,7 @@ keptNested p = keptFunction none p
 
 abbrev pub keptFunctions : List Prototype → List Prototype
 keptFunctions [] = []
-keptFunctions (p ∷ ps) = keptFunction (keptOption (p .source-name)) p ∷ map keptNested ps
+keptFunctions (p ∷ ps) = keptFunction (Option·map keptString (p .source-name)) p ∷ map keptNested ps
 
 unfoldable pub kept : Reading → Reading
 kept r = record { header = headerOf 0; warnings = []; functions = keptFunctions (r .functions); trailing-at = 0; trailing = r .trailing }

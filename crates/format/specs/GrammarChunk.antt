@@ -3,7 +3,7 @@
 use mathlib.Core.Path.{_≡_}
 use mathlib.Core.Bool.{Bool, true, false}
 use mathlib.Core.List.{List, [], _∷_, _++_}
-use mathlib.Core.Option.{Option, none, some}
+use mathlib.Core.Option.{Option, none, some, Option·getD}
 use Prim.Native.Nat.{ℕ, zero, suc, _+_, _≤_}
 use lib.Dec.{eqb}
 use lib.ListN.{length, take}
@@ -40,15 +40,11 @@ CountedUpTo limit F = do
 
 -- ## Entries
 -- a string that is never absent: an absent one reads as `instead`, at the place behind its size
-abbrev pub orElse : Option LuaString → LuaString → LuaString
-orElse none t = t
-orElse (some s) t = s
-
 abbrev pub Always : ℕ → Bytes → Form LuaString
 Always limit instead = do
   t ← String limit
   place ← Here
-  Is (orElse t (record { place = place; bytes = instead }))
+  Is (Option·getD t (record { place = place; bytes = instead }))
 
 -- a constant behind its tag. `loadConstants`; a string of size 0, which that refuses, reads as empty
 abbrev pub Tagged : ℕ → ℕ → Form ConstantValue

@@ -2,6 +2,7 @@
 --     Header               the form: what the header shows, and its warning
 --     headerOf format      the Rust's `Header` of a file with this format byte: all else in it is fixed
 --     formatWarnings       a format other than 0 is a warning, at the format's place
+use mathlib.Core.Bool.{cond}
 use mathlib.Core.List.{List, [], _∷_}
 use Prim.Native.Nat.{ℕ}
 use lib.Dec.{eqb}
@@ -9,7 +10,6 @@ use lib.IntN.{pos}
 use Rattle.format.specs.declared.header.Header as declared
 use Rattle.format.specs.declared.header.Warning.{Warning}
 use Rattle.format.specs.declared.header.Warning.the-variants.{NonStandardFormat}
-use Rattle.format.specs.Pick.{pick}
 use Rattle.format.specs.Form.{Bytes, Form, Then, _>>=_, _>>_, Is, Here, Spelt}
 use Rattle.format.specs.GrammarFields.{Byte}
 
@@ -40,7 +40,7 @@ headerOf format = record {
 }
 
 abbrev pub formatWarnings : ℕ → ℕ → List Warning
-formatWarnings place format = pick (eqb format 0) [] (NonStandardFormat place ∷ [])
+formatWarnings place format = cond (eqb format 0) [] (NonStandardFormat place ∷ [])
 
 pub record Headed : Type 0 where
   pub header : declared.Header

@@ -1,9 +1,9 @@
 -- From ldump.c (Lua 5.4.4), close to the text: how Lua itself writes a number. A size_t has 64 bits.
+use mathlib.Core.Bool.{cond}
 use mathlib.Core.List.{List, [], _∷_}
 use Prim.Native.Nat.{ℕ, zero, suc, _+_, _/_, _^_}
 use lib.Bits.{bitAnd, bitOr}
 use lib.Dec.{eqb}
-use Rattle.format.specs.Pick.{pick}
 use Rattle.format.specs.Form.{Bytes}
 
 -- #define DIBS ((sizeof(size_t) * 8 / 7) + 1)
@@ -17,7 +17,7 @@ dumpSizeLoop zero x buff = buff
 dumpSizeLoop (suc free) x buff =
     let filled = bitAnd x 0x7f ∷ buff in
     let more = dumpSizeLoop free (x / 2 ^ 7) filled in
-    pick (eqb (x / 2 ^ 7) 0) filled more
+    cond (eqb (x / 2 ^ 7) 0) filled more
 
 -- buff[DIBS - 1] |= 0x80
 abbrev pub markLast : Bytes → Bytes

@@ -1,4 +1,3 @@
-pub mod Pick
 pub mod Limits
 pub mod Refusals
 pub mod Warnings

@@ -1,9 +1,9 @@
 -- From lundump.c (Lua 5.4.4), close to the text: how Lua's own loader reads a number. A size_t has 64 bits.
+use mathlib.Core.Bool.{cond}
 use mathlib.Core.List.{List, [], _∷_}
 use Prim.Native.Nat.{ℕ, _*_, _-_, _/_, _%_, _^_}
 use lib.Bits.{bitAnd, bitOr}
 use lib.Dec.{leb, eqb}
-use Rattle.format.specs.Pick.{pick}
 use Rattle.format.specs.Form.{Bytes}
 
 -- what is loaded and the bytes behind it, or one of the two errors
@@ -18,7 +18,7 @@ loadUnsignedLoop limit x [] = truncatedChunk
 loadUnsignedLoop limit x (b ∷ s) =
     let next = bitOr (x * 2 ^ 7 % 2 ^ 64) (bitAnd b 0x7f) in
     let more = loadUnsignedLoop limit next s in
-    pick (leb limit x) integerOverflow (pick (eqb (bitAnd b 0x80) 0) more (loaded next s))
+    cond (leb limit x) integerOverflow (cond (eqb (bitAnd b 0x80) 0) more (loaded next s))
 
 -- size_t x = 0; limit >>= 7; ..
 abbrev pub loadUnsigned : ℕ → Bytes → LoadedNumber

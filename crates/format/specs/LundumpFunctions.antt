@@ -9,7 +9,7 @@
 use mathlib.Core.Path.{_≡_}
 use mathlib.Core.Bool.{Bool, true, false}
 use mathlib.Core.List.{List, [], _∷_, _++_}
-use mathlib.Core.Option.{Option, none, some}
+use mathlib.Core.Option.{Option, none, some, Option·getD}
 use Prim.Native.Nat.{ℕ, zero, suc, _+_}
 use lib.Dec.{eqb}
 use lib.ListN.{length}
@@ -19,7 +19,7 @@ use Rattle.format.specs.Form.{Bytes, Below, Form, Then, _>>=_, _>>_, Is,
 use Rattle.format.specs.GrammarFields.{Field, LuaString}
 use Rattle.format.specs.GrammarHeader.{Headed, signature, luacData, luacInt, luacNum, headerOf}
 use Rattle.format.specs.Reading.{ConstantValue, nil, boolean, integer, float, short-string, long-string, LocalVar, Places, Prototype}
-use Rattle.format.specs.GrammarChunk.{Listed, orElse, inherit, Where, after, within, Loaded, outermost}
+use Rattle.format.specs.GrammarChunk.{Listed, inherit, Where, after, within, Loaded, outermost}
 use Rattle.format.specs.Lundump.{loaded, loadSize, loadInt}
 
 -- the bytes that `loadSize` and `loadInt` take to the last. Ours is a number for both: an int is below 2^31 - 128 here
@@ -127,7 +127,7 @@ abbrev pub LoadVarName : Form LuaString
 LoadVarName = do
   varname ← LoadStringN
   place ← Here
-  Is (orElse varname (record { place = place; bytes = 63 ∷ [] }))
+  Is (Option·getD varname (record { place = place; bytes = 63 ∷ [] }))
 
 -- and .startpc = loadInt(S), .endpc
 abbrev pub LoadLocVar : Form LocalVar

@@ -1,13 +1,12 @@
 -- What a reader is made of. A reader takes a place and the bytes from there on, and gives a value, the place behind it and the bytes from there on; or it refuses.
 -- `do` is the Rust's `?`: the first refusal ends the reading.
-use mathlib.Core.Bool.{Bool, true, false}
+use mathlib.Core.Bool.{Bool, true, false, cond}
 use mathlib.Core.List.{List, [], _∷_, _++_}
 use Prim.Native.Nat.{ℕ, zero, suc, _+_, _^_}
 use lib.Dec.{leb, ltb}
 use lib.ListN.{length, take, drop}
 use Rattle.format.specs.declared.refusal.Refusal.{Refusal}
 use Rattle.format.specs.declared.refusal.Refusal.the-variants.{Truncated, Overflow}
-use Rattle.format.specs.Pick.{pick}
 use Rattle.format.specs.Form.{Bytes}
 
 infixl 10 _>>=_ _>>_
@@ -48,7 +47,7 @@ atMost n m q = test (leb n m) q
 -- the refusal where n bytes are wanted at a place and there are fewer: 2 where place plus n is 2^64 or more, else 1.
 -- (`read_exact` tests for 2 first. That is the same: where n bytes are there, place plus n is at most the file's length, and that is below 2^64.)
 abbrev pub short : ℕ → ℕ → Refusal
-short n at = pick (ltb (at + n) (2 ^ 64)) (Truncated at) Overflow
+short n at = cond (ltb (at + n) (2 ^ 64)) (Truncated at) Overflow
 
 -- n bytes, if there are as many
 abbrev pub piece : Bool → ℕ → Reader Bytes

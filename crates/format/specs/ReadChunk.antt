@@ -1,7 +1,7 @@
 -- chunk.rs, decoding, as a function from limits and bytes to a reading or a refusal: the Rust's order, with every refusal and place.
-use mathlib.Core.Bool.{Bool, true, false}
+use mathlib.Core.Bool.{Bool, true, false, cond}
 use mathlib.Core.List.{List, [], _∷_, _++_}
-use mathlib.Core.Option.{Option, none, some}
+use mathlib.Core.Option.{Option, none, some, Option·getD}
 use Prim.Native.Nat.{ℕ, zero, suc, _+_}
 use lib.Dec.{eqb, leb}
 use lib.ListN.{length}
@@ -21,12 +21,11 @@ use Rattle.format.specs.declared.refusal.Refusal.the-variants.{
 }
 use Rattle.format.specs.declared.entry.UpvalueDesc.{UpvalueDesc}
 use Rattle.format.specs.declared.entry.AbsLineInfo.{AbsLineInfo}
-use Rattle.format.specs.Pick.{pick}
 use Rattle.format.specs.Form.{Bytes}
 use Rattle.format.specs.GrammarFields.{LuaString}
 use Rattle.format.specs.Limits.{withinCeilings}
 use Rattle.format.specs.Reading.{ConstantValue, nil, boolean, integer, float, short-string, long-string, LocalVar, Places, Prototype, Reading}
-use Rattle.format.specs.GrammarChunk.{Listed, orElse, inherit, Where, after, within, outermost, Loaded, reading}
+use Rattle.format.specs.GrammarChunk.{Listed, inherit, Where, after, within, outermost, Loaded, reading}
 use Rattle.format.specs.Read.{Read, ok, refused, Reader, next, _>>=_, _>>_, give, here, refuse, atMost, run, many}
 use Rattle.format.specs.ReadFields.{field, byte, number, string}
 use Rattle.format.specs.ReadHeader.{header}
@@ -54,24 +53,24 @@ abbrev pub always : ℕ → Bytes → Reader LuaString
 always limit instead = do
   t ← string limit
   place ← here
-  give (orElse t (record { place = place; bytes = instead }))
+  give (Option·getD t (record { place = place; bytes = instead }))
 
 -- behind a tag that stands at `place`
 abbrev pub tagged : ℕ → ℕ → ℕ → Reader ConstantValue
 tagged limit place tag =
-    pick (eqb tag 0) (give nil)
-    (pick (eqb tag 1) (give (boolean false))
-    (pick (eqb tag 17) (give (boolean true))
-    (pick (eqb tag 3) (do
+    cond (eqb tag 0) (give nil)
+    (cond (eqb tag 1) (give (boolean false))
+    (cond (eqb tag 17) (give (boolean true))
+    (cond (eqb tag 3) (do
       n ← field 8
       give (integer n))
-    (pick (eqb tag 19) (do
+    (cond (eqb tag 19) (do
       n ← field 8
       give (float n))
-    (pick (eqb tag 4) (do
+    (cond (eqb tag 4) (do
       t ← always limit []
       give (short-string t))
-    (pick (eqb tag 20) (do
+    (cond (eqb tag 20) (do
       t ← always limit []
       give (long-string t))
     (refuse (ConstantTag place))))))))
@@ -198,4 +197,4 @@ outcome L (refused q) = refusal q
 
 -- 21 and 22 first
 unfoldable pub read : ResourceLimits → Bytes → Outcome
-read L chunk = pick (withinCeilings L) (pick (leb (length chunk) (L .«max_input_bytes»)) (outcome L (main L 0 chunk)) (refusal InputBytes)) (refusal LimitAboveCeiling)
+read L chunk = cond (withinCeilings L) (cond (leb (length chunk) (L .«max_input_bytes»)) (outcome L (main L 0 chunk)) (refusal InputBytes)) (refusal LimitAboveCeiling)

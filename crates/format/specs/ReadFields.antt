@@ -1,10 +1,10 @@
 -- reader.rs as functions: fields of n bytes, `read_varint_lua54`, `read_string_lua54`, with their refusals and places.
+use mathlib.Core.Bool.{cond}
 use mathlib.Core.List.{List, [], _∷_}
 use mathlib.Core.Option.{Option, none, some}
 use Prim.Native.Nat.{ℕ, zero, suc, _+_, _*_, _-_, _%_, _^_}
 use lib.Dec.{ltb}
 use Rattle.format.specs.declared.refusal.Refusal.the-variants.{VarintOverflow, StringBytes}
-use Rattle.format.specs.Pick.{pick}
 use Rattle.format.specs.Form.{Bytes}
 use Rattle.format.specs.GrammarFields.{little, LuaString}
 use Rattle.format.specs.Read.{Read, ok, refused, Reader, next, _>>=_, _>>_, give, here, atMost, short, run}
@@ -22,7 +22,7 @@ abbrev pub groups : ℕ → Reader ℕ
 groups high at [] = refused (short 1 at)
 groups high at (x ∷ s) =
     let more = groups (high * 128 + x) (at + 1) s in
-    pick (ltb high (2 ^ 57 - 1)) (pick (ltb x 128) more (ok (high * 128 + x % 128) (at + 1) s)) (refused VarintOverflow)
+    cond (ltb high (2 ^ 57 - 1)) (cond (ltb x 128) more (ok (high * 128 + x % 128) (at + 1) s)) (refused VarintOverflow)
 
 abbrev pub number : Reader ℕ
 number at s = groups 0 at s

@@ -5,7 +5,7 @@
 --     index-written        the second pass has written the index
 -- Assumes nothing.
 use mathlib.Core.Path.{_≡_, refl, sym, _∙_, ap}
-use mathlib.Core.Bool.{Bool, true, false}
+use mathlib.Core.Bool.{Bool, true, false, cond}
 use mathlib.Core.List.{List, [], _∷_, _++_}
 use Prim.Native.Nat.{ℕ, _+_, _*_, _/_, _≤_, _<_}
 use native.Mathlib.Nat.{zero-add}
@@ -13,7 +13,6 @@ use native.Mathlib.Omega.{arith}
 use borrow.Author.Tests.{le-leb, lt-leb}
 use lib.Dec.{leb}
 use lib.ListN.{length, drop, length-append}
-use Rattle.format.specs.Pick.{pick}
 use Rattle.format.specs.declared.limits.ResourceLimits.{ResourceLimits}
 use Rattle.format.specs.declared.refusal.Refusal.{Refusal}
 use Rattle.format.specs.declared.refusal.Refusal.the-variants.{LentSpace}
@@ -73,10 +72,10 @@ module _ (old : List ℕ) (o : Outcome) (d : Decoded) (e : decoded.Ok d ≡ deco
   count = ap (λ k. k .summary .functions) (was-shown o d e .shows)
 
   by-test : (b : Bool) → leb (length (index functions)) (length old) ≡ b
-      → (shownIndex (length old) o ≡ pick b (answer.Ok (length functions)) (answer.Err LentSpace)) × (indexWritten old o ≡ pick b (index functions ++ drop (length (index functions)) old) old)
+      → (shownIndex (length old) o ≡ cond b (answer.Ok (length functions)) (answer.Err LentSpace)) × (indexWritten old o ≡ cond b (index functions ++ drop (length (index functions)) old) old)
   by-test b t = (
-    ap (shownIndex (length old)) (was-shown o d e .is) ∙ ap (λ b. pick b (answer.Ok (length functions)) (answer.Err LentSpace)) t,
-    ap (indexWritten old) (was-shown o d e .is) ∙ ap (λ b. pick b (index functions ++ drop (length (index functions)) old) old) t,
+    ap (shownIndex (length old)) (was-shown o d e .is) ∙ ap (λ b. cond b (answer.Ok (length functions)) (answer.Err LentSpace)) t,
+    ap (indexWritten old) (was-shown o d e .is) ∙ ap (λ b. cond b (index functions ++ drop (length (index functions)) old) old) t,
   )
 
   pub no-room : length old / 12 < d .summary .functions → (answer.Err LentSpace ≡ shownIndex (length old) o) × (old ≡ indexWritten old o)

@@ -3,12 +3,12 @@
 --     index ps             those of all functions, one after the other
 --     shownIndex n o       the answer, where o was read and n numbers have room
 --     indexWritten old o   what then stands in the lent space that held `old`
+use mathlib.Core.Bool.{cond}
 use mathlib.Core.List.{List, [], _∷_, _++_}
 use Prim.Native.Nat.{ℕ}
 use lib.Dec.{leb}
 use lib.ListN.{length, drop}
 use Rattle.format.specs.declared.refusal.Refusal.the-variants.{LentSpace}
-use Rattle.format.specs.Pick.{pick}
 use Rattle.format.specs.Reading.{Prototype}
 use Rattle.format.specs.ReadChunk.{Outcome, shown, refusal}
 use Rattle.index.specs.declared.IndexAnswer.{IndexAnswer}
@@ -37,10 +37,10 @@ index (p ∷ ps) = indexRow p ++ index ps
 
 -- the number of functions; 26 where the space is shorter than the index, after every other refusal
 abbrev pub shownIndex : ℕ → Outcome → IndexAnswer
-shownIndex space (shown r) = pick (leb (length (index (r .functions))) space) (answer.Ok (length (r .functions))) (answer.Err LentSpace)
+shownIndex space (shown r) = cond (leb (length (index (r .functions))) space) (answer.Ok (length (r .functions))) (answer.Err LentSpace)
 shownIndex space (refusal q) = answer.Err q
 
 -- the index, and behind it what stood there; on any refusal all that stood there
 abbrev pub indexWritten : List ℕ → Outcome → List ℕ
-indexWritten old (shown r) = pick (leb (length (index (r .functions))) (length old)) (index (r .functions) ++ drop (length (index (r .functions))) old) old
+indexWritten old (shown r) = cond (leb (length (index (r .functions))) (length old)) (index (r .functions) ++ drop (length (index (r .functions))) old) old
 indexWritten old (refusal q) = old

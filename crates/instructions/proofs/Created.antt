@@ -3,7 +3,7 @@
 --     words        each word that is encoded is that of its opcode's mode
 -- Assumes nothing.
 use mathlib.Core.Path.{_≡_, refl, sym, ap, ap₂, _∙_}
-use mathlib.Core.Bool.{Bool, true, false}
+use mathlib.Core.Bool.{Bool, true, false, cond}
 use Prim.Native.Nat.{ℕ, _+_, _*_, _<_, _^_}
 use native.Mathlib.Nat.{mod-eq-of-lt}
 use native.Mathlib.Omega.{arith}
@@ -12,7 +12,6 @@ use lib.Dec.{ltb}
 use lib.IntN.{ℤ, pos, negsuc, _+ℤ_}
 use borrow.Author.Tests.{ltb-true}
 use Rattle.format.specs.declared.refusal.Refusal.the-variants.{FieldRange}
-use Rattle.format.specs.Pick.{pick}
 use Rattle.opcodes.specs.declared.opcode.Opcode54.{Opcode54}
 use Rattle.opcodes.specs.declared.opcode.OptionOpcode54.the-variants.{Some}
 use Rattle.opcodes.specs.declared.opcode.OpMode54.{OpMode54}
@@ -70,7 +69,7 @@ module _ (o : ℕ) (ho : o < 2 ^ SIZE-OP) where
         ∙ omega arith
 
 -- an answer that is a word
-picked : (t : Bool) (s : ℕ) {w : ℕ} → pick t (Word s) (Refused FieldRange) ≡ Word w → (t ≡ true) × (s ≡ w)
+picked : (t : Bool) (s : ℕ) {w : ℕ} → cond t (Word s) (Refused FieldRange) ≡ Word w → (t ≡ true) × (s ≡ w)
 picked true s e = (refl, cc)
 picked false s e = let z : _≡_ {A = ℕ} 0 1 = cc in absurd (omega arith)
 
@@ -79,9 +78,9 @@ unpicked : (z : ℤ) (limit : ℕ) (f : ℕ → Encoded) {w : ℕ} → withUnbia
 unpicked (pos n) limit f {w} e = go (ltb n limit) refl
   where
     go : (t : Bool) → ltb n limit ≡ t → (m : ℕ) × (pos n ≡ pos m) × (f m ≡ Word w)
-    go true s = (n, refl, sym (ap (λ x. withUnbiased (pick x (In n) Out) f) s) ∙ e)
+    go true s = (n, refl, sym (ap (λ x. withUnbiased (cond x (In n) Out) f) s) ∙ e)
     go false s =
-        let none : Refused FieldRange ≡ Word w = sym (ap (λ x. withUnbiased (pick x (In n) Out) f) s) ∙ e in
+        let none : Refused FieldRange ≡ Word w = sym (ap (λ x. withUnbiased (cond x (In n) Out) f) s) ∙ e in
         let z : _≡_ {A = ℕ} 0 1 = cc in
         absurd (omega arith)
 unpicked (negsuc n) limit f e = let z : _≡_ {A = ℕ} 0 1 = cc in absurd (omega arith)

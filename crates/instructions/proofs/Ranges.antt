@@ -3,7 +3,7 @@
 --     ranges       where there is an opcode, they say whether the answer is a word
 -- Assumes nothing.
 use mathlib.Core.Path.{_≡_, refl, sym, ap, _∙_}
-use mathlib.Core.Bool.{Bool, true, false, _&&_}
+use mathlib.Core.Bool.{Bool, true, false, _&&_, cond}
 use Prim.Native.Nat.{ℕ, suc, _+_, _-_, _≤_, _^_}
 use native.Mathlib.Omega.{arith}
 use lib.Dec.{ltb, leb}
@@ -11,7 +11,6 @@ use lib.IntN.{ℤ, pos, negsuc, subℕ, _+ℤ_}
 use lib.Signed.{leZ}
 use borrow.Author.Tests.{lt-ltb, le-ltb, leb-true, leb-false}
 use Rattle.format.specs.declared.refusal.Refusal.the-variants.{FieldRange}
-use Rattle.format.specs.Pick.{pick}
 use Rattle.opcodes.specs.declared.opcode.Opcode54.{Opcode54}
 use Rattle.opcodes.specs.declared.opcode.OptionOpcode54.the-variants.{Some}
 use Rattle.opcodes.specs.declared.opcode.OpMode54.{OpMode54}
@@ -41,7 +40,7 @@ abbrev isIn : Unbiased → Bool
 isIn (In n) = true
 isIn Out = false
 
-of-pick : (t : Bool) (n : ℕ) → isIn (pick t (In n) Out) ≡ t
+of-pick : (t : Bool) (n : ℕ) → isIn (cond t (In n) Out) ≡ t
 of-pick true n = refl
 of-pick false n = refl
 
@@ -65,12 +64,12 @@ signed k (negsuc n) = go (leb n k) refl
 handed : (z : ℤ) (limit : ℕ) (f : ℕ → Encoded) → ((n : ℕ) → isWord (f n) ≡ ltb n limit) → isWord (withUnbiased (unbiased z limit) f) ≡ isIn (unbiased z limit)
 handed (pos n) limit f h = go (ltb n limit) refl
   where
-    go : (t : Bool) → ltb n limit ≡ t → isWord (withUnbiased (pick (ltb n limit) (In n) Out) f) ≡ isIn (pick (ltb n limit) (In n) Out)
+    go : (t : Bool) → ltb n limit ≡ t → isWord (withUnbiased (cond (ltb n limit) (In n) Out) f) ≡ isIn (cond (ltb n limit) (In n) Out)
     go true e = rw e (h n ∙ e)
     go false e = rw e
 handed (negsuc n) limit f h = refl
 
-of-word : (t : Bool) (s : ℕ) → isWord (pick t (Word s) (Refused FieldRange)) ≡ t
+of-word : (t : Bool) (s : ℕ) → isWord (cond t (Word s) (Refused FieldRange)) ≡ t
 of-word true s = refl
 of-word false s = refl
 

@@ -2,7 +2,7 @@
 --     same-word        a word encodes back to itself exactly when its low 7 bits are at most 82
 -- Assumes nothing.
 use mathlib.Core.Path.{_≡_, refl, sym, ap, _∙_}
-use mathlib.Core.Bool.{Bool, true, false}
+use mathlib.Core.Bool.{Bool, true, false, cond}
 use mathlib.Core.Logic.{_↔_}
 use Prim.Native.Nat.{ℕ, _+_, _/_, _%_, _<_, _≤_, _^_}
 use native.Mathlib.Nat.{mod-lt, mod-eq-of-lt, div-one}
@@ -21,7 +21,6 @@ use Rattle.instructions.specs.declared.instruction.Encoded.{Encoded}
 use Rattle.instructions.specs.declared.instruction.Encoded.the-variants.{Word, Refused}
 use Rattle.instructions.specs.declared.instruction.Unbiased.the-variants.{In, Out}
 use Rattle.format.specs.declared.refusal.Refusal.the-variants.{NoOpcode}
-use Rattle.format.specs.Pick.{pick}
 use Rattle.opcodes.specs.Lopcodes.{POS-OP, POS-A, POS-k, POS-B, POS-C, POS-Bx, POS-Ax, POS-sJ}
 use Rattle.opcodes.specs.Lopcodes.{SIZE-OP, SIZE-A, SIZE-B, SIZE-C, SIZE-Bx, SIZE-Ax, SIZE-sJ}
 use Rattle.opcodes.specs.Lopcodes.{OFFSET-sBx, OFFSET-sJ}
@@ -66,7 +65,7 @@ module _ (w : ℕ) (fits : w < 2 ^ 32) where
         → withUnbiased (unbiased (pos (bits p n w) -ℤ pos offset +ℤ pos offset) (2 ^ n)) f ≡ f (bits p n w)
     signed p n offset f =
         ap (λ z. withUnbiased (unbiased z (2 ^ n)) f) (-ℤ-+ℤ-cancel (pos (bits p n w)) (pos offset))
-        ∙ ap (λ t. withUnbiased (pick t (In (bits p n w)) Out) f) (small p n w)
+        ∙ ap (λ t. withUnbiased (cond t (In (bits p n w)) Out) f) (small p n w)
 
     back : (m : OpMode54) → byMode m o (decoded w) ≡ Word w
     unfolding decoded
@@ -85,7 +84,7 @@ module _ (w : ℕ) (fits : w < 2 ^ 32) where
   named h =
       let under : num < 83 = omega arith in
       let o = getD opcodes num Move in
-      sym (chosen (decoded w) (ap (λ t. pick t (Some o) None) (lt-ltb num 83 under)) refl refl refl)
+      sym (chosen (decoded w) (ap (λ t. cond t (Some o) None) (lt-ltb num 83 under)) refl refl refl)
       ∙ back o (number-at num under) (modeOf o)
 
   unnamed : encoded (decoded w) ≡ Word w → num ≤ 82
@@ -96,7 +95,7 @@ module _ (w : ℕ) (fits : w < 2 ^ 32) where
       go true s = omega (arith, ltb-true num 83 s)
       go false s =
           let refused : Refused NoOpcode ≡ Word w
-          = sym (ap (λ t. byOpcode (pick t (Some (getD opcodes num Move)) None) (decoded w)) s) ∙ e in
+          = sym (ap (λ t. byOpcode (cond t (Some (getD opcodes num Move)) None) (decoded w)) s) ∙ e in
           let z : _≡_ {A = ℕ} 0 1 = cc in
           absurd (omega arith)
 

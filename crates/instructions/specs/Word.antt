@@ -4,11 +4,11 @@
 --     unbiased z limit     z, a signed field with its offset added, where it is a natural below the limit
 --     encodedIABC, encodedIABx, encodedIAsBx, encodedIAx, encodedIsJ       the word of each mode, or refusal 27 where a field is out of range
 --     encoded r        the word of r's opcode and of the fields that its mode uses, or refusal 28 where r has no opcode
+use mathlib.Core.Bool.{cond}
 use Prim.Native.Nat.{ℕ, _+_, _*_, _/_, _%_, _^_}
 use lib.Dec.{ltb}
 use lib.IntN.{ℤ, pos, negsuc, _+ℤ_, _-ℤ_}
 use Rattle.format.specs.declared.refusal.Refusal.the-variants.{FieldRange, NoOpcode}
-use Rattle.format.specs.Pick.{pick}
 use Rattle.opcodes.specs.declared.opcode.Opcode54.{Opcode54}
 use Rattle.opcodes.specs.declared.opcode.OptionOpcode54.{OptionOpcode54}
 use Rattle.opcodes.specs.declared.opcode.OptionOpcode54.the-variants.{Some, None}
@@ -46,7 +46,7 @@ decoded w = record {
 }
 
 abbrev pub unbiased : ℤ → ℕ → Unbiased
-unbiased (pos m) limit = pick (ltb m limit) (In m) Out
+unbiased (pos m) limit = cond (ltb m limit) (In m) Out
 unbiased (negsuc m) limit = Out
 
 -- what a signed field stands for, handed on, if it is in range
@@ -56,16 +56,16 @@ withUnbiased Out f = Refused FieldRange
 
 abbrev pub encodedIABC : Opcode54 → ℕ → ℕ → ℕ → ℕ → Encoded
 encodedIABC o a b c k =
-    pick (ltb k 2) (Word (numberOf o + at POS-A a + at POS-k k + at POS-B b + at POS-C c)) (Refused FieldRange)
+    cond (ltb k 2) (Word (numberOf o + at POS-A a + at POS-k k + at POS-B b + at POS-C c)) (Refused FieldRange)
 
 abbrev pub encodedIABx : Opcode54 → ℕ → ℕ → Encoded
-encodedIABx o a bx = pick (ltb bx (2 ^ SIZE-Bx)) (Word (numberOf o + at POS-A a + at POS-Bx bx)) (Refused FieldRange)
+encodedIABx o a bx = cond (ltb bx (2 ^ SIZE-Bx)) (Word (numberOf o + at POS-A a + at POS-Bx bx)) (Refused FieldRange)
 
 abbrev pub encodedIAsBx : Opcode54 → ℕ → ℤ → Encoded
 encodedIAsBx o a sbx = withUnbiased (unbiased (sbx +ℤ pos OFFSET-sBx) (2 ^ SIZE-Bx)) (encodedIABx o a)
 
 abbrev pub encodedIAx : Opcode54 → ℕ → Encoded
-encodedIAx o ax = pick (ltb ax (2 ^ SIZE-Ax)) (Word (numberOf o + at POS-Ax ax)) (Refused FieldRange)
+encodedIAx o ax = cond (ltb ax (2 ^ SIZE-Ax)) (Word (numberOf o + at POS-Ax ax)) (Refused FieldRange)
 
 abbrev pub encodedIsJ : Opcode54 → ℤ → Encoded
 encodedIsJ o sj = withUnbiased (unbiased (sj +ℤ pos OFFSET-sJ) (2 ^ SIZE-sJ)) (encodedIAx o)

@@ -3,13 +3,12 @@
 --     line-shown       the line of its row is its line
 -- Assumes nothing.
 use mathlib.Core.Path.{_≡_, refl, sym, _∙_, ap}
-use mathlib.Core.Bool.{Bool, true, false}
+use mathlib.Core.Bool.{Bool, true, false, cond}
 use Prim.Native.Nat.{ℕ, _≤_}
 use native.Mathlib.Omega.{arith}
 use borrow.Author.Tests.{leb-true}
 use lib.Dec.{leb}
 use lib.ListN.{length, drop}
-use Rattle.format.specs.Pick.{pick}
 use Rattle.format.specs.declared.limits.ResourceLimits.{ResourceLimits}
 use Rattle.format.specs.declared.refusal.Refusal.{Refusal}
 use Rattle.format.specs.declared.refusal.Refusal.the-variants.{LimitAboveCeiling, InputBytes}
@@ -37,7 +36,7 @@ module _ (L : ResourceLimits) (s : Bytes) (f : ℕ) (x : FunctionRow) where
   input-low e = by (withinCeilings L) refl (leb (length s) (L .«max_input_bytes»)) refl e
     where
       by : (t : Bool) → withinCeilings L ≡ t → (u : Bool) → leb (length s) (L .«max_input_bytes») ≡ u
-          → row.Ok x ≡ shownRowAnswer (functionOf f (pick t (pick u (outcome L (main L 0 s)) (refusal InputBytes)) (refusal LimitAboveCeiling))) → length s ≤ 16777216
+          → row.Ok x ≡ shownRowAnswer (functionOf f (cond t (cond u (outcome L (main L 0 s)) (refusal InputBytes)) (refusal LimitAboveCeiling))) → length s ≤ 16777216
       by true p true q e = omega (arith, input-ceiling L p, leb-true (length s) (L .«max_input_bytes») q)
       by true p false q e = absurd (let z : _≡_ {A = ℕ} 0 1 = cc in omega arith)
       by false p u q e = absurd (let z : _≡_ {A = ℕ} 0 1 = cc in omega arith)

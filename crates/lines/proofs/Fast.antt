@@ -4,7 +4,7 @@
 --     fast             then the line is the sum behind it
 -- Assumes nothing.
 use mathlib.Core.Path.{_≡_, refl, sym, _∙_, ap}
-use mathlib.Core.Bool.{Bool, true, false}
+use mathlib.Core.Bool.{Bool, true, false, cond}
 use mathlib.Core.List.{List, [], _∷_, _++_, append-nil, append-assoc}
 use Prim.Native.Nat.{ℕ, zero, suc, _+_, _-_, _≤_, _<_}
 use native.Mathlib.Omega.{arith}
@@ -14,7 +14,6 @@ use lib.IntN.{ℤ, pos, _+ℤ_}
 use lib.ListN.{drop, getD}
 use mir.Syntax.{w8}
 use mir.Val.{toZ}
-use Rattle.format.specs.Pick.{pick}
 use Rattle.format.specs.declared.entry.AbsLineInfo.{AbsLineInfo}
 use Rattle.format.specs.Form.{Bytes}
 use Rattle.anchors.specs.declared.Scan.{Scan}
@@ -25,11 +24,11 @@ use Rattle.lines.specs.Scan.{added, summed}
 -- ## The first anchor at a pc
 lineAt-append : (j : ℕ) (xs ys : List AbsLineInfo) (z : ℤ) → lineAt j (xs ++ ys) z ≡ lineAt j xs (lineAt j ys z)
 lineAt-append j [] ys z = refl
-lineAt-append j (x ∷ xs) ys z = ap (pick (eqb (x .pc) j) (pos (x .line))) (lineAt-append j xs ys z)
+lineAt-append j (x ∷ xs) ys z = ap (cond (eqb (x .pc) j) (pos (x .line))) (lineAt-append j xs ys z)
 
 -- an anchor at another pc
 elsewhere : (j : ℕ) (a : AbsLineInfo) (z : ℤ) → (a .pc ≡ j → ⊥) → lineAt j (a ∷ []) z ≡ z
-elsewhere j a z h = ap (λ b. pick b (pos (a .line)) z) (ne-eqb (a .pc) j h)
+elsewhere j a z h = ap (λ b. cond b (pos (a .line)) z) (ne-eqb (a .pc) j h)
 
 -- ## The deltas from a pc on
 pub from-head : (k : ℕ) (ds : Bytes) {d : ℕ} {xs : Bytes} → drop k ds ≡ d ∷ xs → getD ds k 0 ≡ d
@@ -85,18 +84,18 @@ module _ (ds : Bytes) where
       line-is = λ i p z.
           let same : a .pc ≡ i = omega arith in
           lineAt-append i anchors (a ∷ []) z
-          ∙ ap (λ b. lineAt i anchors (pick b (pos (a .line)) z)) (eq-eqb (a .pc) i same)
+          ∙ ap (λ b. lineAt i anchors (cond b (pos (a .line)) z)) (eq-eqb (a .pc) i same)
           ∙ so .later i (omega arith) (rw same at e) (pos (a .line));
     }
 
     step : Settled one-more (resetBy ds r a)
     step = by (eqb (getD ds (a .pc) 0) 128) refl
       where
-        order : getD ds (a .pc) 0 ≡ 128 → (u : Bool) → ltb (a .pc) (r .pc) ≡ u → Settled one-more (pick u r (record { pc = a .pc + 1; line = a .line }))
+        order : getD ds (a .pc) 0 ≡ 128 → (u : Bool) → ltb (a .pc) (r .pc) ≡ u → Settled one-more (cond u r (record { pc = a .pc + 1; line = a .line }))
         order e true h = let less = ltb-true (a .pc) (r .pc) h in stays (λ j k f p. omega arith)
         order e false h = moves e (ltb-false (a .pc) (r .pc) h)
 
-        by : (t : Bool) → eqb (getD ds (a .pc) 0) 128 ≡ t → Settled one-more (pick t (pick (ltb (a .pc) (r .pc)) r (record { pc = a .pc + 1; line = a .line })) r)
+        by : (t : Bool) → eqb (getD ds (a .pc) 0) 128 ≡ t → Settled one-more (cond t (cond (ltb (a .pc) (r .pc)) r (record { pc = a .pc + 1; line = a .line })) r)
         by true e = order (eqb-true (getD ds (a .pc) 0) 128 e) (ltb (a .pc) (r .pc)) refl
         by false e = stays (λ j h f p. eqb-false (getD ds (a .pc) 0) 128 e (rw p f))
 
@@ -111,7 +110,7 @@ module _ (ds : Bytes) where
     same-step : (k d : ℕ) (z : ℤ) → getD ds k 0 ≡ d → r .pc ≤ k → stepped anchors k z d ≡ added z d
     same-step k d z e h = by (eqb d 128) refl
       where
-        by : (t : Bool) → eqb d 128 ≡ t → pick t (lineAt k anchors z) (z +ℤ toZ w8 d) ≡ pick t z (z +ℤ toZ w8 d)
+        by : (t : Bool) → eqb d 128 ≡ t → cond t (lineAt k anchors z) (z +ℤ toZ w8 d) ≡ cond t z (z +ℤ toZ w8 d)
         by true t = so .later k h (e ∙ eqb-true d 128 t) z
         by false t = refl
 
@@ -137,13 +136,13 @@ module _ (ds : Bytes) where
         by true t go =
             let same = eqb-true k i t in
             let is : d ≡ 128 = sym (from-head k ds e) ∙ ap (λ n. getD ds n 0) same ∙ so .minus-128 i p in
-            ap (λ b. walked anchors (k + 1) (pick b (lineAt k anchors z) (z +ℤ toZ w8 d)) xs) (eq-eqb d 128 is)
+            ap (λ b. walked anchors (k + 1) (cond b (lineAt k anchors z) (z +ℤ toZ w8 d)) xs) (eq-eqb d 128 is)
             ∙ ap (λ y. walked anchors (k + 1) y xs) (ap (λ n. lineAt n anchors z) same ∙ so .line-is i p z)
             ∙ ap (walked anchors (k + 1) (pos (r .line))) (sym (next-is k ds e))
             ∙ ap (λ n. walked anchors (n + 1) (pos (r .line)) (drop (n + 1) ds)) same
         by false t go = go (less k i h (eqb-false k i t))
 
-    pub fast : (base : AbsLineInfo) → let start = pick (ltb (base .pc) (r .pc)) r base in walked anchors (base .pc) (pos (base .line)) (drop (base .pc) ds) ≡ summed (pos (start .line)) (drop (start .pc) ds)
+    pub fast : (base : AbsLineInfo) → let start = cond (ltb (base .pc) (r .pc)) r base in walked anchors (base .pc) (pos (base .line)) (drop (base .pc) ds) ≡ summed (pos (start .line)) (drop (start .pc) ds)
     fast base = by (ltb (base .pc) (r .pc)) refl
       where
         reached : (n : ℕ) → r .pc ≡ n → base .pc < n → walked anchors (base .pc) (pos (base .line)) (drop (base .pc) ds) ≡ summed (pos (r .line)) (drop (r .pc) ds)
@@ -154,6 +153,6 @@ module _ (ds : Bytes) where
             ∙ ap (λ n. walked anchors n (pos (r .line)) (drop n ds)) same
             ∙ behind (drop (r .pc) ds) (r .pc) (pos (r .line)) refl (omega arith)
 
-        by : (t : Bool) → ltb (base .pc) (r .pc) ≡ t → let start = pick t r base in walked anchors (base .pc) (pos (base .line)) (drop (base .pc) ds) ≡ summed (pos (start .line)) (drop (start .pc) ds)
+        by : (t : Bool) → ltb (base .pc) (r .pc) ≡ t → let start = cond t r base in walked anchors (base .pc) (pos (base .line)) (drop (base .pc) ds) ≡ summed (pos (start .line)) (drop (start .pc) ds)
         by true t = reached (r .pc) refl (ltb-true (base .pc) (r .pc) t)
         by false t = behind (drop (base .pc) ds) (base .pc) (pos (base .line)) refl (ltb-false (base .pc) (r .pc) t)

@@ -3,25 +3,23 @@
 --     same-line        the theorem
 -- Assumes nothing.
 use mathlib.Core.Path.{_≡_, refl, sym, _∙_, ap}
-use mathlib.Core.Bool.{Bool, true, false}
+use mathlib.Core.Bool.{Bool, true, false, cond}
 use mathlib.Core.List.{List, [], _∷_}
-use mathlib.Core.Option.{none, some}
+use mathlib.Core.Option.{none, some, Option·getD, Option·map}
 use Prim.Native.Nat.{ℕ, zero, suc, _+_, _-_, _/_, _≤_, _<_}
 use native.Mathlib.Omega.{arith}
 use borrow.Author.Tests.{eqb-true, leb-true, leb-false, le-leb, ltb-true, ltb-false, ne-eqb, eq-eqb, lt-ltb, le-ltb}
 use lib.Dec.{eqb, leb, ltb}
 use lib.IntN.{ℤ, pos, _+ℤ_}
-use lib.ListN.{length, take, drop, getD, length-take}
+use lib.ListN.{length, take, drop, getD, length-take, getElem?}
 use lib.Seq.{getD-take}
 use mir.Syntax.{w8}
 use mir.Val.{toZ}
-use Rattle.format.specs.Pick.{pick}
 use Rattle.format.specs.declared.entry.AbsLineInfo.{AbsLineInfo}
 use Rattle.format.specs.Form.{Bytes}
 use Rattle.format.proofs.Every.{All}
-use Rattle.entries.specs.Nth.{nth}
 use Rattle.lines.specs.Ldebug.{MAXIWTHABS, getbaseline, increments, «luaG_getfuncline»}
-use Rattle.lines.specs.Lines.{lineIf, baseOf, lineAt, walked, raised, byDeltas, orNext, lineOf}
+use Rattle.lines.specs.Lines.{baseOf, lineAt, walked, raised, byDeltas, lineOf}
 use Rattle.lines.proofs.Fast.{from-head, from-none, next-is}
 use Rattle.lines.proofs.Rising.{RisingFrom, Rising, At, from-on, base-last, base-within, base-all, base-line, from-estimate, Numbered, numbered}
 use Rattle.anchors.proofs.Tests.{picked, other, beyond, drop-beyond}
@@ -42,7 +40,7 @@ in-cut n j ds e = by (ltb j n) refl
 plain : (anchors : List AbsLineInfo) (cut xs : Bytes) (k : ℕ) (z : ℤ) → drop k cut ≡ xs → ((j : ℕ) → k ≤ j → getD cut j 0 ≡ 128 → ⊥) → walked anchors k z xs ≡ increments z xs
 plain anchors cut [] k z e never = refl
 plain anchors cut (d ∷ xs) k z e never =
-    ap (λ t. walked anchors (k + 1) (pick t (lineAt k anchors z) (z +ℤ toZ w8 d)) xs) (ne-eqb d 128 (λ is. never k (omega arith) (from-head k cut e ∙ is)))
+    ap (λ t. walked anchors (k + 1) (cond t (lineAt k anchors z) (z +ℤ toZ w8 d)) xs) (ne-eqb d 128 (λ is. never k (omega arith) (from-head k cut e ∙ is)))
     ∙ plain anchors cut xs (k + 1) (z +ℤ toZ w8 d) (next-is k cut e) (λ j h. never j (omega arith))
 
 -- behind a delta of −128 whose anchor has the line itself
@@ -52,7 +50,7 @@ at-anchor anchors cut k z e same = by (drop k cut) refl
     by : (xs : Bytes) → drop k cut ≡ xs → walked anchors k z xs ≡ walked anchors (k + 1) z (drop (k + 1) cut)
     by [] p = absurd (omega (arith, from-none k k cut p (omega arith)))
     by (d ∷ xs) p =
-        ap (λ t. walked anchors (k + 1) (pick t (lineAt k anchors z) (z +ℤ toZ w8 d)) xs) (eq-eqb d 128 (sym (from-head k cut p) ∙ e))
+        ap (λ t. walked anchors (k + 1) (cond t (lineAt k anchors z) (z +ℤ toZ w8 d)) xs) (eq-eqb d 128 (sym (from-head k cut p) ∙ e))
         ∙ ap (λ y. walked anchors (k + 1) y xs) same
         ∙ ap (walked anchors (k + 1) z) (sym (next-is k cut p))
 
@@ -108,7 +106,7 @@ module _ (line-defined instructions : ℕ) (deltas : Bytes) (anchors : List AbsL
 
     -- the estimate does not matter
     found : a .pc ≤ pc → (k : ℕ) → pc / MAXIWTHABS ≡ k → baseOf pc (getD (a ∷ more) (k - 1) a) (drop k (a ∷ more)) ≡ base
-    found h zero is = ap (λ t. pick t base a) (le-leb (a .pc) pc h)
+    found h zero is = ap (λ t. cond t base a) (le-leb (a .pc) pc h)
     found h (suc i) is =
         let asserted = rw e at (c .estimate i a is) in
         let size = asserted .0 in
@@ -118,7 +116,7 @@ module _ (line-defined instructions : ℕ) (deltas : Bytes) (anchors : List AbsL
     both : ours (baseOf pc start (a ∷ more)) ≡ theirs (getbaseline line-defined pc (a ∷ more))
     both = by (leb (a .pc) pc) refl
       where
-        by : (t : Bool) → leb (a .pc) pc ≡ t → ours (pick t base start) ≡ theirs (getbaseline line-defined pc (a ∷ more))
+        by : (t : Bool) → leb (a .pc) pc ≡ t → ours (cond t base start) ≡ theirs (getbaseline line-defined pc (a ∷ more))
         by true t =
             let h = leb-true (a .pc) pc t in
             behind h
@@ -143,7 +141,7 @@ module _ (line-defined instructions : ℕ) (deltas : Bytes) (anchors : List AbsL
     number : (z : ℤ) → Numbered (0 + pc) pc anchors z
     number z = let inside = c .there in numbered 0 instructions anchors (c .rising) (below-all anchors (c .marked)) (omega arith) pc (omega arith) z
 
-    all-numbered : (xs : List AbsLineInfo) → anchors ≡ xs → lineIf (nth pc anchors) ≡ some (raised (theirs (getbaseline line-defined pc xs)))
+    all-numbered : (xs : List AbsLineInfo) → anchors ≡ xs → Option·map (λ (a : AbsLineInfo). a .line) (getElem? anchors pc) ≡ some (raised (theirs (getbaseline line-defined pc xs)))
     all-numbered [] e = absurd (let size = ap length e in let inside = c .there in omega arith)
     all-numbered (a ∷ more) e =
         let b = base a more e in
@@ -159,7 +157,7 @@ module _ (line-defined instructions : ℕ) (deltas : Bytes) (anchors : List AbsL
         let short : length cut ≤ b .pc + 1 = simp length-take (omega arith) in
         let sum : theirs (getbaseline line-defined pc (a ∷ more)) ≡ pos (b .line) =
         sym (both a more e)
-        ∙ ap (λ t. ours (pick t b start)) (le-leb (a .pc) pc begun)
+        ∙ ap (λ t. ours (cond t b start)) (le-leb (a .pc) pc begun)
         ∙ behind a more e begun
         ∙ ap (increments (pos (b .line))) (drop-beyond cut (b .pc + 1) short) in
         x .is ∙ ap (λ y. some (raised y)) (line ∙ sym sum)
@@ -171,10 +169,10 @@ module _ (line-defined instructions : ℕ) (deltas : Bytes) (anchors : List AbsL
       by : (ds : Bytes) → deltas ≡ ds → (t : Bool) → eqb (length anchors) instructions ≡ t → lineOf instructions line-defined ds anchors pc ≡ raised («luaG_getfuncline» line-defined ds anchors pc)
       by [] e t is = absurd (let size = ap length e in let one = c .one-each in let some = c .there in omega arith)
       by (d ∷ ds) e true is =
-          ap (λ o. orNext o (byDeltas (baseOf pc start anchors) (d ∷ ds) anchors pc)) (sym (picked (lineIf (nth pc anchors)) none is) ∙ all-numbered (eqb-true (length anchors) instructions is) anchors refl)
+          ap (λ o. Option·getD o (byDeltas (baseOf pc start anchors) (d ∷ ds) anchors pc)) (sym (picked (Option·map (λ (a : AbsLineInfo). a .line) (getElem? anchors pc)) none is) ∙ all-numbered (eqb-true (length anchors) instructions is) anchors refl)
           ∙ ap (λ ds. raised (increments (pos (getbaseline line-defined pc anchors .line)) (drop (getbaseline line-defined pc anchors .pc) (take (pc + 1) ds)))) e
       by (d ∷ ds) e false is =
-          ap (λ o. orNext o (byDeltas (baseOf pc start anchors) (d ∷ ds) anchors pc)) (sym (other (lineIf (nth pc anchors)) none is))
+          ap (λ o. Option·getD o (byDeltas (baseOf pc start anchors) (d ∷ ds) anchors pc)) (sym (other (Option·map (λ (a : AbsLineInfo). a .line) (getElem? anchors pc)) none is))
           ∙ ap (λ ds. raised (walked anchors (baseOf pc start anchors .pc) (pos (baseOf pc start anchors .line)) (drop (baseOf pc start anchors .pc) (take (pc + 1) ds)))) (sym e)
           ∙ ap raised (by-base anchors refl)
           ∙ ap (λ ds. raised (increments (pos (getbaseline line-defined pc anchors .line)) (drop (getbaseline line-defined pc anchors .pc) (take (pc + 1) ds)))) e

@@ -3,7 +3,7 @@
 --     sums-fit         so each line on the way through a file's deltas fits
 -- Assumes nothing.
 use mathlib.Core.Path.{_≡_, refl}
-use mathlib.Core.Bool.{Bool, true, false}
+use mathlib.Core.Bool.{Bool, true, false, cond}
 use mathlib.Core.List.{List, [], _∷_}
 use Prim.Native.Nat.{ℕ, suc, _+_, _-_, _*_, _^_, _≤_, _<_}
 use native.Mathlib.Omega.{arith}
@@ -14,7 +14,6 @@ use lib.ListN.{length, take, drop, length-take, length-drop}
 use lib.Signed.{mag}
 use mir.Syntax.{w8, w64}
 use mir.Val.{SFits, toZ}
-use Rattle.format.specs.Pick.{pick}
 use Rattle.format.specs.declared.entry.AbsLineInfo.{AbsLineInfo}
 use Rattle.format.specs.Form.{Bytes}
 use Rattle.format.proofs.Every.{All}
@@ -57,7 +56,7 @@ all-low : (line : ℕ) (anchors : List AbsLineInfo) → large line anchors ≡ f
 all-low line [] e = (leb-false (2 ^ 62) line e, tt)
 all-low line (a ∷ more) e = by (leb (2 ^ 62) line) refl e (all-low (a .line) more)
   where
-    by : (t : Bool) → leb (2 ^ 62) line ≡ t → pick t true (large (a .line) more) ≡ false → (large (a .line) more ≡ false → Low a × All Low more) → (line < 2 ^ 62) × (Low a × All Low more)
+    by : (t : Bool) → leb (2 ^ 62) line ≡ t → cond t true (large (a .line) more) ≡ false → (large (a .line) more ≡ false → Low a × All Low more) → (line < 2 ^ 62) × (Low a × All Low more)
     by true is e go = absurd (let z : _≡_ {A = ℕ} 0 1 = cc in omega arith)
     by false is e go = (leb-false (2 ^ 62) line is, go e)
 

@@ -6,21 +6,19 @@
 --     numbered         as many anchors as there is room for: each has its number for pc
 -- Assumes nothing.
 use mathlib.Core.Path.{_≡_, refl, _∙_, ap}
-use mathlib.Core.Bool.{Bool, true, false}
+use mathlib.Core.Bool.{Bool, true, false, cond}
 use mathlib.Core.List.{List, [], _∷_}
 use mathlib.Core.Logic.{_⊎_, inl, inr, ⊎-elim}
-use mathlib.Core.Option.{some}
+use mathlib.Core.Option.{some, Option·map}
 use Prim.Native.Nat.{ℕ, zero, suc, _+_, _≤_, _<_}
 use native.Mathlib.Omega.{arith}
 use borrow.Author.Tests.{leb-true, leb-false, le-leb, ne-eqb, eq-eqb}
 use lib.Dec.{leb}
 use lib.IntN.{ℤ, pos}
-use lib.ListN.{length, drop, getD}
-use Rattle.format.specs.Pick.{pick}
+use lib.ListN.{length, drop, getD, getElem?}
 use Rattle.format.specs.declared.entry.AbsLineInfo.{AbsLineInfo}
 use Rattle.format.proofs.Every.{All}
-use Rattle.entries.specs.Nth.{nth}
-use Rattle.lines.specs.Lines.{lineIf, baseOf, lineAt}
+use Rattle.lines.specs.Lines.{baseOf, lineAt}
 use Rattle.lines.proofs.Scans.{pick-both}
 
 -- from n on
@@ -47,7 +45,7 @@ module _ (pc : ℕ) where
   base-last a [] r j m h = ⊎-elim (λ (e : a .pc ≡ j). omega arith) (λ (n : ⊥). absurd n) m
   base-last a (x ∷ more) r j m h = by (leb (x .pc) pc) refl (base-last x more (r .1))
     where
-      by : (t : Bool) → leb (x .pc) pc ≡ t → ((j : ℕ) → At j (x ∷ more) → j ≤ pc → j ≤ baseOf pc x more .pc) → j ≤ pick t (baseOf pc x more) a .pc
+      by : (t : Bool) → leb (x .pc) pc ≡ t → ((j : ℕ) → At j (x ∷ more) → j ≤ pc → j ≤ baseOf pc x more .pc) → j ≤ cond t (baseOf pc x more) a .pc
       by true t go =
           let here = leb-true (x .pc) pc t in
           let over = r .0 in
@@ -60,7 +58,7 @@ module _ (pc : ℕ) where
   base-within a [] h = h
   base-within a (x ∷ more) h = by (leb (x .pc) pc) refl (base-within x more)
     where
-      by : (t : Bool) → leb (x .pc) pc ≡ t → (x .pc ≤ pc → baseOf pc x more .pc ≤ pc) → pick t (baseOf pc x more) a .pc ≤ pc
+      by : (t : Bool) → leb (x .pc) pc ≡ t → (x .pc ≤ pc → baseOf pc x more .pc ≤ pc) → cond t (baseOf pc x more) a .pc ≤ pc
       by true t go = go (leb-true (x .pc) pc t)
       by false t go = h
 
@@ -70,17 +68,17 @@ module _ (pc : ℕ) where
 
   -- it is the first anchor at its pc
   pub base-line : (a : AbsLineInfo) (more : List AbsLineInfo) → RisingFrom (a .pc + 1) more → (z : ℤ) → lineAt (baseOf pc a more .pc) (a ∷ more) z ≡ pos (baseOf pc a more .line)
-  base-line a [] r z = ap (λ t. pick t (pos (a .line)) z) (eq-eqb (a .pc) (a .pc) refl)
+  base-line a [] r z = ap (λ t. cond t (pos (a .line)) z) (eq-eqb (a .pc) (a .pc) refl)
   base-line a (x ∷ more) r z = by (leb (x .pc) pc) refl (base-line x more (r .1) z)
     where
       by : (t : Bool) → leb (x .pc) pc ≡ t → lineAt (baseOf pc x more .pc) (x ∷ more) z ≡ pos (baseOf pc x more .line)
-          → lineAt (pick t (baseOf pc x more) a .pc) (a ∷ x ∷ more) z ≡ pos (pick t (baseOf pc x more) a .line)
+          → lineAt (cond t (baseOf pc x more) a .pc) (a ∷ x ∷ more) z ≡ pos (cond t (baseOf pc x more) a .line)
       by true t go =
           let over = r .0 in
           let b = baseOf pc x more .pc in
           let reached : x .pc ≤ b = base-last x more (r .1) (x .pc) (inl refl) (leb-true (x .pc) pc t) in
-          ap (λ u. pick u (pos (a .line)) (lineAt b (x ∷ more) z)) (ne-eqb (a .pc) b (λ e. omega arith)) ∙ go
-      by false t go = ap (λ u. pick u (pos (a .line)) (lineAt (a .pc) (x ∷ more) z)) (eq-eqb (a .pc) (a .pc) refl)
+          ap (λ u. cond u (pos (a .line)) (lineAt b (x ∷ more) z)) (ne-eqb (a .pc) b (λ e. omega arith)) ∙ go
+      by false t go = ap (λ u. cond u (pos (a .line)) (lineAt (a .pc) (x ∷ more) z)) (eq-eqb (a .pc) (a .pc) refl)
 
   -- starting at an anchor that is not above the pc finds the same base
   pub from-estimate : (d : AbsLineInfo) (k : ℕ) (a : AbsLineInfo) (more : List AbsLineInfo) → RisingFrom (a .pc + 1) more → k ≤ length more → getD (a ∷ more) k d .pc ≤ pc
@@ -88,7 +86,7 @@ module _ (pc : ℕ) where
   from-estimate d zero a more r h low = refl
   from-estimate d (suc k) a [] r h low = absurd (omega arith)
   from-estimate d (suc k) a (x ∷ more) r h low =
-      ap (λ t. pick t (baseOf pc x more) a) (le-leb (x .pc) pc (omega (arith, head-low k x more (r .1) (omega arith)))) ∙ from-estimate d k x more (r .1) (omega arith) low
+      ap (λ t. cond t (baseOf pc x more) a) (le-leb (x .pc) pc (omega (arith, head-low k x more (r .1) (omega arith)))) ∙ from-estimate d k x more (r .1) (omega arith) low
     where
       head-low : (k : ℕ) (x : AbsLineInfo) (more : List AbsLineInfo) → RisingFrom (x .pc + 1) more → k ≤ length more → x .pc ≤ getD (x ∷ more) k d .pc
       head-low zero x more r h = omega arith
@@ -104,7 +102,7 @@ room n end (a ∷ more) r below h = let from = r .0 in let this = below .0 in om
 -- the anchor of a number: its line, and that it is the first at that pc
 pub record Numbered (pc i : ℕ) (anchors : List AbsLineInfo) (z : ℤ) : Type 0 where
   pub line : ℕ
-  pub is : lineIf (nth i anchors) ≡ some line
+  pub is : Option·map (λ (a : AbsLineInfo). a .line) (getElem? anchors i) ≡ some line
   pub first : lineAt pc anchors z ≡ pos line
   pub there : At pc anchors
 
@@ -115,7 +113,7 @@ numbered n end (a ∷ more) r below full zero h z =
     let from = r .0 in
     let this = below .0 in
     let is : a .pc ≡ n + 0 = omega (arith, room (a .pc + 1) end more (r .1) (below .1) (omega arith)) in
-    record { line = a .line; is = refl; first = ap (λ t. pick t (pos (a .line)) (lineAt (n + 0) more z)) (eq-eqb (a .pc) (n + 0) is); there = inl is }
+    record { line = a .line; is = refl; first = ap (λ t. cond t (pos (a .line)) (lineAt (n + 0) more z)) (eq-eqb (a .pc) (n + 0) is); there = inl is }
 numbered n end (a ∷ more) r below full (suc i) h z =
     let from = r .0 in
     let this = below .0 in
@@ -125,6 +123,6 @@ numbered n end (a ∷ more) r below full (suc i) h z =
     record {
       line = rest .line;
       is = rest .is;
-      first = ap (λ t. pick t (pos (a .line)) (lineAt (n + suc i) more z)) (ne-eqb (a .pc) (n + suc i) (λ e. omega arith)) ∙ rw same at (rest .first);
+      first = ap (λ t. cond t (pos (a .line)) (lineAt (n + suc i) more z)) (ne-eqb (a .pc) (n + suc i) (λ e. omega arith)) ∙ rw same at (rest .first);
       there = inr (rw same at (rest .there));
     }

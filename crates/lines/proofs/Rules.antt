@@ -1,22 +1,20 @@
 -- The four rules, of what the pass over the anchors gave.
 -- Assumes nothing.
 use mathlib.Core.Path.{_≡_, refl, sym, _∙_, ap}
-use mathlib.Core.Bool.{Bool, true, false}
+use mathlib.Core.Bool.{Bool, true, false, cond}
 use mathlib.Core.List.{List, [], _∷_}
-use mathlib.Core.Option.{Option, none, some}
+use mathlib.Core.Option.{Option, none, some, Option·getD, Option·map}
 use Prim.Native.Nat.{ℕ, suc, _+_}
 use native.Mathlib.Omega.{arith}
 use lib.Dec.{eqb}
 use lib.IntN.{pos}
-use lib.ListN.{length, take, drop}
-use Rattle.format.specs.Pick.{pick}
+use lib.ListN.{length, take, drop, getElem?}
 use Rattle.format.specs.declared.entry.AbsLineInfo.{AbsLineInfo}
 use Rattle.format.specs.declared.refusal.Refusal.the-variants.{LineTooLarge}
 use Rattle.format.specs.Form.{Bytes}
-use Rattle.entries.specs.Nth.{nth}
 use Rattle.anchors.specs.declared.Scan.{Scan}
 use Rattle.lines.specs.declared.line.LineAnswer.the-variants as answer
-use Rattle.lines.specs.Lines.{rule1, rule2, rule3, lineIf, baseOf, raised, byDeltas, orNext, lineOf, large, answerOf}
+use Rattle.lines.specs.Lines.{rule1, rule2, rule3, baseOf, raised, byDeltas, lineOf, large, answerOf}
 use Rattle.anchors.specs.Scan.{scanned, startOf}
 use Rattle.lines.specs.Scan.{startIn, summed, lineFrom, numberedOf}
 use Rattle.anchors.specs.declared.Sought.the-variants.{Ahead, At}
@@ -45,14 +43,14 @@ module _ (instructions line : ℕ) (deltas : Bytes) (anchors : List AbsLineInfo)
   second : lineSought (numberedOf (length anchors) instructions (scan .sought)) ≡ rule2 instructions anchors pc
   second = by (eqb (length anchors) instructions)
     where
-      by : (t : Bool) → lineSought (pick t (scan .sought) (Ahead 0)) ≡ pick t (lineIf (nth pc anchors)) none
+      by : (t : Bool) → lineSought (cond t (scan .sought) (Ahead 0)) ≡ cond t (Option·map (λ (a : AbsLineInfo). a .line) (getElem? anchors pc)) none
       by true = scanned-sought cut pc line anchors
       by false = refl
 
   not-first : (ds : Bytes) (xs : List AbsLineInfo) {l : ℕ} → rule2 instructions xs pc ≡ some l → rule1 ds xs ≡ none
   not-first [] [] e = by (eqb 0 instructions) e
     where
-      by : (t : Bool) {l : ℕ} → pick {A = Option ℕ} t none none ≡ some l → rule1 [] [] ≡ none
+      by : (t : Bool) {l : ℕ} → cond {A = Option ℕ} t none none ≡ some l → rule1 [] [] ≡ none
       by true e = absurd (let z : _≡_ {A = ℕ} 0 1 = cc in omega arith)
       by false e = absurd (let z : _≡_ {A = ℕ} 0 1 = cc in omega arith)
   not-first [] (x ∷ xs) e = refl
@@ -61,7 +59,7 @@ module _ (instructions line : ℕ) (deltas : Bytes) (anchors : List AbsLineInfo)
   pub by-number : {l : ℕ} → At l ≡ numberedOf (length anchors) instructions (scan .sought) → l ≡ theLine
   by-number {l} e =
       let is : rule2 instructions anchors pc ≡ some l = sym second ∙ ap lineSought (sym e) in
-      sym (ap (λ o. orNext o (orNext (rule2 instructions anchors pc) (orNext (rule3 line deltas anchors pc) 0))) (not-first deltas anchors is) ∙ ap (λ o. orNext o (orNext (rule3 line deltas anchors pc) 0)) is)
+      sym (ap (λ o. Option·getD o (Option·getD (rule2 instructions anchors pc) (Option·getD (rule3 line deltas anchors pc) 0))) (not-first deltas anchors is) ∙ ap (λ o. Option·getD o (Option·getD (rule3 line deltas anchors pc) 0)) is)
 
   -- ## Rules 3 and 4
   module _ {n : ℕ} (e : Ahead n ≡ numberedOf (length anchors) instructions (scan .sought)) where
@@ -70,7 +68,7 @@ module _ (instructions line : ℕ) (deltas : Bytes) (anchors : List AbsLineInfo)
 
     without : (xs : List AbsLineInfo) → rule2 instructions xs pc ≡ none → 0 ≡ lineOf instructions line [] xs pc
     without [] e = refl
-    without (x ∷ xs) e = sym (ap (λ o. orNext o 0) e)
+    without (x ∷ xs) e = sym (ap (λ o. Option·getD o 0) e)
 
     no-deltas : cut ≡ [] → 0 ≡ theLine
     no-deltas e = by deltas e
@@ -89,7 +87,7 @@ module _ (instructions line : ℕ) (deltas : Bytes) (anchors : List AbsLineInfo)
       where
         by : (ds : Bytes) → take (pc + 1) ds ≡ d ∷ xs → byDeltas (baseOf pc (record { pc = 0; line = line }) anchors) ds anchors pc ≡ lineOf instructions line ds anchors pc
         by [] e = absurd (let one : pc + 1 ≡ suc pc = omega arith in let size : 0 ≡ suc (length xs) = ap length (rw one at e) in omega arith)
-        by (y ∷ ds) e = sym (ap (λ o. orNext o (orNext (rule3 line (y ∷ ds) anchors pc) 0)) not-second)
+        by (y ∷ ds) e = sym (ap (λ o. Option·getD o (Option·getD (rule3 line (y ∷ ds) anchors pc) 0)) not-second)
 
     pub by-deltas : lineFrom scan cut ≡ theLine
     by-deltas = by cut refl

@@ -5,22 +5,20 @@
 --     scanned-small    else the base and the reset are below 2^62
 -- Assumes nothing.
 use mathlib.Core.Path.{_≡_, refl, sym, _∙_, ap}
-use mathlib.Core.Bool.{Bool, true, false}
+use mathlib.Core.Bool.{Bool, true, false, cond}
 use mathlib.Core.List.{List, [], _∷_}
-use mathlib.Core.Option.{Option, none, some}
+use mathlib.Core.Option.{Option, none, some, Option·map}
 use Prim.Native.Nat.{ℕ, zero, suc, _-_, _^_, _≤_}
 use native.Mathlib.Omega.{arith}
 use borrow.Author.Tests.{leb-false, ne-eqb}
 use lib.Dec.{eqb, leb, ltb}
-use lib.ListN.{getD}
-use Rattle.format.specs.Pick.{pick}
+use lib.ListN.{getD, getElem?}
 use Rattle.format.specs.declared.entry.AbsLineInfo.{AbsLineInfo}
 use Rattle.format.specs.Form.{Bytes}
-use Rattle.entries.specs.Nth.{nth}
 use Rattle.anchors.specs.declared.Scan.{Scan}
 use Rattle.anchors.specs.declared.Sought.{Sought}
 use Rattle.anchors.specs.declared.Sought.the-variants.{Ahead, At}
-use Rattle.lines.specs.Lines.{baseOf, lineIf, large}
+use Rattle.lines.specs.Lines.{baseOf, large}
 use Rattle.anchors.specs.Scan.{orLarge, stillTaking, seekBy, passed, scanned, startOf}
 use Rattle.lines.specs.Scan.{startIn}
 use Rattle.anchors.proofs.Tests.{other}
@@ -30,7 +28,7 @@ lineSought (At l) = some l
 lineSought (Ahead n) = none
 
 -- what holds of both holds of the one picked
-pub pick-both : {A : Type 0} (P : A → Type 0) (t : Bool) {a b : A} → P a → P b → P (pick t a b)
+pub pick-both : {A : Type 0} (P : A → Type 0) (t : Bool) {a b : A} → P a → P b → P (cond t a b)
 pick-both P true p q = p
 pick-both P false p q = q
 
@@ -39,16 +37,16 @@ module _ (ds : Bytes) (pc : ℕ) where
   base-kept : (z : Scan) (anchors : List AbsLineInfo) → z .taking ≡ false → scanned ds pc z anchors .base ≡ z .base
   base-kept z [] e = refl
   base-kept z (a ∷ more) e =
-      base-kept (passed ds pc z a) more (ap (λ b. stillTaking b pc a) e) ∙ ap (λ b. pick (stillTaking b pc a) a (z .base)) e
+      base-kept (passed ds pc z a) more (ap (λ b. stillTaking b pc a) e) ∙ ap (λ b. cond (stillTaking b pc a) a (z .base)) e
 
   base-taken : (z : Scan) (anchors : List AbsLineInfo) → z .taking ≡ true → scanned ds pc z anchors .base ≡ baseOf pc (z .base) anchors
   base-taken z [] e = refl
   base-taken z (a ∷ more) e = by (leb (a .pc) pc) (ap (λ b. stillTaking b pc a) e) (base-taken (passed ds pc z a) more)
     where
       by : (t : Bool) → stillTaking (z .taking) pc a ≡ t → (stillTaking (z .taking) pc a ≡ true → scanned ds pc (passed ds pc z a) more .base ≡ baseOf pc (passed ds pc z a .base) more)
-          → scanned ds pc (passed ds pc z a) more .base ≡ pick t (baseOf pc a more) (z .base)
-      by true e go = go e ∙ ap (λ b. baseOf pc (pick b a (z .base)) more) e
-      by false e go = base-kept (passed ds pc z a) more e ∙ ap (λ b. pick b a (z .base)) e
+          → scanned ds pc (passed ds pc z a) more .base ≡ cond t (baseOf pc a more) (z .base)
+      by true e go = go e ∙ ap (λ b. baseOf pc (cond b a (z .base)) more) e
+      by false e go = base-kept (passed ds pc z a) more e ∙ ap (λ b. cond b a (z .base)) e
 
   pub scanned-base : (line : ℕ) (anchors : List AbsLineInfo) → scanned ds pc (startOf pc line) anchors .base ≡ baseOf pc (record { pc = 0; line = line }) anchors
   scanned-base line anchors = base-taken (startOf pc line) anchors refl
@@ -58,14 +56,14 @@ module _ (ds : Bytes) (pc : ℕ) where
   at-stays z [] e = e
   at-stays z (a ∷ more) e = at-stays (passed ds pc z a) more (ap (λ x. seekBy x (a .line)) e)
 
-  ahead : (n : ℕ) (z : Scan) (anchors : List AbsLineInfo) → z .sought ≡ Ahead n → lineSought (scanned ds pc z anchors .sought) ≡ lineIf (nth n anchors)
+  ahead : (n : ℕ) (z : Scan) (anchors : List AbsLineInfo) → z .sought ≡ Ahead n → lineSought (scanned ds pc z anchors .sought) ≡ Option·map (λ (a : AbsLineInfo). a .line) (getElem? anchors n)
   ahead n z [] e = ap lineSought e
   ahead zero z (a ∷ more) e = ap lineSought (at-stays (passed ds pc z a) more (ap (λ x. seekBy x (a .line)) e))
   ahead (suc n) z (a ∷ more) e =
       let one : suc n - 1 ≡ n = omega arith in
       ahead n (passed ds pc z a) more (ap (λ x. seekBy x (a .line)) e ∙ sym (other (At (a .line)) (Ahead (suc n - 1)) (ne-eqb (suc n) 0 (λ p. omega arith))) ∙ ap Ahead one)
 
-  pub scanned-sought : (line : ℕ) (anchors : List AbsLineInfo) → lineSought (scanned ds pc (startOf pc line) anchors .sought) ≡ lineIf (nth pc anchors)
+  pub scanned-sought : (line : ℕ) (anchors : List AbsLineInfo) → lineSought (scanned ds pc (startOf pc line) anchors .sought) ≡ Option·map (λ (a : AbsLineInfo). a .line) (getElem? anchors pc)
   scanned-sought line anchors = ahead pc (startOf pc line) anchors refl
 
   -- ## Large lines
@@ -78,7 +76,7 @@ module _ (ds : Bytes) (pc : ℕ) where
   large-from line z (a ∷ more) e = by (leb (2 ^ 62) line) e (large-from (a .line) (passed ds pc z a) more)
     where
       by : (t : Bool) → z .large ≡ t → (orLarge (z .large) (a .line) ≡ leb (2 ^ 62) (a .line) → scanned ds pc (passed ds pc z a) more .large ≡ large (a .line) more)
-          → scanned ds pc (passed ds pc z a) more .large ≡ pick t true (large (a .line) more)
+          → scanned ds pc (passed ds pc z a) more .large ≡ cond t true (large (a .line) more)
       by true e go = large-stays (passed ds pc z a) more (ap (λ b. orLarge b (a .line)) e)
       by false e go = go (ap (λ b. orLarge b (a .line)) e)
 

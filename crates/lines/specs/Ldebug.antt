@@ -1,5 +1,6 @@
 -- ldebug.c of Lua 5.4.4: `luaG_getfuncline` and `getbaseline`, beside 01's rules (Lines.antt).
 -- `int` is ℤ here: no sum wraps. An index beyond an array, which C leaves undefined, reads the first anchor or adds nothing: see the premises of proofs/Ldebug.antt.
+use mathlib.Core.Bool.{cond}
 use mathlib.Core.List.{List, [], _∷_}
 use Prim.Native.Nat.{ℕ, _+_, _-_, _/_}
 use lib.Dec.{ltb}
@@ -7,7 +8,6 @@ use lib.IntN.{ℤ, pos, negsuc, _+ℤ_}
 use lib.ListN.{take, drop, getD}
 use mir.Syntax.{w8}
 use mir.Val.{toZ}
-use Rattle.format.specs.Pick.{pick}
 use Rattle.format.specs.declared.entry.AbsLineInfo.{AbsLineInfo}
 use Rattle.format.specs.Form.{Bytes}
 use Rattle.lines.specs.Lines.{baseOf}
@@ -21,7 +21,7 @@ abbrev pub getbaseline : ℕ → ℕ → List AbsLineInfo → AbsLineInfo
 getbaseline linedefined pc [] = record { pc = 0; line = linedefined }
 getbaseline linedefined pc (first ∷ more) =
     let base = baseOf pc (getD (first ∷ more) (pc / MAXIWTHABS - 1) first) (drop (pc / MAXIWTHABS) (first ∷ more)) in
-    pick (ltb pc (first .pc)) (record { pc = 0; line = linedefined }) (record { pc = base .pc + 1; line = base .line })
+    cond (ltb pc (first .pc)) (record { pc = 0; line = linedefined }) (record { pc = base .pc + 1; line = base .line })
 
 -- `while (basepc++ < pc) baseline += f->lineinfo[basepc];`
 abbrev pub increments : ℤ → Bytes → ℤ

@@ -4,21 +4,19 @@
 --     the delta at the base itself is added too; there adding starts just behind it
 --     a delta of −128 takes the line of an anchor at its pc, and without one leaves the line; there an assertion says that it is not met
 --     as many anchors as instructions are taken one for each; there they are as any others
-use mathlib.Core.Bool.{Bool, true}
+use mathlib.Core.Bool.{Bool, true, cond}
 use mathlib.Core.List.{List, [], _∷_}
-use mathlib.Core.Option.{Option, none, some}
+use mathlib.Core.Option.{Option, none, some, Option·getD, Option·map}
 use Prim.Native.Nat.{ℕ, _+_, _^_}
 use lib.Dec.{eqb, leb}
 use lib.IntN.{ℤ, pos, negsuc, _+ℤ_}
-use lib.ListN.{length, take, drop}
+use lib.ListN.{length, take, drop, getElem?}
 use mir.Syntax.{w8}
 use mir.Val.{toZ}
-use Rattle.format.specs.Pick.{pick}
 use Rattle.format.specs.declared.entry.AbsLineInfo.{AbsLineInfo}
 use Rattle.format.specs.declared.refusal.Refusal.the-variants.{LineTooLarge}
 use Rattle.format.specs.Form.{Bytes}
 use Rattle.format.specs.Reading.{Prototype}
-use Rattle.entries.specs.Nth.{nth}
 use Rattle.access.specs.Asked.{Asked, found, refused}
 use Rattle.lines.specs.declared.line.LineAnswer.{LineAnswer}
 use Rattle.lines.specs.declared.line.LineAnswer.the-variants as answer
@@ -30,27 +28,23 @@ rule1 [] (a ∷ more) = none
 rule1 (d ∷ ds) anchors = none
 
 -- ## 2. As many anchors as instructions, and pc among them: that anchor's line
-abbrev pub lineIf : Option AbsLineInfo → Option ℕ
-lineIf none = none
-lineIf (some a) = some (a .line)
-
 abbrev pub rule2 : ℕ → List AbsLineInfo → ℕ → Option ℕ
-rule2 instructions anchors pc = pick (eqb (length anchors) instructions) (lineIf (nth pc anchors)) none
+rule2 instructions anchors pc = cond (eqb (length anchors) instructions) (Option·map (λ (a : AbsLineInfo). a .line) (getElem? anchors pc)) none
 
 -- ## 3. With deltas
 -- anchors from the front while their pc is not above the one sought: the last, or else the base so far
 abbrev pub baseOf : ℕ → AbsLineInfo → List AbsLineInfo → AbsLineInfo
 baseOf pc base [] = base
-baseOf pc base (a ∷ more) = let later = baseOf pc a more in pick (leb (a .pc) pc) later base
+baseOf pc base (a ∷ more) = let later = baseOf pc a more in cond (leb (a .pc) pc) later base
 
 -- the line of the first anchor at a pc, if any; else the line so far
 abbrev pub lineAt : ℕ → List AbsLineInfo → ℤ → ℤ
 lineAt i [] line = line
-lineAt i (a ∷ more) line = let later = lineAt i more line in pick (eqb (a .pc) i) (pos (a .line)) later
+lineAt i (a ∷ more) line = let later = lineAt i more line in cond (eqb (a .pc) i) (pos (a .line)) later
 
 -- the line behind the delta d at pc i: the byte 128 is −128
 abbrev pub stepped : List AbsLineInfo → ℕ → ℤ → ℕ → ℤ
-stepped anchors i line d = pick (eqb d 128) (lineAt i anchors line) (line +ℤ toZ w8 d)
+stepped anchors i line d = cond (eqb d 128) (lineAt i anchors line) (line +ℤ toZ w8 d)
 
 -- behind all of the deltas, the first of which is at pc i
 abbrev pub walked : List AbsLineInfo → ℕ → ℤ → Bytes → ℤ
@@ -71,21 +65,17 @@ rule3 line-defined [] anchors pc = none
 rule3 line-defined (d ∷ ds) anchors pc = some (byDeltas (baseOf pc (record { pc = 0; line = line-defined }) anchors) (d ∷ ds) anchors pc)
 
 -- ## The rules in their order; 4. otherwise 0
-abbrev pub orNext : Option ℕ → ℕ → ℕ
-orNext none line = line
-orNext (some line) later = line
-
 abbrev pub lineOf : ℕ → ℕ → Bytes → List AbsLineInfo → ℕ → ℕ
-lineOf instructions line-defined deltas anchors pc = orNext (rule1 deltas anchors) (orNext (rule2 instructions anchors pc) (orNext (rule3 line-defined deltas anchors pc) 0))
+lineOf instructions line-defined deltas anchors pc = Option·getD (rule1 deltas anchors) (Option·getD (rule2 instructions anchors pc) (Option·getD (rule3 line-defined deltas anchors pc) 0))
 
 -- ## The answer
 -- the first line or an anchor's line is 2^62 or more: refusal 25
 abbrev pub large : ℕ → List AbsLineInfo → Bool
 large line [] = leb (2 ^ 62) line
-large line (a ∷ more) = let others = large (a .line) more in pick (leb (2 ^ 62) line) true others
+large line (a ∷ more) = let others = large (a .line) more in cond (leb (2 ^ 62) line) true others
 
 abbrev pub answerOf : ℕ → ℕ → Bytes → List AbsLineInfo → ℕ → LineAnswer
-answerOf instructions line-defined deltas anchors pc = pick (large line-defined anchors) (answer.Err LineTooLarge) (answer.Ok (lineOf instructions line-defined deltas anchors pc))
+answerOf instructions line-defined deltas anchors pc = cond (large line-defined anchors) (answer.Err LineTooLarge) (answer.Ok (lineOf instructions line-defined deltas anchors pc))
 
 -- 21, 22, 1 to 20 and 23 come first
 abbrev pub shownLine : ℕ → Asked Prototype → LineAnswer

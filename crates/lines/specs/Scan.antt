@@ -1,5 +1,6 @@
 -- The same line by one pass over the anchors (`Scan.antt` of crate anchors) and one over the deltas: what the code's parts give.
 -- Of the deltas of −128 that have an anchor only the last counts: behind it the line is that anchor's, whatever was before.
+use mathlib.Core.Bool.{cond}
 use mathlib.Core.List.{List, [], _∷_}
 use Prim.Native.Nat.{ℕ}
 use lib.Dec.{eqb, ltb}
@@ -7,7 +8,6 @@ use lib.IntN.{ℤ, pos, _+ℤ_}
 use lib.ListN.{take, drop}
 use mir.Syntax.{w8}
 use mir.Val.{toZ}
-use Rattle.format.specs.Pick.{pick}
 use Rattle.format.specs.declared.entry.AbsLineInfo.{AbsLineInfo}
 use Rattle.format.specs.Form.{Bytes}
 use Rattle.format.specs.Read.{Read, ok, refused, many}
@@ -22,10 +22,10 @@ use Rattle.lines.specs.Lines.{raised, answerOf}
 
 -- ## The deltas
 abbrev pub startIn : Scan → AbsLineInfo
-startIn z = pick (ltb (z .base .pc) (z .reset .pc)) (z .reset) (z .base)
+startIn z = cond (ltb (z .base .pc) (z .reset .pc)) (z .reset) (z .base)
 
 abbrev pub added : ℤ → ℕ → ℤ
-added line d = pick (eqb d 128) line (line +ℤ toZ w8 d)
+added line d = cond (eqb d 128) line (line +ℤ toZ w8 d)
 
 abbrev pub summed : ℤ → Bytes → ℤ
 summed line [] = line
@@ -37,7 +37,7 @@ lineFrom z (d ∷ ds) = raised (summed (pos (startIn z .line)) (drop (startIn z 
 
 -- ## Of a row
 abbrev pub numberedOf : ℕ → ℕ → Sought → Sought
-numberedOf anchors instructions sought = pick (eqb anchors instructions) sought (Ahead 0)
+numberedOf anchors instructions sought = cond (eqb anchors instructions) sought (Ahead 0)
 
 abbrev pub answered : FunctionRow → ℕ → Bytes → Read (List AbsLineInfo) → LineAnswer
 answered row pc s (ok anchors to rest) = answerOf (row .lists .instructions .count) (row .lines .«line_defined») (take (row .lists .«line_info» .count) (drop (row .lists .«line_info» .place) s)) anchors pc

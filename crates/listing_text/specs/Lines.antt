@@ -3,11 +3,11 @@
 --     firstLine            a chunk that is read
 --     refusalLine          one that is not
 --     rowLine k row        the function whose number is k
+use mathlib.Core.Bool.{cond}
 use Prim.Native.Nat.{ℕ, zero, suc, _/_, _%_}
 use mathlib.Core.List.{List, [], _∷_, _++_}
 use lib.Dec.{ltb}
 use Rattle.io.specs.Digits.{glyph}
-use Rattle.format.specs.Pick.{pick}
 use Rattle.format.specs.declared.refusal.Refusal.{Refusal}
 use Rattle.format.specs.declared.refusal.Place.{Place}
 use Rattle.format.specs.declared.refusal.Place.the-variants as place
@@ -19,7 +19,7 @@ use Rattle.rules.specs.Findings.{verdictWord}
 -- n in base 10, without zeros in front, in at most `more` digits and one
 unfoldable pub digitsUpTo : ℕ → ℕ → List ℕ
 digitsUpTo zero n = glyph n ∷ []
-digitsUpTo (suc more) n = pick (ltb n 10) (glyph n ∷ []) (digitsUpTo more (n / 10) ++ (glyph (n % 10) ∷ []))
+digitsUpTo (suc more) n = cond (ltb n 10) (glyph n ∷ []) (digitsUpTo more (n / 10) ++ (glyph (n % 10) ∷ []))
 
 -- (n digits and one are enough)
 abbrev pub decimal : ℕ → List ℕ

@@ -2,14 +2,13 @@
 -- Assumes nothing.
 use mathlib.Core.Path.{_≡_, refl}
 use mathlib.Core.List.{[]}
-use mathlib.Core.Option.{Option, none, some}
+use mathlib.Core.Option.{Option, none, some, Option·getD}
 use Prim.Native.Nat.{ℕ}
 use native.Mathlib.Omega.{arith}
 use lib.ListN.{drop}
 use Rattle.format.specs.declared.refusal.Refusal.{Refusal}
 use Rattle.format.specs.Form.{Bytes}
 use Rattle.format.specs.GrammarFields.{LuaString}
-use Rattle.format.specs.GrammarChunk.{orElse}
 use Rattle.format.specs.Reading.{ConstantValue, integer, float, short-string, long-string}
 use Rattle.format.specs.Read.{Read, ok, refused, Reader, next, _>>=_, give, here}
 use Rattle.format.specs.ReadFields.{field}
@@ -36,7 +35,7 @@ float-shown (refused q) = refl
 
 -- an absent string is empty, at the place behind its size
 abbrev orNothing : Option LuaString → Reader LuaString
-orNothing t = here >>= λ place. give (orElse t (record { place = place; bytes = [] }))
+orNothing t = here >>= λ place. give (Option·getD t (record { place = place; bytes = [] }))
 
 pub short-shown : (o : Read (Option LuaString)) → shortStringOf (stringResult o) ≡ constantResult (next (next o orNothing) (λ t. give (short-string t)))
 short-shown (ok none to rest) = refl

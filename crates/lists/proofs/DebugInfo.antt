@@ -2,7 +2,7 @@
 -- Assumes nothing.
 use mathlib.Core.Path.{_≡_, refl, _∙_, ap}
 use mathlib.Core.List.{[], _∷_}
-use mathlib.Core.Option.{Option}
+use mathlib.Core.Option.{Option, Option·getD}
 use Prim.Native.Nat.{ℕ}
 use native.Mathlib.Omega.{arith}
 use lib.ListN.{drop}
@@ -11,7 +11,6 @@ use Rattle.format.specs.declared.entry.AbsLineInfo.{AbsLineInfo}
 use Rattle.format.specs.Form.{Bytes, Form, Then, Is, Here}
 use Rattle.format.specs.GrammarFields.{Number, LuaString, String}
 use Rattle.format.specs.Reading.{LocalVar}
-use Rattle.format.specs.GrammarChunk.{orElse}
 use Rattle.format.specs.Read.{Read, ok, refused, Reader, next, _>>=_, give, here}
 use Rattle.format.specs.ReadFields.{number, string}
 use Rattle.format.specs.ReadChunk.{anchor, local}
@@ -89,7 +88,7 @@ module _ (name : Option LuaString) (behind : ℕ) where
 
 -- what `local` and `rawLocal` read behind the spelt name
 abbrev orUnknown : Option LuaString → Reader LuaString
-orUnknown name = here >>= λ place. give (orElse name (record { place = place; bytes = 63 ∷ [] }))
+orUnknown name = here >>= λ place. give (Option·getD name (record { place = place; bytes = 63 ∷ [] }))
 
 abbrev numbers : LuaString → Reader LocalVar
 numbers name = number >>= λ startpc. number >>= λ endpc. give (record { name = name; startpc = startpc; endpc = endpc })

@@ -1,11 +1,11 @@
 -- Readers that `format`'s are made of: a local variable with its name as it is spelt, and parts of `body`.
 use mathlib.Core.List.{[], _∷_}
-use mathlib.Core.Option.{Option}
+use mathlib.Core.Option.{Option, Option·getD}
 use Prim.Native.Nat.{ℕ, _+_}
 use Rattle.format.specs.declared.refusal.Refusal.{Refusal}
 use Rattle.format.specs.declared.refusal.Refusal.the-variants.{Instructions, TotalInstructions, Prototypes}
 use Rattle.format.specs.GrammarFields.{LuaString}
-use Rattle.format.specs.GrammarChunk.{Listed, orElse}
+use Rattle.format.specs.GrammarChunk.{Listed}
 use Rattle.format.specs.Reading.{LocalVar}
 use Rattle.format.specs.Read.{Reader, next, _>>=_, _>>_, give, here, atMost, run, many}
 use Rattle.format.specs.ReadFields.{field, number, string}
@@ -28,7 +28,7 @@ rawLocal limit = do
 
 -- an absent name reads as `?`
 abbrev pub named : RawLocal → LocalVar
-named l = record { name = orElse (l .name) (record { place = l .behind; bytes = 63 ∷ [] }); startpc = l .startpc; endpc = l .endpc }
+named l = record { name = Option·getD (l .name) (record { place = l .behind; bytes = 63 ∷ [] }); startpc = l .startpc; endpc = l .endpc }
 
 -- ## Counts
 abbrev pub countUpTo : ℕ → Refusal → Reader ℕ

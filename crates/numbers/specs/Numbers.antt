@@ -1,7 +1,7 @@
 -- The numbers of each answer.
+use mathlib.Core.Bool.{cond}
 use mathlib.Core.List.{List, [], _∷_}
 use Prim.Native.Nat.{ℕ}
-use Rattle.format.specs.Pick.{pick}
 use Rattle.header.specs.declared.OptionWarning.{OptionWarning}
 use Rattle.header.specs.declared.OptionWarning.the-variants as option
 use Rattle.format.specs.declared.header.Warning.the-variants as warning
@@ -133,7 +133,7 @@ ofWord (word.Err q) = refuses q
 -- the tag of lobject.h (0 nil, 1 false, 17 true, 3 integer, 19 float, 4 short string, 20 long string); an integer's or float's bits or a string's place; a string's length
 abbrev pub constantNumbers : ConstantValue → List ℕ
 constantNumbers value.Nil = 0 ∷ 0 ∷ 0 ∷ []
-constantNumbers (value.Boolean b) = pick b 17 1 ∷ 0 ∷ 0 ∷ []
+constantNumbers (value.Boolean b) = cond b 17 1 ∷ 0 ∷ 0 ∷ []
 constantNumbers (value.Integer z) = 3 ∷ complement z ∷ 0 ∷ []
 constantNumbers (value.Float n) = 19 ∷ n ∷ 0 ∷ []
 constantNumbers (value.ShortString t) = 4 ∷ t .place ∷ t .len ∷ []

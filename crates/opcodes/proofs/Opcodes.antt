@@ -7,7 +7,7 @@
 --     mode-number      an opcode's mode is the one that lopcodes.c has at its number
 -- Assumes nothing.
 use mathlib.Core.Path.{_≡_, refl, sym, ap, _∙_}
-use mathlib.Core.Bool.{Bool, true, false}
+use mathlib.Core.Bool.{Bool, true, false, cond}
 use mathlib.Core.Logic.{_↔_}
 use Prim.Native.Nat.{ℕ, _<_}
 use native.Mathlib.Omega.{arith}
@@ -15,7 +15,6 @@ use lib.Dec.{eqb, eqb→eq, ltb, lit<}
 use lib.ListN.{getD}
 use borrow.Author.Tests.{lt-ltb, ltb-true}
 use denote.Enum.Declared.{tagOf}
-use Rattle.format.specs.Pick.{pick}
 use Rattle.opcodes.specs.declared.opcode.Opcode54.{Opcode54}
 use Rattle.opcodes.specs.declared.opcode.Opcode54.the-variants.{Move}
 use Rattle.opcodes.specs.declared.opcode.OptionOpcode54.the-variants.{Some, None}
@@ -46,11 +45,11 @@ opcode-number n o = (λ e. go e (ltb n 83) refl, λ e. ap opcodeAt e ∙ named)
 
     go : opcodeAt n ≡ Some o → (t : Bool) → ltb n 83 ≡ t → n ≡ numberOf o
     go e true s =
-        let found : Some (getD opcodes n Move) ≡ Some o = sym (ap (λ t. pick t (Some (getD opcodes n Move)) None) s) ∙ e in
+        let found : Some (getD opcodes n Move) ≡ Some o = sym (ap (λ t. cond t (Some (getD opcodes n Move)) None) s) ∙ e in
         let here : getD opcodes n Move ≡ o = cc in
         sym (number-at n (ltb-true n 83 s)) ∙ ap numberOf here
     go e false s =
-        let none : None ≡ Some o = sym (ap (λ t. pick t (Some (getD opcodes n Move)) None) s) ∙ e in
+        let none : None ≡ Some o = sym (ap (λ t. cond t (Some (getD opcodes n Move)) None) s) ∙ e in
         let z : _≡_ {A = ℕ} 0 1 = cc in
         absurd (omega arith)
 

@@ -4,11 +4,11 @@
 --     numberOf        an opcode's number
 --     modes, modeNumber       the five modes, and a mode's number
 --     modeOf          an opcode's mode
+use mathlib.Core.Bool.{cond}
 use Prim.Native.Nat.{ℕ}
 use mathlib.Core.List.{List, [], _∷_}
 use lib.Dec.{ltb}
 use lib.ListN.{getD}
-use Rattle.format.specs.Pick.{pick}
 use Rattle.opcodes.specs.declared.opcode.Opcode54.{Opcode54}
 use Rattle.opcodes.specs.declared.opcode.Opcode54.the-variants as op
 use Rattle.opcodes.specs.declared.opcode.OptionOpcode54.{OptionOpcode54}
@@ -30,7 +30,7 @@ opcodes =
     op.Closure ∷ op.Vararg ∷ op.Varargprep ∷ op.Extraarg ∷ []
 
 abbrev pub opcodeAt : ℕ → OptionOpcode54
-opcodeAt n = pick (ltb n NUM-OPCODES) (Some (getD opcodes n op.Move)) None
+opcodeAt n = cond (ltb n NUM-OPCODES) (Some (getD opcodes n op.Move)) None
 
 abbrev pub numberOf : Opcode54 → ℕ
 numberOf op.Move = 0

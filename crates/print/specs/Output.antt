@@ -1,13 +1,13 @@
 -- What a printer does to the buffer of standard output. No contract can say what a program writes, so the contracts say what waits in the buffer.
 --     puts s w                        the bytes s are put behind what waits
 --     Digits base least front n w w′  the fewest digits of n, at least `least`, are put behind `front`
+use mathlib.Core.Bool.{cond}
 use Prim.Native.Nat.{ℕ, _+_, _/_, _%_, _≤_}
 use mathlib.Core.Path.{_≡_}
 use mathlib.Core.List.{List, [], _∷_, _++_}
 use lib.Dec.{ltb}
 use lib.IntN.{ℤ, pos, negsuc}
 use lib.ListN.{set}
-use Rattle.format.specs.Pick.{pick}
 use Rattle.io.specs.Digits.{glyph, digits, Fewest}
 
 -- the buffer, and how many of its bytes wait
@@ -20,7 +20,7 @@ waiting bytes used = record { bytes = bytes; used = used }
 
 -- one byte more. A buffer that is full is written out, and nothing waits any more
 abbrev pub putOf : ℕ → Waiting → Waiting
-putOf b w = waiting (set (w .bytes) (w .used) b) (pick (ltb (w .used + 1) 65536) (w .used + 1) 0)
+putOf b w = waiting (set (w .bytes) (w .used) b) (cond (ltb (w .used + 1) 65536) (w .used + 1) 0)
 
 unfoldable pub puts : List ℕ → Waiting → Waiting
 puts [] w = w

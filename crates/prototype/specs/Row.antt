@@ -1,12 +1,12 @@
 -- What a walk shows of a function: its row.
 --     rowOf p              the row of the function p
 --     lookup n k ps        of functions that are numbered from k on, the one with the number n, if it is among them
+use mathlib.Core.Bool.{cond}
 use mathlib.Core.List.{List, [], _∷_}
 use mathlib.Core.Option.{Option, none, some}
 use Prim.Native.Nat.{ℕ, _+_}
 use lib.Dec.{eqb}
 use lib.ListN.{length}
-use Rattle.format.specs.Pick.{pick}
 use Rattle.format.specs.Reading.{Prototype}
 use Rattle.reader.specs.Shown.{optionString}
 use Rattle.prototype.specs.declared.row.ListAt.{ListAt}
@@ -44,4 +44,4 @@ shownRow (some p) = option.Some (rowOf p)
 
 abbrev pub lookup : ℕ → ℕ → List Prototype → Option Prototype
 lookup n k [] = none
-lookup n k (p ∷ ps) = let later = lookup n (k + 1) ps in pick (eqb n k) (some p) later
+lookup n k (p ∷ ps) = let later = lookup n (k + 1) ps in cond (eqb n k) (some p) later

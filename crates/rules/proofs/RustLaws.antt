@@ -1,13 +1,12 @@
 -- The findings by groups are those of the Rust's list and flag.
 -- Assumes nothing.
 use mathlib.Core.Path.{_≡_, refl, ap, sym, _∙_}
-use mathlib.Core.Bool.{Bool, true, false, _||_}
+use mathlib.Core.Bool.{Bool, true, false, _||_, cond}
 use mathlib.Core.List.{List, [], _∷_, _++_, append-assoc, append-nil}
 use Prim.Native.Nat.{ℕ, zero, suc, _+_, _<_}
 use native.Mathlib.Omega.{arith}
 use lib.ListN.{length, length-append}
 use lib.Dec.{leb, ltb}
-use Rattle.format.specs.Pick.{pick}
 use Rattle.format.specs.Reading.{Prototype, Reading}
 use Rattle.rules.specs.Rules.{instruction}
 use Rattle.rules.specs.Findings.{MAX-DIAGNOSTICS, boundsOf, codeGroups, groups, Listing, ended, prepend, limited, chunkFindings}
@@ -29,7 +28,7 @@ module _ (max warnings : ℕ) where
 
   -- what follows a run that may have stopped
   abbrev onward : Listing → List (List Finding) → Listing
-  onward r gs = pick (r .stopped) r (from gs (r .findings))
+  onward r gs = cond (r .stopped) r (from gs (r .findings))
 
   one-group : (g l : List Finding) (gs : List (List Finding)) → leb max (warnings + length l) ≡ false → from (g ∷ gs) l ≡ from gs (l ++ g)
   unfolding limited

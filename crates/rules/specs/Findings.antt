@@ -3,12 +3,11 @@
 --     limited max n gs     the findings of groups, where there are n diagnostics already
 --     chunkFindings r      of a reading, whose warnings count
 --     verdict              on findings
-use mathlib.Core.Bool.{Bool, true, false, _||_}
+use mathlib.Core.Bool.{Bool, true, false, _||_, cond}
 use mathlib.Core.List.{List, [], _∷_, _++_}
 use Prim.Native.Nat.{ℕ, zero, suc, _+_}
 use lib.ListN.{length}
 use lib.Dec.{leb, ltb}
-use Rattle.format.specs.Pick.{pick}
 use Rattle.format.specs.Reading.{Prototype, Reading}
 use Rattle.rules.specs.declared.finding.Finding.{Finding}
 use Rattle.rules.specs.declared.finding.Severity.{Severity}
@@ -56,7 +55,7 @@ prepend l rest = record { findings = l ++ rest .findings; stopped = rest .stoppe
 -- at the end more than the maximum is a stop too
 unfoldable pub limited : ℕ → ℕ → List (List Finding) → Listing
 limited max n [] = ended (ltb max n)
-limited max n (g ∷ gs) = pick (leb max n) (ended true) (prepend g (limited max (n + length g) gs))
+limited max n (g ∷ gs) = cond (leb max n) (ended true) (prepend g (limited max (n + length g) gs))
 
 unfoldable pub chunkFindings : Reading → Listing
 chunkFindings r = limited MAX-DIAGNOSTICS (length (r .warnings)) (groups 0 (r .functions))
@@ -72,7 +71,7 @@ anyError [] = false
 anyError (f ∷ fs) = isError (severity (f .rule)) || anyError fs
 
 abbrev pub verdict : Listing → Verdict
-verdict l = pick (anyError (l .findings)) Invalid (pick (l .stopped) Incomplete ValidForAnalysis)
+verdict l = cond (anyError (l .findings)) Invalid (cond (l .stopped) Incomplete ValidForAnalysis)
 
 -- 01's word for each, in ASCII: valid-for-analysis, invalid, incomplete
 abbrev pub verdictWord : Verdict → List ℕ

@@ -4,13 +4,12 @@
 --     usesRegisterA        `uses_register_a`
 --     checkOf              which operand the Rust's `match op` holds against a bound
 --     instruction k b pc w     the findings of the word w, instruction pc of function k: the register's warning first, then the opcode's error
-use mathlib.Core.Bool.{Bool, true, false, not, _||_}
+use mathlib.Core.Bool.{Bool, true, false, not, _||_, cond}
 use mathlib.Core.List.{List, [], _∷_, _++_}
 use mathlib.Core.Option.{Option, none, some}
 use Prim.Native.Nat.{ℕ, _+_}
 use lib.Dec.{eqb, leb}
 use lib.IntN.{ℤ, pos, negsuc, _+ℤ_}
-use Rattle.format.specs.Pick.{pick}
 use Rattle.opcodes.specs.declared.opcode.Opcode54.{Opcode54}
 use Rattle.opcodes.specs.declared.opcode.Opcode54.the-variants as op
 use Rattle.opcodes.specs.declared.opcode.OptionOpcode54.{OptionOpcode54}
@@ -56,12 +55,12 @@ usesRegisterAt n = not (among n (op.Jmp ∷ op.Extraarg ∷ op.Settabup ∷ op.R
 
 abbrev pub checkAt : ℕ → Check
 checkAt n =
-    pick (among n (op.Loadk ∷ [])) check.Constant
-    (pick (among n (op.Getupval ∷ op.Setupval ∷ [])) check.Upvalue
-    (pick (among n (op.Gettabup ∷ [])) check.TableUpvalueB
-    (pick (among n (op.Settabup ∷ [])) check.TableUpvalueA
-    (pick (among n (op.Closure ∷ [])) check.Prototype
-    (pick (among n (op.Jmp ∷ [])) check.Jump
+    cond (among n (op.Loadk ∷ [])) check.Constant
+    (cond (among n (op.Getupval ∷ op.Setupval ∷ [])) check.Upvalue
+    (cond (among n (op.Gettabup ∷ [])) check.TableUpvalueB
+    (cond (among n (op.Settabup ∷ [])) check.TableUpvalueA
+    (cond (among n (op.Closure ∷ [])) check.Prototype
+    (cond (among n (op.Jmp ∷ [])) check.Jump
     check.Nothing)))))
 
 abbrev pub usesRegisterA : Opcode54 → Bool
@@ -72,7 +71,7 @@ checkOf o = checkAt (numberOf o)
 
 -- at or above its bound
 abbrev pub brokenRule : ℕ → ℕ → Rule → Option Rule
-brokenRule index bound rule = pick (leb bound index) (some rule) none
+brokenRule index bound rule = cond (leb bound index) (some rule) none
 
 -- `target_pc`: negative, or at least the number of instructions
 abbrev pub outside : ℤ → ℕ → Option Rule
@@ -84,7 +83,7 @@ abbrev pub jumpRule : ℕ → ℤ → ℕ → Option Rule
 jumpRule pc sj count = outside (pos (pc + 1) +ℤ sj) count
 
 abbrev pub registerRule : Opcode54 → ℕ → ℕ → Option Rule
-registerRule o a size = pick (usesRegisterA o) (brokenRule a size (Register a)) none
+registerRule o a size = cond (usesRegisterA o) (brokenRule a size (Register a)) none
 
 abbrev pub operandRule : Check → RawInstruction54 → Bounds → ℕ → Option Rule
 operandRule check.Nothing r b pc = none

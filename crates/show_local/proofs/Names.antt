@@ -1,7 +1,7 @@
 -- A local variable and its name, in the code's terms.
 -- Assumes nothing.
 use mathlib.Core.Path.{_≡_, refl, sym, _∙_, ap}
-use mathlib.Core.Bool.{Bool, true, false}
+use mathlib.Core.Bool.{Bool, true, false, cond}
 use mathlib.Core.List.{[], _∷_, _++_}
 use mathlib.Core.Option.{Option, none, some}
 use Prim.Native.Nat.{ℕ, _-_, _≤_, _<_}
@@ -10,7 +10,6 @@ use borrow.Author.Tests.{le-leb, lt-leb}
 use lib.Dec.{leb}
 use lib.ListN.{length, take, drop, set, length-drop}
 use lib.Seq.{length-take-le}
-use Rattle.format.specs.Pick.{pick}
 use Rattle.format.specs.declared.limits.ResourceLimits.{ResourceLimits}
 use Rattle.format.specs.declared.refusal.Refusal.{Refusal}
 use Rattle.format.specs.declared.refusal.Refusal.the-variants.{LentSpace}
@@ -144,8 +143,8 @@ module _ (L : ResourceLimits) (s : Bytes) (f i : ℕ) where
       local-short old h =
           let v = shown in
           let none : leb (length (v .value .name .bytes)) (length old) ≡ false = lt-leb _ _ (rw (v .same .size) at h) in (
-            sym (ap (shownLocal (length old)) (v .is) ∙ ap (λ b. pick b (answer.Ok (length (v .value .name .bytes)) (v .value .startpc) (v .value .endpc)) (answer.Err LentSpace)) none),
-            sym (ap (nameWritten old) (v .is) ∙ ap (λ b. pick b (v .value .name .bytes ++ drop (length (v .value .name .bytes)) old) old) none),
+            sym (ap (shownLocal (length old)) (v .is) ∙ ap (λ b. cond b (answer.Ok (length (v .value .name .bytes)) (v .value .startpc) (v .value .endpc)) (answer.Err LentSpace)) none),
+            sym (ap (nameWritten old) (v .is) ∙ ap (λ b. cond b (v .value .name .bytes ++ drop (length (v .value .name .bytes)) old) old) none),
           )
 
       -- the name is written
@@ -155,8 +154,8 @@ module _ (L : ResourceLimits) (s : Bytes) (f i : ℕ) where
           let v = shown in
           let room : leb (length (v .value .name .bytes)) (length old) ≡ true = le-leb _ _ (rw (v .same .size) at h) in (
             (λ j. answer.Ok (v .same .size j) (v .start j) (v .end j))
-                ∙ sym (ap (shownLocal (length old)) (v .is) ∙ ap (λ b. pick b (answer.Ok (length (v .value .name .bytes)) (v .value .startpc) (v .value .endpc)) (answer.Err LentSpace)) room),
+                ∙ sym (ap (shownLocal (length old)) (v .is) ∙ ap (λ b. cond b (answer.Ok (length (v .value .name .bytes)) (v .value .startpc) (v .value .endpc)) (answer.Err LentSpace)) room),
             e
                 ∙ (λ j. v .same .bytes j ++ drop (v .same .size j) old)
-                ∙ sym (ap (nameWritten old) (v .is) ∙ ap (λ b. pick b (v .value .name .bytes ++ drop (length (v .value .name .bytes)) old) old) room),
+                ∙ sym (ap (nameWritten old) (v .is) ∙ ap (λ b. cond b (v .value .name .bytes ++ drop (length (v .value .name .bytes)) old) old) room),
           )

@@ -1,9 +1,9 @@
 -- What is shown of a local variable, and what is written into the lent space.
+use mathlib.Core.Bool.{cond}
 use mathlib.Core.List.{[], _∷_, _++_}
 use Prim.Native.Nat.{ℕ, _-_, _≤_}
 use lib.Dec.{leb}
 use lib.ListN.{length, take, drop}
-use Rattle.format.specs.Pick.{pick}
 use Rattle.format.specs.declared.refusal.Refusal.the-variants.{LentSpace}
 use Rattle.format.specs.Form.{Bytes}
 use Rattle.format.specs.Reading.{LocalVar}
@@ -15,12 +15,12 @@ use Rattle.access.specs.Asked.{Asked, found, refused}
 
 -- `space` is how much is lent
 abbrev pub shownLocal : ℕ → Asked LocalVar → LocalAnswer
-shownLocal space (found l) = pick (leb (length (l .name .bytes)) space) (answer.Ok (length (l .name .bytes)) (l .startpc) (l .endpc)) (answer.Err LentSpace)
+shownLocal space (found l) = cond (leb (length (l .name .bytes)) space) (answer.Ok (length (l .name .bytes)) (l .startpc) (l .endpc)) (answer.Err LentSpace)
 shownLocal space (refused q) = answer.Err q
 
 -- the name, and beyond it what was there; on a refusal all is what was there
 abbrev pub nameWritten : Bytes → Asked LocalVar → Bytes
-nameWritten old (found l) = pick (leb (length (l .name .bytes)) (length old)) (l .name .bytes ++ drop (length (l .name .bytes)) old) old
+nameWritten old (found l) = cond (leb (length (l .name .bytes)) (length old)) (l .name .bytes ++ drop (length (l .name .bytes)) old) old
 nameWritten old (refused q) = old
 
 -- ## The same of the code's values

@@ -1,13 +1,13 @@
 -- Numbers as a request spells them.
 --     spelt base most s     the number that s spells in base, where it is at most `most`
 --     signedOf most s       the same in base 10 with a sign, from -most - 1 to most
+use mathlib.Core.Bool.{cond}
 use Prim.Native.Nat.{ℕ, _+_, _-_, _*_, _≤_}
 use mathlib.Core.List.{List, [], _∷_}
 use lib.Dec.{leb, ltb, eqb}
 use lib.ListN.{getD, drop}
 use lib.IntN.{ℤ, pos, negℤ}
 use lib.Signed.{mag}
-use Rattle.format.specs.Pick.{pick}
 use Rattle.text.specs.declared.number.Number.{Number}
 use Rattle.text.specs.declared.number.Number.the-variants.{Value, None}
 use Rattle.text.specs.declared.number.Integer.{Integer}
@@ -15,14 +15,14 @@ use Rattle.text.specs.declared.number.Integer.the-variants as integer
 
 -- a byte as a digit: `0` to `9`, then `a` to `f`, and 255 for any other
 abbrev pub digitOf : ℕ → ℕ
-digitOf b = pick (ltb b 48) 255 (pick (ltb b 58) (b - 48) (pick (ltb b 97) 255 (pick (ltb b 103) (b - 87) 255)))
+digitOf b = cond (ltb b 48) 255 (cond (ltb b 58) (b - 48) (cond (ltb b 97) 255 (cond (ltb b 103) (b - 87) 255)))
 
 -- the digits s behind the number n
 unfoldable pub spelling : ℕ → ℕ → ℕ → List ℕ → Number
 spelling base most n [] = Value n
 spelling base most n (b ∷ s) =
     let more = spelling base most (n * base + digitOf b) s in
-    pick (ltb (digitOf b) base) (pick (leb (n * base + digitOf b) most) more None) None
+    cond (ltb (digitOf b) base) (cond (leb (n * base + digitOf b) most) more None) None
 
 unfoldable pub spelt : ℕ → ℕ → List ℕ → Number
 spelt base most [] = None
@@ -38,7 +38,7 @@ negative None = integer.None
 
 -- 45 is `-`
 unfoldable pub signedOf : ℕ → List ℕ → Integer
-signedOf most s = pick (eqb (getD s 0 0) 45) (negative (spelt 10 (most + 1) (drop 1 s))) (positive (spelt 10 most s))
+signedOf most s = cond (eqb (getD s 0 0) 45) (negative (spelt 10 (most + 1) (drop 1 s))) (positive (spelt 10 most s))
 
 -- a number is at most m; an integer is from -m - 1 to m
 abbrev pub Most : ℕ → Number → Type 0

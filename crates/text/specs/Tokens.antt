@@ -3,12 +3,11 @@
 --     wordAt line at        the word that begins at a place
 --     numberAt most line at the number there, at most `most`; integerAt, the same with a sign
 use Prim.Native.Nat.{ℕ, suc, _+_, _-_, _≤_}
-use mathlib.Core.Bool.{Bool, true, false, _&&_}
+use mathlib.Core.Bool.{Bool, true, false, _&&_, cond}
 use mathlib.Core.List.{List, [], _∷_}
 use lib.Dec.{leb, eqb}
 use lib.ListN.{length, take, drop}
 use lib.Signed.{mag}
-use Rattle.format.specs.Pick.{pick}
 use Rattle.text.specs.declared.number.Number.{Number}
 use Rattle.text.specs.declared.number.Number.the-variants as numbers
 use Rattle.text.specs.declared.number.Integer.{Integer}
@@ -29,10 +28,10 @@ starts (a ∷ s) (b ∷ t) = eqb a b && starts s t
 -- how many bytes come before the first space, 32
 unfoldable pub wordLength : List ℕ → ℕ
 wordLength [] = 0
-wordLength (b ∷ s) = pick (eqb b 32) 0 (suc (wordLength s))
+wordLength (b ∷ s) = cond (eqb b 32) 0 (suc (wordLength s))
 
 abbrev pub wordAt : List ℕ → ℕ → Token
-wordAt line at = pick (leb at (length line)) (Word at (at + wordLength (drop at line))) None
+wordAt line at = cond (leb at (length line)) (Word at (at + wordLength (drop at line))) None
 
 -- the number that a word spells, and the place behind the space behind it
 abbrev pub numberThen : Number → ℕ → NumberAt

@@ -1,14 +1,13 @@
 -- There are at most as many findings as the maximum and one more: of a chunk at most 10,001 (`findings-few`).
 -- Assumes nothing.
 use mathlib.Core.Path.{_≡_, refl}
-use mathlib.Core.Bool.{Bool, true, false}
+use mathlib.Core.Bool.{Bool, true, false, cond}
 use mathlib.Core.List.{List, [], _∷_, _++_}
 use Prim.Native.Nat.{ℕ, zero, suc, _+_, _-_, _≤_, _<_}
 use native.Mathlib.Omega.{arith}
 use lib.ListN.{length, length-append}
 use lib.Dec.{leb}
 use borrow.Author.Tests.{leb-true, leb-false, le-leb}
-use Rattle.format.specs.Pick.{pick}
 use Rattle.format.specs.declared.limits.ResourceLimits.{ResourceLimits}
 use Rattle.format.specs.Form.{Bytes}
 use Rattle.format.proofs.Every.{All, all-append}
@@ -40,7 +39,7 @@ up-to max n [] few h = omega arith
 up-to max n (g ∷ gs) few h = go (leb max n) refl (up-to max (n + length g) gs (few .1))
   where
     go : (b : Bool) → leb max n ≡ b → (n + length g ≤ max + 1 → length (limited max (n + length g) gs .findings) + (n + length g) ≤ max + 1)
-        → length (pick b (ended true) (prepend g (limited max (n + length g) gs)) .findings) + n ≤ max + 1
+        → length (cond b (ended true) (prepend g (limited max (n + length g) gs)) .findings) + n ≤ max + 1
     go true e more = omega arith
     go false e more =
         let small = few .0 in

@@ -1,10 +1,9 @@
 -- What a position of the search stands for: the findings that are still to come.
 use Prim.Native.Nat.{ℕ, zero, suc, _+_, _-_}
-use mathlib.Core.Bool.{Bool, true, false, _||_}
+use mathlib.Core.Bool.{Bool, true, false, _||_, cond}
 use mathlib.Core.List.{List, [], _∷_, _++_}
 use lib.ListN.{length, drop, set, replicate}
 use lib.Dec.{leb, ltb}
-use Rattle.format.specs.Pick.{pick}
 use Rattle.format.specs.declared.limits.ResourceLimits.{ResourceLimits}
 use Rattle.format.specs.Form.{Bytes}
 use Rattle.format.specs.ReadFields.{field}
@@ -64,7 +63,7 @@ rowBounds row = record {
 }
 
 abbrev pub nextNumber : ℕ → ℕ
-nextNumber k = pick (ltb k 18446744073709551615) (k + 1) k
+nextNumber k = cond (ltb k 18446744073709551615) (k + 1) k
 
 -- the groups of functions, by their rows, of which the first has the number k
 unfoldable pub rowGroups : Bytes → ℕ → List Row → List (List Finding)

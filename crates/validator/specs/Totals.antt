@@ -1,8 +1,7 @@
 -- What is counted of a listing, and the verdict on that.
-use mathlib.Core.Bool.{Bool, true, false, _||_}
+use mathlib.Core.Bool.{Bool, true, false, _||_, cond}
 use Prim.Native.Nat.{ℕ, _+_}
 use lib.ListN.{length}
-use Rattle.format.specs.Pick.{pick}
 use Rattle.rules.specs.declared.finding.Verdict.{Verdict}
 use Rattle.rules.specs.declared.finding.Verdict.the-variants.{ValidForAnalysis, Invalid, Incomplete}
 use Rattle.validator.specs.declared.tally.Totals.{Totals}
@@ -16,4 +15,4 @@ abbrev pub tallied : Listing → Totals
 tallied l = record { count = length (l .findings); errors = anyError (l .findings); stopped = l .stopped }
 
 abbrev pub verdictShown : Totals → Verdict
-verdictShown t = pick (t .errors) Invalid (pick (t .stopped) Incomplete ValidForAnalysis)
+verdictShown t = cond (t .errors) Invalid (cond (t .stopped) Incomplete ValidForAnalysis)

@@ -1,14 +1,13 @@
 -- `rules::judge::check_of` meets its contract: an arm has the numbers of its opcodes, and at these `checkAt` has the arm's value.
 -- Assumes nothing.
 use mathlib.Core.Path.{_≡_, refl, ap, sym, _∙_}
-use mathlib.Core.Bool.{Bool}
+use mathlib.Core.Bool.{Bool, cond}
 use mathlib.Core.List.{List, [], _∷_}
 use Prim.Native.Nat.{ℕ, zero, suc}
 use lib.Dec.{T, eqb}
 use borrow.Author.Needs.{needs}
 use types.Run.{OneOf}
 use denote.Enum.Declared.{tagOf}
-use Rattle.format.specs.Pick.{pick}
 use Rattle.opcodes.specs.declared.opcode.Opcode54.{Opcode54}
 use Rattle.opcodes.proofs.opcode.Opcode54 as opcode
 use Rattle.opcodes.proofs.Tests.{each, keyed}
@@ -27,7 +26,7 @@ is k n = eqb (tagOf the-type k) (tagOf the-type (checkAt n))
 -- of k numbers from n on, those at which `checkAt` has c
 abbrev places : Check → ℕ → ℕ → List ℕ
 places c n zero = []
-places c n (suc k) = let more = places c (suc n) k in pick (is c n) (n ∷ more) more
+places c n (suc k) = let more = places c (suc n) k in cond (is c n) (n ∷ more) more
 
 arm : (k : Check) → T (each (places k 0 83) (is k)) → (o : Opcode54) → OneOf (places k 0 83) (tagOf opcode.the-type o) → k ≡ checkOf o
 arm k t o keys =

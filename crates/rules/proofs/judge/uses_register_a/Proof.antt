@@ -1,12 +1,11 @@
 -- `rules::judge::uses_register_a` meets its contract: an arm has the numbers of its opcodes. Assumes nothing.
 use mathlib.Core.Path.{_≡_, refl, ap, sym, _∙_}
-use mathlib.Core.Bool.{Bool, true, false, not}
+use mathlib.Core.Bool.{Bool, true, false, not, cond}
 use mathlib.Core.List.{List, [], _∷_}
 use Prim.Native.Nat.{ℕ, zero, suc}
 use lib.Dec.{T}
 use types.Run.{OneOf}
 use denote.Enum.Declared.{tagOf}
-use Rattle.format.specs.Pick.{pick}
 use Rattle.opcodes.specs.declared.opcode.Opcode54.{Opcode54}
 use Rattle.opcodes.proofs.opcode.Opcode54 as opcode
 use Rattle.opcodes.proofs.Tests.{each, keyed}
@@ -31,7 +30,7 @@ is b n = alike b (usesRegisterAt n)
 -- of k numbers from n on, those at which `usesRegisterAt` is b
 abbrev places : Bool → ℕ → ℕ → List ℕ
 places b n zero = []
-places b n (suc k) = let more = places b (suc n) k in pick (is b n) (n ∷ more) more
+places b n (suc k) = let more = places b (suc n) k in cond (is b n) (n ∷ more) more
 
 arm : (b : Bool) → T (each (places b 0 83) (is b)) → (o : Opcode54) → OneOf (places b 0 83) (tagOf opcode.the-type o) → b ≡ usesRegisterA o
 arm b t o keys =

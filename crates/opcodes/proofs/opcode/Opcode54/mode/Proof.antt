@@ -1,6 +1,6 @@
 -- `Opcode54::mode` meets its contract: the arm of a mode has the numbers at which the table has that mode. Assumes nothing.
 use mathlib.Core.Path.{_≡_, refl, ap, sym, _∙_}
-use mathlib.Core.Bool.{Bool}
+use mathlib.Core.Bool.{Bool, cond}
 use mathlib.Core.List.{List, [], _∷_}
 use Prim.Native.Nat.{ℕ, suc}
 use lib.Dec.{T, eqb, eqb→eq}
@@ -8,7 +8,6 @@ use lib.ListN.{getD}
 use borrow.Author.Needs.{needs}
 use types.Run.{OneOf}
 use denote.Enum.Declared.{tagOf}
-use Rattle.format.specs.Pick.{pick}
 use Rattle.opcodes.specs.declared.opcode.Opcode54.{Opcode54}
 use Rattle.opcodes.specs.declared.opcode.OpMode54.{OpMode54}
 use Rattle.opcodes.specs.declared.opcode.OpMode54.the-variants.{IABC, IABx, IAsBx, IAx, IsJ}
@@ -23,7 +22,7 @@ use Rattle.opcodes.proofs.opcode.Opcode54.mode.Tie as tie
 -- the numbers from n on at which a list of modes' numbers has m's
 abbrev places : OpMode54 → ℕ → List ℕ → List ℕ
 places m n [] = []
-places m n (x ∷ xs) = let more = places m (suc n) xs in pick (eqb (modeNumber m) x) (n ∷ more) more
+places m n (x ∷ xs) = let more = places m (suc n) xs in cond (eqb (modeNumber m) x) (n ∷ more) more
 
 abbrev is : OpMode54 → ℕ → Bool
 is m n = eqb (modeNumber m) (getD luaP-opmodes n iABC)
