@@ -127,6 +127,43 @@ Forest (suc n) F w = do
   more ← Forest n F (after ps w)
   Is (ps ++ more)
 
+-- the function of its parts, in the order of their bytes, with where it ends: for the grammar, the reader and Lua's loader
+module _
+    (w : Where) (start : ℕ) (spelt : Option LuaString) (line-defined last-line-defined numparams is-vararg maxstacksize : ℕ)
+    (instructions : Listed ℕ) (constants : Listed ConstantValue) (upvalues : Listed UpvalueDesc) (protos-at protos : ℕ)
+    (line-info : Listed ℕ) (abs-line-info : Listed AbsLineInfo) (loc-vars : Listed LocalVar) (upvalue-names : Listed (Option LuaString)) (end : ℕ) where
+  abbrev pub prototype : Prototype
+  prototype = record {
+    depth = w .depth;
+    parent = w .parent;
+    start = start;
+    end = end;
+    source-name = inherit spelt (w .source);
+    line-defined = line-defined;
+    last-line-defined = last-line-defined;
+    numparams = numparams;
+    is-vararg = is-vararg;
+    maxstacksize = maxstacksize;
+    instructions = instructions .items;
+    constants = constants .items;
+    upvalues = upvalues .items;
+    protos = protos;
+    line-info = line-info .items;
+    abs-line-info = abs-line-info .items;
+    loc-vars = loc-vars .items;
+    upvalue-names = upvalue-names .items;
+    places = record {
+      instructions = instructions .place;
+      constants = constants .place;
+      upvalues = upvalues .place;
+      protos = protos-at;
+      line-info = line-info .place;
+      abs-line-info = abs-line-info .place;
+      loc-vars = loc-vars .place;
+      upvalue-names = upvalue-names .place;
+    };
+  }
+
 -- a function and all that nest in it, where F is the form of one that nests directly in it. `loadFunction`, whose numbers are ints
 unfoldable pub Body : ResourceLimits → (Where → Form (List Prototype)) → Where → Form (List Prototype)
 Body L F w = do
@@ -155,36 +192,7 @@ Body L F w = do
   loc-vars ← Counted (Local (L .«max_string_bytes»))
   upvalue-names ← Counted (String (L .«max_string_bytes»))
   end ← Here
-  Is (record {
-    depth = w .depth;
-    parent = w .parent;
-    start = start;
-    end = end;
-    source-name = inherit spelt (w .source);
-    line-defined = line-defined;
-    last-line-defined = last-line-defined;
-    numparams = numparams;
-    is-vararg = is-vararg;
-    maxstacksize = maxstacksize;
-    instructions = instructions;
-    constants = constants .items;
-    upvalues = upvalues .items;
-    protos = protos;
-    line-info = line-info;
-    abs-line-info = abs-line-info .items;
-    loc-vars = loc-vars .items;
-    upvalue-names = upvalue-names .items;
-    places = record {
-      instructions = instructions-at;
-      constants = constants .place;
-      upvalues = upvalues .place;
-      protos = protos-at;
-      line-info = line-info-at;
-      abs-line-info = abs-line-info .place;
-      loc-vars = loc-vars .place;
-      upvalue-names = upvalue-names .place;
-    };
-  } ∷ nested)
+  Is (prototype w start spelt line-defined last-line-defined numparams is-vararg maxstacksize (record { place = instructions-at; items = instructions }) constants upvalues protos-at protos (record { place = line-info-at; items = line-info }) abs-line-info loc-vars upvalue-names end ∷ nested)
 
 -- a function below which functions nest at most `left` deep. The nested function with the number k is the k-th, and k is at most the limit of nested functions
 unfoldable pub Function : ResourceLimits → ℕ → Where → Form (List Prototype)

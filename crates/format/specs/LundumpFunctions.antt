@@ -19,7 +19,7 @@ use Rattle.format.specs.Form.{Bytes, Below, Form, Then, _>>=_, _>>_, Is,
 use Rattle.format.specs.GrammarFields.{Field, LuaString}
 use Rattle.format.specs.GrammarHeader.{Headed, signature, luacData, luacInt, luacNum, headerOf}
 use Rattle.format.specs.Reading.{ConstantValue, nil, boolean, integer, float, short-string, long-string, LocalVar, Places, Prototype}
-use Rattle.format.specs.GrammarChunk.{Listed, inherit, Where, after, within, Loaded, outermost}
+use Rattle.format.specs.GrammarChunk.{Listed, inherit, Where, after, within, prototype, Loaded, outermost}
 use Rattle.format.specs.Lundump.{loaded, loadSize, loadInt}
 
 -- the bytes that `loadSize` and `loadInt` take to the last. Ours is a number for both: an int is below 2^31 - 128 here
@@ -173,36 +173,7 @@ LoadFunction (suc left) w = do
   p ← LoadProtos n (LoadFunction left) (within w (inherit source (w .source)) (length (code .items)))
   debug ← LoadDebug
   end ← Here
-  Is (record {
-    depth = w .depth;
-    parent = w .parent;
-    start = start;
-    end = end;
-    source-name = inherit source (w .source);
-    line-defined = linedefined;
-    last-line-defined = lastlinedefined;
-    numparams = numparams;
-    is-vararg = is-vararg;
-    maxstacksize = maxstacksize;
-    instructions = code .items;
-    constants = k .items;
-    upvalues = upvalues .items;
-    protos = n;
-    line-info = debug .lineinfo;
-    abs-line-info = debug .abslineinfo .items;
-    loc-vars = debug .locvars .items;
-    upvalue-names = debug .upvalue-names .items;
-    places = record {
-      instructions = code .place;
-      constants = k .place;
-      upvalues = upvalues .place;
-      protos = protos-at;
-      line-info = debug .lineinfo-at;
-      abs-line-info = debug .abslineinfo .place;
-      loc-vars = debug .locvars .place;
-      upvalue-names = debug .upvalue-names .place;
-    };
-  } ∷ p)
+  Is (prototype w start source linedefined lastlinedefined numparams is-vararg maxstacksize code k upvalues protos-at n (record { place = debug .lineinfo-at; items = debug .lineinfo }) (debug .abslineinfo) (debug .locvars) (debug .upvalue-names) end ∷ p)
 
 -- LUA_SIGNATURE, LUAC_VERSION, LUAC_FORMAT, LUAC_DATA, sizes, LUAC_INT, LUAC_NUM. Ours takes any format byte. In C the signature's first byte was read and compared before,
 -- by the caller (ldo.c's `f_parser`), and here is checkliteral(S, &LUA_SIGNATURE[1], ..)

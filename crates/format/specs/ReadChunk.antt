@@ -25,7 +25,7 @@ use Rattle.format.specs.Form.{Bytes}
 use Rattle.format.specs.GrammarFields.{LuaString}
 use Rattle.format.specs.Limits.{withinCeilings}
 use Rattle.format.specs.Reading.{ConstantValue, nil, boolean, integer, float, short-string, long-string, LocalVar, Places, Prototype, Reading}
-use Rattle.format.specs.GrammarChunk.{Listed, inherit, Where, after, within, outermost, Loaded, reading}
+use Rattle.format.specs.GrammarChunk.{Listed, inherit, Where, after, within, prototype, outermost, Loaded, reading}
 use Rattle.format.specs.Read.{Read, ok, refused, Reader, next, _>>=_, _>>_, give, here, refuse, atMost, run, many}
 use Rattle.format.specs.ReadFields.{field, byte, number, string}
 use Rattle.format.specs.ReadHeader.{header}
@@ -138,36 +138,7 @@ body L r w = do
   loc-vars ← counted (local (L .«max_string_bytes»))
   upvalue-names ← counted (string (L .«max_string_bytes»))
   end ← here
-  give (record {
-    depth = w .depth;
-    parent = w .parent;
-    start = start;
-    end = end;
-    source-name = inherit spelt (w .source);
-    line-defined = line-defined;
-    last-line-defined = last-line-defined;
-    numparams = numparams;
-    is-vararg = is-vararg;
-    maxstacksize = maxstacksize;
-    instructions = instructions;
-    constants = constants .items;
-    upvalues = upvalues .items;
-    protos = protos;
-    line-info = line-info;
-    abs-line-info = abs-line-info .items;
-    loc-vars = loc-vars .items;
-    upvalue-names = upvalue-names .items;
-    places = record {
-      instructions = instructions-at;
-      constants = constants .place;
-      upvalues = upvalues .place;
-      protos = protos-at;
-      line-info = line-info-at;
-      abs-line-info = abs-line-info .place;
-      loc-vars = loc-vars .place;
-      upvalue-names = upvalue-names .place;
-    };
-  } ∷ nested)
+  give (prototype w start spelt line-defined last-line-defined numparams is-vararg maxstacksize (record { place = instructions-at; items = instructions }) constants upvalues protos-at protos (record { place = line-info-at; items = line-info }) abs-line-info loc-vars upvalue-names end ∷ nested)
 
 -- `enter_proto`: at the place where a nested function begins, first whether it is too deep, then whether it is one too many
 unfoldable pub function : ResourceLimits → ℕ → Where → Reader (List Prototype)

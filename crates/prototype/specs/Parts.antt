@@ -9,7 +9,7 @@ use Rattle.format.specs.declared.entry.UpvalueDesc.{UpvalueDesc}
 use Rattle.format.specs.declared.entry.AbsLineInfo.{AbsLineInfo}
 use Rattle.format.specs.GrammarFields.{LuaString}
 use Rattle.format.specs.Reading.{ConstantValue, LocalVar, Prototype}
-use Rattle.format.specs.GrammarChunk.{Listed, inherit, Where, within}
+use Rattle.format.specs.GrammarChunk.{Listed, inherit, Where, within, prototype}
 use Rattle.format.specs.Read.{Read, Reader, next, _>>=_, _>>_, give, here}
 use Rattle.format.specs.ReadFields.{string}
 use Rattle.format.specs.ReadChunk.{counted, countedUpTo, constant, upvalue, anchor, local, forest}
@@ -58,36 +58,10 @@ tail limit = do
 
 -- the function of its parts
 abbrev pub prototypeOf : Where → ℕ → Head → Tail → ℕ → Prototype
-prototypeOf w start h t end = record {
-  depth = w .depth;
-  parent = w .parent;
-  start = start;
-  end = end;
-  source-name = inherit (h .front .source) (w .source);
-  line-defined = h .front .lines .«line_defined»;
-  last-line-defined = h .front .lines .«last_line_defined»;
-  numparams = h .front .sizes .numparams;
-  is-vararg = h .front .sizes .«is_vararg»;
-  maxstacksize = h .front .sizes .maxstacksize;
-  instructions = h .lists .instructions .items;
-  constants = h .lists .constants .items;
-  upvalues = h .lists .upvalues .items;
-  protos = h .protos .count;
-  line-info = t .line-info .items;
-  abs-line-info = t .abs-line-info .items;
-  loc-vars = t .loc-vars .items;
-  upvalue-names = t .upvalue-names .items;
-  places = record {
-    instructions = h .lists .instructions .place;
-    constants = h .lists .constants .place;
-    upvalues = h .lists .upvalues .place;
-    protos = h .protos .place;
-    line-info = t .line-info .place;
-    abs-line-info = t .abs-line-info .place;
-    loc-vars = t .loc-vars .place;
-    upvalue-names = t .upvalue-names .place;
-  };
-}
+prototypeOf w start h t end =
+    prototype w start (h .front .source) (h .front .lines .«line_defined») (h .front .lines .«last_line_defined») (h .front .sizes .numparams) (h .front .sizes .«is_vararg») (h .front .sizes .maxstacksize)
+    (h .lists .instructions) (h .lists .constants) (h .lists .upvalues) (h .protos .place) (h .protos .count)
+    (t .line-info) (t .abs-line-info) (t .loc-vars) (t .upvalue-names) end
 
 -- where the first function stands that nests in w's
 abbrev pub inside : Where → Head → Where
