@@ -3,14 +3,14 @@
 --     shownCopy space o        the same; 26 where the space is shorter, after every other refusal
 --     copyWritten old o        what then stands in the lent memory that held `old`
 use mathlib.Core.Bool.{cond}
-use mathlib.Core.List.{_++_}
 use Prim.Native.Nat.{ℕ}
 use lib.Dec.{leb}
-use lib.ListN.{length, drop}
+use lib.ListN.{length}
 use Rattle.format.specs.declared.refusal.Refusal.the-variants.{LentSpace}
 use Rattle.format.specs.Form.{Bytes}
 use Rattle.format.specs.ReadChunk.{Outcome, shown, refusal}
 use Rattle.format.specs.Copy.{copy}
+use Rattle.lent.specs.Over.{over}
 use Rattle.copy.specs.declared.whole.CopyAnswer.{CopyAnswer}
 use Rattle.copy.specs.declared.whole.CopyAnswer.the-variants as answer
 
@@ -24,5 +24,5 @@ shownCopy space (refusal q) = answer.Err q
 
 -- the copy, and behind it what stood there; on any refusal all that stood there
 abbrev pub copyWritten : Bytes → Outcome → Bytes
-copyWritten old (shown r) = cond (leb (length (copy r)) (length old)) (copy r ++ drop (length (copy r)) old) old
+copyWritten old (shown r) = over (copy r) old
 copyWritten old (refusal q) = old

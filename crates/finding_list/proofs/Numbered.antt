@@ -4,16 +4,21 @@
 --     all-put      what the last leaves, by the plan
 -- Assumes nothing.
 use mathlib.Core.Path.{_≡_, refl, sym, ap, _∙_}
+use mathlib.Core.Bool.{Bool, true, false, cond}
 use mathlib.Core.List.{List, [], _∷_, _++_}
 use Prim.Native.Nat.{ℕ, _+_, _*_, _/_, _<_, _≤_}
 use native.Mathlib.Numerals.{add-one}
 use native.Mathlib.Omega.{arith}
+use lib.Dec.{leb}
 use lib.ListN.{length, getD, take, drop}
 use lib.Seq.{take-suc, length-take-le}
-use Rattle.format.specs.ReadChunk.{Outcome}
+use borrow.Author.Tests.{leb-true, leb-false, le-leb, lt-leb}
+use Rattle.format.specs.ReadChunk.{Outcome, shown, refusal}
+use Rattle.lent.specs.Over.{over}
 use Rattle.lent.specs.Splice.{splice}
 use Rattle.lent.proofs.Splices.{splice-none, splice-then, splice-front}
 use Rattle.rules.specs.declared.finding.Finding.{Finding}
+use Rattle.rules.specs.Findings.{chunkFindings}
 use Rattle.finding_plan.specs.Validated.{foundIn}
 use Rattle.finding_list.specs.FindingNumbers.{findingNumbers, listNumbers, numbersWritten}
 
@@ -49,5 +54,18 @@ module _ (fs : List Finding) (old : List ℕ) where
       ∙ splice-then 0 (listNumbers (take k fs)) (findingNumbers f) old (omega (arith, size))
       ∙ ap (λ (l : List ℕ). splice 0 l old) (sym more)
 
+  -- there is room for four numbers each exactly where there is room for them
+  all-or-none : (o : Outcome) → listNumbers (foundIn (length old / 4) o) ++ drop (length (listNumbers (foundIn (length old / 4) o))) old ≡ numbersWritten old o
+  unfolding listNumbers
+  all-or-none (refusal q) = refl
+  all-or-none (shown r) = by (leb (length (chunkFindings r .findings)) (length old / 4)) refl
+    where
+      all : List Finding
+      all = chunkFindings r .findings
+
+      by : (t : Bool) → leb (length all) (length old / 4) ≡ t → listNumbers (cond t all []) ++ drop (length (listNumbers (cond t all []))) old ≡ over (listNumbers all) old
+      by true is = let room = leb-true (length all) (length old / 4) is in rw (le-leb (length (listNumbers all)) (length old) (omega (arith, numbers-length all)))
+      by false is = let short = leb-false (length all) (length old / 4) is in rw (lt-leb (length (listNumbers all)) (length old) (omega (arith, numbers-length all)))
+
   pub all-put : (count : ℕ) (o : Outcome) (out : List ℕ) → take count fs ≡ foundIn (length old / 4) o → out ≡ splice 0 (listNumbers (take count fs)) old → out ≡ numbersWritten old o
-  all-put count o out found is = is ∙ splice-front (listNumbers (take count fs)) old ∙ ap (λ (l : List Finding). listNumbers l ++ drop (length (listNumbers l)) old) found
+  all-put count o out found is = is ∙ splice-front (listNumbers (take count fs)) old ∙ ap (λ (l : List Finding). listNumbers l ++ drop (length (listNumbers l)) old) found ∙ all-or-none o

@@ -1,17 +1,17 @@
 -- The findings of a chunk as numbers in a lent list, four each.
 --     findingNumbers f         of a finding: its function, its instruction, its rule and the offending number (a jump's target is signed)
 --     ofFindings               the verdict, and how many findings there are
---     numbersWritten old o     what stands in the list that held `old`, where o was read: the numbers of the findings, and behind them what stood there; on any refusal all that stood there
+--     numbersWritten old o     what then stands in the list that held `old`
 use mathlib.Core.List.{List, [], _∷_, _++_}
-use Prim.Native.Nat.{ℕ, _/_}
-use lib.ListN.{length, drop}
-use Rattle.format.specs.ReadChunk.{Outcome}
+use Prim.Native.Nat.{ℕ}
+use Rattle.format.specs.ReadChunk.{Outcome, shown, refusal}
+use Rattle.lent.specs.Over.{over}
 use Rattle.rules.specs.declared.finding.Finding.{Finding}
 use Rattle.rules.specs.declared.finding.Rule.{Rule}
 use Rattle.rules.specs.declared.finding.Rule.the-variants.{Opcode, Register, Constant, Upvalue, TableUpvalue, Prototype, Jump}
+use Rattle.rules.specs.Findings.{chunkFindings}
 use Rattle.finding_plan.specs.declared.FindingsAnswer.{FindingsAnswer}
 use Rattle.finding_plan.specs.declared.FindingsAnswer.the-variants as answer
-use Rattle.finding_plan.specs.Validated.{foundIn}
 use Rattle.boundary.specs.Status.{Answer, done, refuses, complement}
 use Rattle.numbers.specs.Numbers.{verdictNumber}
 
@@ -44,9 +44,7 @@ abbrev pub ofFindings : FindingsAnswer → Answer
 ofFindings (answer.Ok v n) = done (verdictNumber v ∷ n ∷ [])
 ofFindings (answer.Err q) = refuses q
 
--- numbers at the front of a list
-abbrev pub overFront : List ℕ → List ℕ → List ℕ
-overFront new old = new ++ drop (length new) old
-
+-- the numbers, and behind them what stood there; on any refusal all that stood there
 abbrev pub numbersWritten : List ℕ → Outcome → List ℕ
-numbersWritten old o = overFront (listNumbers (foundIn (length old / 4) o)) old
+numbersWritten old (shown r) = over (listNumbers (chunkFindings r .findings)) old
+numbersWritten old (refusal q) = old

@@ -25,7 +25,8 @@ use Rattle.rules.specs.declared.finding.Verdict.{Verdict}
 use Rattle.validator.specs.declared.search.Position.{Position}
 use Rattle.validator.specs.declared.tally.Totals.{Totals}
 use Rattle.finding_plan.specs.declared.FindingsAnswer.the-variants as answer
-use Rattle.finding_plan.specs.Validated.{listingAnswer, listingWritten, shownFindings, findingsWritten, foundIn}
+use Rattle.lent.specs.Over.{over}
+use Rattle.finding_plan.specs.Validated.{listingAnswer, shownFindings, findingsWritten, foundIn}
 use Rattle.finding_plan.specs.Plan.{refusedPlan, planOf, written, Planned}
 
 pub was-refused : (o : Outcome) (q : Refusal) → decoded.Err q ≡ decodedResult 0 o → o ≡ refusal q
@@ -51,8 +52,8 @@ module _ (L : ResourceLimits) (s : Bytes) (room : ℕ) (start : Position) where
     answer-is : shownFindings room (read L s) ≡ listingAnswer room all
     answer-is = ap (shownFindings room) is ∙ ap (listingAnswer room) (sym same)
 
-    list-is : (old : List Finding) → findingsWritten old (read L s) ≡ listingWritten old (all .findings)
-    list-is old = ap (findingsWritten old) is ∙ ap (λ l. listingWritten old (l .findings)) (sym same)
+    list-is : (old : List Finding) → findingsWritten old (read L s) ≡ over (all .findings) old
+    list-is old = ap (findingsWritten old) is ∙ ap (λ l. over (l .findings) old) (sym same)
 
     found-is : foundIn room (read L s) ≡ cond (leb (length (all .findings)) room) (all .findings) []
     found-is = ap (foundIn room) is ∙ ap (λ l. cond (leb (length (l .findings)) room) (l .findings) []) (sym same)

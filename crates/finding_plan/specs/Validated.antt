@@ -3,12 +3,13 @@
 --     findingsWritten old o        what then stands in the list that held `old`
 --     foundIn room o               the findings that are written where there is room for so many: all, or on a refusal none
 use mathlib.Core.Bool.{cond}
-use mathlib.Core.List.{List, [], _++_}
+use mathlib.Core.List.{List, []}
 use Prim.Native.Nat.{ℕ}
 use lib.Dec.{leb}
-use lib.ListN.{length, drop}
+use lib.ListN.{length}
 use Rattle.format.specs.declared.refusal.Refusal.the-variants.{LentSpace}
 use Rattle.format.specs.ReadChunk.{Outcome, shown, refusal}
+use Rattle.lent.specs.Over.{over}
 use Rattle.rules.specs.declared.finding.Finding.{Finding}
 use Rattle.rules.specs.Findings.{Listing, chunkFindings, verdict}
 use Rattle.finding_plan.specs.declared.FindingsAnswer.{FindingsAnswer}
@@ -18,17 +19,13 @@ use Rattle.finding_plan.specs.declared.FindingsAnswer.the-variants as an
 abbrev pub listingAnswer : ℕ → Listing → FindingsAnswer
 listingAnswer room l = cond (leb (length (l .findings)) room) (answer.Ok (verdict l) (length (l .findings))) (answer.Err LentSpace)
 
--- the findings, and behind them what stood there; where there is no room for them, all that stood there
-abbrev pub listingWritten : List Finding → List Finding → List Finding
-listingWritten old new = cond (leb (length new) (length old)) (new ++ drop (length new) old) old
-
 abbrev pub shownFindings : ℕ → Outcome → FindingsAnswer
 shownFindings room (shown r) = listingAnswer room (chunkFindings r)
 shownFindings room (refusal q) = answer.Err q
 
--- on any refusal all that stood there
+-- the findings, and behind them what stood there; on any refusal all that stood there
 abbrev pub findingsWritten : List Finding → Outcome → List Finding
-findingsWritten old (shown r) = listingWritten old (chunkFindings r .findings)
+findingsWritten old (shown r) = over (chunkFindings r .findings) old
 findingsWritten old (refusal q) = old
 
 abbrev pub foundIn : ℕ → Outcome → List Finding

@@ -7,10 +7,11 @@ use mathlib.Core.Bool.{cond}
 use mathlib.Core.List.{List, [], _∷_, _++_}
 use Prim.Native.Nat.{ℕ}
 use lib.Dec.{leb}
-use lib.ListN.{length, drop}
+use lib.ListN.{length}
 use Rattle.format.specs.declared.refusal.Refusal.the-variants.{LentSpace}
 use Rattle.format.specs.Reading.{Prototype}
 use Rattle.format.specs.ReadChunk.{Outcome, shown, refusal}
+use Rattle.lent.specs.Over.{over}
 use Rattle.index.specs.declared.IndexAnswer.{IndexAnswer}
 use Rattle.index.specs.declared.IndexAnswer.the-variants as answer
 
@@ -42,5 +43,5 @@ shownIndex space (refusal q) = answer.Err q
 
 -- the index, and behind it what stood there; on any refusal all that stood there
 abbrev pub indexWritten : List ℕ → Outcome → List ℕ
-indexWritten old (shown r) = cond (leb (length (index (r .functions))) (length old)) (index (r .functions) ++ drop (length (index (r .functions))) old) old
+indexWritten old (shown r) = over (index (r .functions)) old
 indexWritten old (refusal q) = old

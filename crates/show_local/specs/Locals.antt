@@ -1,12 +1,13 @@
 -- What is shown of a local variable, and what is written into the lent space.
 use mathlib.Core.Bool.{cond}
-use mathlib.Core.List.{[], _∷_, _++_}
+use mathlib.Core.List.{[], _∷_}
 use Prim.Native.Nat.{ℕ, _-_, _≤_}
 use lib.Dec.{leb}
 use lib.ListN.{length, take, drop}
 use Rattle.format.specs.declared.refusal.Refusal.the-variants.{LentSpace}
 use Rattle.format.specs.Form.{Bytes}
 use Rattle.format.specs.Reading.{LocalVar}
+use Rattle.lent.specs.Over.{over}
 use Rattle.reader.specs.declared.string.OptionString.{OptionString}
 use Rattle.reader.specs.declared.string.OptionString.the-variants as string
 use Rattle.show_local.specs.declared.LocalAnswer.{LocalAnswer}
@@ -20,7 +21,7 @@ shownLocal space (refused q) = answer.Err q
 
 -- the name, and beyond it what was there; on a refusal all is what was there
 abbrev pub nameWritten : Bytes → Asked LocalVar → Bytes
-nameWritten old (found l) = cond (leb (length (l .name .bytes)) (length old)) (l .name .bytes ++ drop (length (l .name .bytes)) old) old
+nameWritten old (found l) = over (l .name .bytes) old
 nameWritten old (refused q) = old
 
 -- ## The same of the code's values
