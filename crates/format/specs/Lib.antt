@@ -1,3 +1,5 @@
+pub mod Any
+pub mod Ascii
 pub mod Limits
 pub mod Refusals
 pub mod Warnings

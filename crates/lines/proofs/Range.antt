@@ -2,8 +2,8 @@
 --     plus-delta       one delta moves a line by at most 128
 --     sums-fit         so each line on the way through a file's deltas fits
 -- Assumes nothing.
-use mathlib.Core.Path.{_≡_, refl}
-use mathlib.Core.Bool.{Bool, true, false, cond}
+use mathlib.Core.Path.{_≡_, refl, sym, _∙_}
+use mathlib.Core.Bool.{Bool, true, false, _||_, or-false}
 use mathlib.Core.List.{List, [], _∷_}
 use Prim.Native.Nat.{ℕ, suc, _+_, _-_, _*_, _^_, _≤_, _<_}
 use native.Mathlib.Omega.{arith}
@@ -53,10 +53,10 @@ abbrev Low : AbsLineInfo → Type 0
 Low a = a .line < 2 ^ 62
 
 all-low : (line : ℕ) (anchors : List AbsLineInfo) → large line anchors ≡ false → (line < 2 ^ 62) × All Low anchors
-all-low line [] e = (leb-false (2 ^ 62) line e, tt)
+all-low line [] e = (leb-false (2 ^ 62) line (sym (or-false (leb (2 ^ 62) line)) ∙ e), tt)
 all-low line (a ∷ more) e = by (leb (2 ^ 62) line) refl e (all-low (a .line) more)
   where
-    by : (t : Bool) → leb (2 ^ 62) line ≡ t → cond t true (large (a .line) more) ≡ false → (large (a .line) more ≡ false → Low a × All Low more) → (line < 2 ^ 62) × (Low a × All Low more)
+    by : (t : Bool) → leb (2 ^ 62) line ≡ t → (t || large (a .line) more) ≡ false → (large (a .line) more ≡ false → Low a × All Low more) → (line < 2 ^ 62) × (Low a × All Low more)
     by true is e go = absurd (let z : _≡_ {A = ℕ} 0 1 = cc in omega arith)
     by false is e go = (leb-false (2 ^ 62) line is, go e)
 

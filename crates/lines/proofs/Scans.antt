@@ -5,7 +5,7 @@
 --     scanned-small    else the base and the reset are below 2^62
 -- Assumes nothing.
 use mathlib.Core.Path.{_≡_, refl, sym, _∙_, ap}
-use mathlib.Core.Bool.{Bool, true, false, cond}
+use mathlib.Core.Bool.{Bool, true, false, cond, _||_, or-false}
 use mathlib.Core.List.{List, [], _∷_}
 use mathlib.Core.Option.{Option, none, some, Option·map}
 use Prim.Native.Nat.{ℕ, zero, suc, _-_, _^_, _≤_}
@@ -72,11 +72,11 @@ module _ (ds : Bytes) (pc : ℕ) where
   large-stays z (a ∷ more) e = large-stays (passed ds pc z a) more (ap (λ b. orLarge b (a .line)) e)
 
   large-from : (line : ℕ) (z : Scan) (anchors : List AbsLineInfo) → z .large ≡ leb (2 ^ 62) line → scanned ds pc z anchors .large ≡ large line anchors
-  large-from line z [] e = e
+  large-from line z [] e = e ∙ sym (or-false (leb (2 ^ 62) line))
   large-from line z (a ∷ more) e = by (leb (2 ^ 62) line) e (large-from (a .line) (passed ds pc z a) more)
     where
       by : (t : Bool) → z .large ≡ t → (orLarge (z .large) (a .line) ≡ leb (2 ^ 62) (a .line) → scanned ds pc (passed ds pc z a) more .large ≡ large (a .line) more)
-          → scanned ds pc (passed ds pc z a) more .large ≡ cond t true (large (a .line) more)
+          → scanned ds pc (passed ds pc z a) more .large ≡ (t || large (a .line) more)
       by true e go = large-stays (passed ds pc z a) more (ap (λ b. orLarge b (a .line)) e)
       by false e go = go (ap (λ b. orLarge b (a .line)) e)
 

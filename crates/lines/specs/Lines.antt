@@ -4,8 +4,8 @@
 --     the delta at the base itself is added too; there adding starts just behind it
 --     a delta of −128 takes the line of an anchor at its pc, and without one leaves the line; there an assertion says that it is not met
 --     as many anchors as instructions are taken one for each; there they are as any others
-use mathlib.Core.Bool.{Bool, true, cond}
-use mathlib.Core.List.{List, [], _∷_}
+use mathlib.Core.Bool.{Bool, cond}
+use mathlib.Core.List.{List, [], _∷_, map}
 use mathlib.Core.Option.{Option, none, some, Option·getD, Option·map}
 use Prim.Native.Nat.{ℕ, _+_, _^_}
 use lib.Dec.{eqb, leb}
@@ -13,6 +13,7 @@ use lib.IntN.{ℤ, pos, negsuc, _+ℤ_}
 use lib.ListN.{length, take, drop, getElem?}
 use mir.Syntax.{w8}
 use mir.Val.{toZ}
+use Rattle.format.specs.Any.{any}
 use Rattle.format.specs.declared.entry.AbsLineInfo.{AbsLineInfo}
 use Rattle.format.specs.declared.refusal.Refusal.the-variants.{LineTooLarge}
 use Rattle.format.specs.Form.{Bytes}
@@ -71,8 +72,7 @@ lineOf instructions line-defined deltas anchors pc = Option·getD (rule1 deltas 
 -- ## The answer
 -- the first line or an anchor's line is 2^62 or more: refusal 25
 abbrev pub large : ℕ → List AbsLineInfo → Bool
-large line [] = leb (2 ^ 62) line
-large line (a ∷ more) = let others = large (a .line) more in cond (leb (2 ^ 62) line) true others
+large line anchors = any (leb (2 ^ 62)) (line ∷ map (λ (a : AbsLineInfo). a .line) anchors)
 
 abbrev pub answerOf : ℕ → ℕ → Bytes → List AbsLineInfo → ℕ → LineAnswer
 answerOf instructions line-defined deltas anchors pc = cond (large line-defined anchors) (answer.Err LineTooLarge) (answer.Ok (lineOf instructions line-defined deltas anchors pc))

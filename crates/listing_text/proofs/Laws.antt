@@ -14,6 +14,7 @@ use Rattle.print.specs.Output.{Waiting, putOf, puts, Digits}
 use Rattle.format.specs.declared.refusal.Refusal.{Refusal}
 use Rattle.format.specs.Refusals.{reported}
 use Rattle.rules.specs.declared.finding.Verdict.{Verdict}
+use Rattle.format.specs.Ascii.{ascii}
 use Rattle.rules.specs.Findings.{verdictWord}
 use Rattle.listing_text.specs.Lines.{digitsUpTo, decimal, spaced, firstLine, atPlace, refusalLine}
 
@@ -68,12 +69,12 @@ module _ (ns : List ℕ) (i : ℕ) (w : Waiting) where
 
 -- ## Lines
 module _ (w : Waiting) {w₁ w₂ w₃ : Waiting} where
-  pub refusal-put : (q : Refusal) → w₁ ≡ puts ((114 ∷ 101 ∷ 102 ∷ 117 ∷ 115 ∷ 101 ∷ 100 ∷ 32 ∷ []) ++ decimal (reported q .number)) w → w₂ ≡ puts (atPlace (reported q .place)) w₁ → w₃ ≡ puts (10 ∷ []) w₂ → w₃ ≡ puts (refusalLine q) w
+  pub refusal-put : (q : Refusal) → w₁ ≡ puts (ascii "refused " ++ decimal (reported q .number)) w → w₂ ≡ puts (atPlace (reported q .place)) w₁ → w₃ ≡ puts (10 ∷ []) w₂ → w₃ ≡ puts (refusalLine q) w
   unfolding refusalLine
   refusal-put q e f g = then _ (atPlace (reported q .place) ++ (10 ∷ [])) w e (then (atPlace (reported q .place)) (10 ∷ []) w₁ f g)
 
   module _ {w₄ w₅ w₆ : Waiting} (bytes functions trailing : ℕ) (v : Verdict) where
-    pub first-put : w₁ ≡ puts ((99 ∷ 104 ∷ 117 ∷ 110 ∷ 107 ∷ 32 ∷ []) ++ decimal bytes) w → w₂ ≡ puts ((32 ∷ 102 ∷ 117 ∷ 110 ∷ 99 ∷ 116 ∷ 105 ∷ 111 ∷ 110 ∷ 115 ∷ 32 ∷ []) ++ decimal functions) w₁ → w₃ ≡ puts ((32 ∷ 116 ∷ 114 ∷ 97 ∷ 105 ∷ 108 ∷ 105 ∷ 110 ∷ 103 ∷ 32 ∷ []) ++ decimal trailing) w₂
-        → w₄ ≡ puts (32 ∷ 118 ∷ 101 ∷ 114 ∷ 100 ∷ 105 ∷ 99 ∷ 116 ∷ 32 ∷ []) w₃ → w₅ ≡ puts (verdictWord v) w₄ → w₆ ≡ puts (10 ∷ []) w₅ → w₆ ≡ puts (firstLine bytes functions trailing v) w
+    pub first-put : w₁ ≡ puts (ascii "chunk " ++ decimal bytes) w → w₂ ≡ puts (ascii " functions " ++ decimal functions) w₁ → w₃ ≡ puts (ascii " trailing " ++ decimal trailing) w₂
+        → w₄ ≡ puts (ascii " verdict ") w₃ → w₅ ≡ puts (verdictWord v) w₄ → w₆ ≡ puts (10 ∷ []) w₅ → w₆ ≡ puts (firstLine bytes functions trailing v) w
     unfolding firstLine
-    first-put a b c d e f = then ((99 ∷ 104 ∷ 117 ∷ 110 ∷ 107 ∷ 32 ∷ []) ++ decimal bytes) _ w a (then ((32 ∷ 102 ∷ 117 ∷ 110 ∷ 99 ∷ 116 ∷ 105 ∷ 111 ∷ 110 ∷ 115 ∷ 32 ∷ []) ++ decimal functions) _ w₁ b (then ((32 ∷ 116 ∷ 114 ∷ 97 ∷ 105 ∷ 108 ∷ 105 ∷ 110 ∷ 103 ∷ 32 ∷ []) ++ decimal trailing) _ w₂ c (then (32 ∷ 118 ∷ 101 ∷ 114 ∷ 100 ∷ 105 ∷ 99 ∷ 116 ∷ 32 ∷ []) _ w₃ d (then (verdictWord v) _ w₄ e f))))
+    first-put a b c d e f = then (ascii "chunk " ++ decimal bytes) _ w a (then (ascii " functions " ++ decimal functions) _ w₁ b (then (ascii " trailing " ++ decimal trailing) _ w₂ c (then (ascii " verdict ") _ w₃ d (then (verdictWord v) _ w₄ e f))))

@@ -8,6 +8,7 @@ use Prim.Native.Nat.{ℕ, zero, suc, _/_, _%_}
 use mathlib.Core.List.{List, [], _∷_, _++_}
 use lib.Dec.{ltb}
 use Rattle.io.specs.Digits.{glyph}
+use Rattle.format.specs.Ascii.{ascii}
 use Rattle.format.specs.declared.refusal.Refusal.{Refusal}
 use Rattle.format.specs.declared.refusal.Place.{Place}
 use Rattle.format.specs.declared.refusal.Place.the-variants as place
@@ -30,23 +31,23 @@ abbrev pub spaced : List ℕ → List ℕ
 spaced [] = 10 ∷ []
 spaced (n ∷ ns) = 32 ∷ (decimal n ++ spaced ns)
 
--- `chunk `, ` functions `, ` trailing `, ` verdict `
+-- how long it is, its functions, its trailing bytes and the verdict
 unfoldable pub firstLine : ℕ → ℕ → ℕ → Verdict → List ℕ
 firstLine bytes functions trailing v =
-    ((99 ∷ 104 ∷ 117 ∷ 110 ∷ 107 ∷ 32 ∷ []) ++ decimal bytes)
-    ++ (((32 ∷ 102 ∷ 117 ∷ 110 ∷ 99 ∷ 116 ∷ 105 ∷ 111 ∷ 110 ∷ 115 ∷ 32 ∷ []) ++ decimal functions)
-    ++ (((32 ∷ 116 ∷ 114 ∷ 97 ∷ 105 ∷ 108 ∷ 105 ∷ 110 ∷ 103 ∷ 32 ∷ []) ++ decimal trailing)
-    ++ ((32 ∷ 118 ∷ 101 ∷ 114 ∷ 100 ∷ 105 ∷ 99 ∷ 116 ∷ 32 ∷ [])
+    (ascii "chunk " ++ decimal bytes)
+    ++ ((ascii " functions " ++ decimal functions)
+    ++ ((ascii " trailing " ++ decimal trailing)
+    ++ (ascii " verdict "
     ++ (verdictWord v ++ (10 ∷ [])))))
 
--- ` at ` and the place, where there is one
+-- a place, where there is one
 abbrev pub atPlace : Place → List ℕ
-atPlace (place.At n) = (32 ∷ 97 ∷ 116 ∷ 32 ∷ []) ++ decimal n
+atPlace (place.At n) = ascii " at " ++ decimal n
 atPlace place.None = []
 
--- `refused `
+-- the refusal's number, and its place
 unfoldable pub refusalLine : Refusal → List ℕ
-refusalLine q = ((114 ∷ 101 ∷ 102 ∷ 117 ∷ 115 ∷ 101 ∷ 100 ∷ 32 ∷ []) ++ decimal (reported q .number)) ++ (atPlace (reported q .place) ++ (10 ∷ []))
+refusalLine q = (ascii "refused " ++ decimal (reported q .number)) ++ (atPlace (reported q .place) ++ (10 ∷ []))
 
 -- number, depth, first line, last line, parameters, vararg, stack, instructions, constants, upvalues
 unfoldable pub rowLine : ℕ → Row → List ℕ

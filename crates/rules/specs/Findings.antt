@@ -3,11 +3,13 @@
 --     limited max n gs     the findings of groups, where there are n diagnostics already
 --     chunkFindings r      of a reading, whose warnings count
 --     verdict              on findings
-use mathlib.Core.Bool.{Bool, true, false, _||_, cond}
+use mathlib.Core.Bool.{Bool, true, false, cond}
 use mathlib.Core.List.{List, [], _∷_, _++_}
 use Prim.Native.Nat.{ℕ, zero, suc, _+_}
 use lib.ListN.{length}
 use lib.Dec.{leb, ltb}
+use Rattle.format.specs.Any.{any}
+use Rattle.format.specs.Ascii.{ascii}
 use Rattle.format.specs.Reading.{Prototype, Reading}
 use Rattle.rules.specs.declared.finding.Finding.{Finding}
 use Rattle.rules.specs.declared.finding.Severity.{Severity}
@@ -67,14 +69,13 @@ isError Warning = false
 
 -- `has_errors`: the warnings of the reading are none
 abbrev pub anyError : List Finding → Bool
-anyError [] = false
-anyError (f ∷ fs) = isError (severity (f .rule)) || anyError fs
+anyError fs = any (λ f. isError (severity (f .rule))) fs
 
 abbrev pub verdict : Listing → Verdict
 verdict l = cond (anyError (l .findings)) Invalid (cond (l .stopped) Incomplete ValidForAnalysis)
 
--- 01's word for each, in ASCII: valid-for-analysis, invalid, incomplete
+-- 01's word for each
 abbrev pub verdictWord : Verdict → List ℕ
-verdictWord ValidForAnalysis = 118 ∷ 97 ∷ 108 ∷ 105 ∷ 100 ∷ 45 ∷ 102 ∷ 111 ∷ 114 ∷ 45 ∷ 97 ∷ 110 ∷ 97 ∷ 108 ∷ 121 ∷ 115 ∷ 105 ∷ 115 ∷ []
-verdictWord Invalid = 105 ∷ 110 ∷ 118 ∷ 97 ∷ 108 ∷ 105 ∷ 100 ∷ []
-verdictWord Incomplete = 105 ∷ 110 ∷ 99 ∷ 111 ∷ 109 ∷ 112 ∷ 108 ∷ 101 ∷ 116 ∷ 101 ∷ []
+verdictWord ValidForAnalysis = ascii "valid-for-analysis"
+verdictWord Invalid = ascii "invalid"
+verdictWord Incomplete = ascii "incomplete"
