@@ -19,12 +19,12 @@ use Rattle.format.specs.ReadChunk.{Outcome, shown, refusal, read}
 use Rattle.format.proofs.Located.{Found, Located}
 use Rattle.cursor.specs.declared.Cursor.{Cursor}
 use Rattle.cursor.specs.Shown.{cursorAt}
-use Rattle.prototype.specs.Row.{rowOf, listAt}
+use Rattle.prototype.specs.Inner.Row.{rowOf, listAt}
 use Rattle.access.specs.declared.place.EntryKind.{EntryKind}
 use Rattle.access.specs.declared.place.PlaceAnswer.{PlaceAnswer}
 use Rattle.access.specs.declared.place.PlaceAnswer.the-variants as place
 use Rattle.access.specs.Asked.{Asked, found, refused, orRefuse, functionOf, entryIn, entryOf}
-use Rattle.access.specs.Places.{listOf, placeIn, shownPlace}
+use Rattle.access.specs.Inner.Places.{listOf, placeIn, shownPlace}
 use Rattle.access.proofs.Whole.{all-nth, whole}
 
 -- ## Items by number

@@ -17,16 +17,16 @@ use Rattle.cursor.specs.Shown.{cursorAt}
 use Rattle.prototype.specs.declared.row.FunctionRow.{FunctionRow}
 use Rattle.prototype.specs.declared.row.OptionRow.{OptionRow}
 use Rattle.prototype.specs.declared.row.OptionRow.the-variants as option
-use Rattle.prototype.specs.Row.{rowOf, shownRow, lookup}
+use Rattle.prototype.specs.Inner.Row.{rowOf, shownRow, lookup}
 use Rattle.decode.specs.declared.summary.Decoded.{Decoded}
 use Rattle.decode.specs.declared.summary.DecodedResult.the-variants as decoded
-use Rattle.decode.specs.Decoded.{decodedResult}
+use Rattle.decode.specs.Inner.Decoded.{decodedResult}
 use Rattle.access.specs.declared.row.RowAnswer.{RowAnswer}
 use Rattle.access.specs.declared.row.RowAnswer.the-variants as row
 use Rattle.access.specs.declared.place.EntryKind.{EntryKind}
 use Rattle.access.specs.declared.place.PlaceAnswer.the-variants as place
 use Rattle.access.specs.Asked.{Asked, found, refused, orRefuse, functionOf}
-use Rattle.access.specs.Places.{shownRowAnswer, listOf, placeIn, shownPlace}
+use Rattle.access.specs.Inner.Places.{shownRowAnswer, listOf, placeIn, shownPlace}
 
 -- a function by its number is the item of that number
 lookup-from : (n k : ℕ) (ps : List Prototype) → lookup (k + n) k ps ≡ getElem? ps n

@@ -2,7 +2,7 @@
 ghost use mathlib.Core.Path.{_≡_};
 ghost use Rattle.format.specs.ReadChunk.{read};
 ghost use Rattle.access.specs.Asked.{functionOf};
-ghost use Rattle.access.specs.Places.{listOf, shownPlace};
+ghost use Rattle.access.specs.Inner.Places.{listOf, shownPlace};
 use crate::row::RowAnswer;
 use crate::row::function_row;
 use cursor::Cursor;

@@ -15,7 +15,7 @@ use Rattle.reader.proofs.Shows.{Was, onward}
 use Rattle.anchors.specs.declared.Scan.{Scan}
 use Rattle.anchors.specs.declared.ScanResult.{ScanResult}
 use Rattle.anchors.specs.declared.ScanResult.the-variants as scan
-use Rattle.anchors.specs.Scan.{passed, scanResult}
+use Rattle.anchors.specs.Inner.Scan.{passed, scanResult}
 
 -- what is given of a scan and the anchors left, from a place on
 abbrev pub scanFrom : Bytes → ℕ → Bytes → Scan → ℕ → ℕ → ScanResult

@@ -4,7 +4,7 @@ ghost use mathlib.Core.Bool.{true, false, cond};
 ghost use lib.ListN.{drop};
 ghost use Rattle.format.specs.Read.{many};
 ghost use Rattle.format.specs.ReadChunk.{anchor};
-ghost use Rattle.anchors.specs.Scan.{orLarge, stillTaking, resetBy, seekBy, passed, startOf, scanResult};
+ghost use Rattle.anchors.specs.Inner.Scan.{orLarge, stillTaking, resetBy, seekBy, passed, startOf, scanResult};
 use cursor::Cursor;
 use format::entry::AbsLineInfo;
 use format::refusal::Refusal;

@@ -1,6 +1,6 @@
 // A request on a chunk: `L1 .. L9 HEX`, the nine limits and the chunk.
 ghost use lib.ListN.{length};
-ghost use Rattle.text.specs.Hex.{Fitting};
+ghost use Rattle.text.specs.Inner.Hex.{Fitting};
 use format::limits::ResourceLimits;
 use text::hex;
 use text::hex::Length;

@@ -24,8 +24,8 @@ use Rattle.chunk.specs.declared.walk.WalkResult.{WalkResult}
 use Rattle.chunk.specs.declared.walk.WalkResult.the-variants as answer
 use Rattle.prototype.specs.declared.row.OptionRow.{OptionRow}
 use Rattle.prototype.specs.declared.row.OptionRow.the-variants as option
-use Rattle.prototype.specs.Row.{shownRow, lookup}
-use Rattle.chunk.specs.Walk.{orRow, walkResultFrom, walkResult, shownWhere, further, joinedShown}
+use Rattle.prototype.specs.Inner.Row.{shownRow, lookup}
+use Rattle.chunk.specs.Inner.Walk.{orRow, walkResultFrom, walkResult, shownWhere, further, joinedShown}
 
 -- ## A row among functions
 or-twice : (a b c : OptionRow) → orRow (orRow a b) c ≡ orRow a (orRow b c)

@@ -37,10 +37,11 @@ use Rattle.prototype.specs.declared.parts.HeadResult.the-variants as head-answe
 use Rattle.prototype.specs.declared.parts.Tail as declared-tail
 use Rattle.prototype.specs.declared.parts.TailResult.the-variants as tail-answer
 use Rattle.prototype.specs.declared.row.OptionRow.the-variants as option
-use Rattle.prototype.specs.Row.{rowOf, shownRow, lookup}
-use Rattle.prototype.specs.Parts.{Head, head, Tail, tail, parts, inside, prototypeOf}
+use Rattle.prototype.specs.Inner.Row.{rowOf, shownRow, lookup}
+use Rattle.prototype.specs.Parts.{Head, head, Tail, tail}
+use Rattle.prototype.specs.Inner.Whole.{prototypeOf, inside, parts}
 use Rattle.prototype.specs.PartsShown.{headOf, tailOf, headResult, tailResult}
-use Rattle.chunk.specs.Walk.{shownWhere, entered, walkResult, inheritShown, insideShown, rowShown, finishedShown}
+use Rattle.chunk.specs.Inner.Walk.{shownWhere, entered, walkResult, inheritShown, insideShown, rowShown, finishedShown}
 use Rattle.prototype.proofs.On.{taken, stopped}
 use Rattle.prototype.proofs.FrontAnswers.{FrontForm, exact-front}
 use Rattle.prototype.proofs.HeadAnswers.{ListsForm, exact-lists}

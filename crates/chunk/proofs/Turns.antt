@@ -16,7 +16,7 @@ use Rattle.chunk.specs.declared.walk.Where.{Where}
 use Rattle.chunk.specs.declared.walk.Walked.{Walked}
 use Rattle.chunk.specs.declared.walk.WalkResult.{WalkResult}
 use Rattle.chunk.specs.declared.walk.WalkResult.the-variants as answer
-use Rattle.chunk.specs.Walk.{shownWhere, entered, walkResult, further, againShown, joinedShown}
+use Rattle.chunk.specs.Inner.Walk.{shownWhere, entered, walkResult, further, againShown, joinedShown}
 use Rattle.chunk.proofs.Forests.{restOf, andRest, one-more, no-more}
 use Rattle.chunk.proofs.Functions.{exact-entered, too-deep, too-many, enters}
 

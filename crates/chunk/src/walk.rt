@@ -7,7 +7,7 @@ ghost use lib.ListN.{drop};
 ghost use Rattle.format.specs.GrammarChunk as grammar;
 ghost use Rattle.format.specs.ReadChunk.{forest, function};
 ghost use Rattle.prototype.specs.declared.row.OptionRow.the-variants as option;
-ghost use Rattle.chunk.specs.Walk.{shownWhere, entered, walkResult, inheritShown, insideShown, rowShown, orRow, finishedShown, againShown, joinedShown};
+ghost use Rattle.chunk.specs.Inner.Walk.{shownWhere, entered, walkResult, inheritShown, insideShown, rowShown, orRow, finishedShown, againShown, joinedShown};
 use cursor::Cursor;
 use format::limits::ResourceLimits;
 use format::refusal::Refusal;

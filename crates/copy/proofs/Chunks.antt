@@ -21,17 +21,17 @@ use Rattle.format.proofs.Left.{left}
 use Rattle.prototype.specs.declared.row.OptionRow.{OptionRow}
 use Rattle.chunk.specs.declared.walk.Walked.{Walked}
 use Rattle.chunk.specs.declared.walk.WalkResult.the-variants as walk
-use Rattle.prototype.specs.Row.{shownRow, lookup}
-use Rattle.chunk.specs.Walk.{walkResult}
+use Rattle.prototype.specs.Inner.Row.{shownRow, lookup}
+use Rattle.chunk.specs.Inner.Walk.{walkResult}
 use Rattle.chunk.proofs.Functions.{walk-err, walk-ok}
-use Rattle.lent.specs.Splice.{splice}
+use Rattle.lent.specs.Inner.Splice.{splice}
 use Rattle.lent.proofs.Splices.{splice-length, splice-before}
-use Rattle.encode.specs.Put.{Put}
+use Rattle.encode.specs.Inner.Put.{Put}
 use Rattle.encode.proofs.Writes.{put-then}
 use Rattle.copy.specs.declared.whole.CopyAnswer.the-variants as answer
-use Rattle.copy.specs.Chunk.{upvaluesShown}
-use Rattle.copy_parts.specs.Parts.{functionBytes}
-use Rattle.copy.specs.Answers.{chunkBytes, Answers}
+use Rattle.copy.specs.Inner.Chunk.{upvaluesShown}
+use Rattle.copy_parts.specs.Inner.Parts.{functionBytes}
+use Rattle.copy.specs.Inner.Answers.{chunkBytes, Answers}
 use Rattle.copy_parts.proofs.PutParts.{put-as}
 use Rattle.copy_walk.proofs.Nests.{main-short}
 

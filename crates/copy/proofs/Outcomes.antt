@@ -28,17 +28,17 @@ use Rattle.reader.specs.declared.field.U8Result.the-variants as u8
 use Rattle.reader.specs.Shown.{u8Result}
 use Rattle.header.specs.declared.OptionWarning.{OptionWarning}
 use Rattle.header.specs.declared.HeaderResult.the-variants as header-answer
-use Rattle.header.specs.Shown.{headerResult}
+use Rattle.header.specs.Inner.Results.{headerResult}
 use Rattle.prototype.proofs.On.{taken}
 use Rattle.decode.specs.declared.LoadedResult.the-variants as loaded
-use Rattle.decode.specs.Loaded.{loadedResult}
+use Rattle.decode.specs.Inner.Loaded.{loadedResult}
 use Rattle.decode.proofs.Answers.{headed, header-on, byte-on}
-use Rattle.lent.specs.Splice.{splice}
+use Rattle.lent.specs.Inner.Splice.{splice}
 use Rattle.lent.proofs.Splices.{splice-front}
 use Rattle.copy.specs.declared.whole.CopyAnswer.{CopyAnswer}
 use Rattle.copy.specs.declared.whole.CopyAnswer.the-variants as answer
 use Rattle.copy.specs.Copied.{shownLength, shownCopy, copyWritten}
-use Rattle.copy.specs.Answers.{chunkBytes, loadedBytes, PutAll, Answers, Copies}
+use Rattle.copy.specs.Inner.Answers.{chunkBytes, loadedBytes, PutAll, Answers, Copies}
 
 -- ## Main
 main-err : (o : Read Loaded) (q : Refusal) → loaded.Err q ≡ loadedResult 0 o → o ≡ refused q

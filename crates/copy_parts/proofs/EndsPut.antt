@@ -17,11 +17,11 @@ use Rattle.chunk.specs.declared.walk.WalkResult.{WalkResult}
 use Rattle.chunk.specs.declared.walk.WalkResult.the-variants as answer
 use Rattle.prototype.specs.Parts.{Tail, tail}
 use Rattle.prototype.specs.PartsShown.{tailOf, tailResult}
-use Rattle.chunk.specs.Walk.{finishedShown}
+use Rattle.chunk.specs.Inner.Walk.{finishedShown}
 use Rattle.chunk.proofs.Functions.{tail-err, tail-ok}
-use Rattle.encode.specs.Put.{Put}
-use Rattle.copy_parts.specs.Parts.{tailBytes}
-use Rattle.copy_parts.specs.Ends.{PutsTail, endShown}
+use Rattle.encode.specs.Inner.Put.{Put}
+use Rattle.copy_parts.specs.Inner.Parts.{tailBytes}
+use Rattle.copy_parts.specs.Inner.Ends.{PutsTail, endShown}
 
 module _ (place : Where) (start : ℕ) (h : declared-head.Head) (nested : Walked) {at : ℕ} {l : Bytes} {len : ℕ} {l′ : Bytes} where
   pub end-stops : (o : Read Tail) (q : Refusal) (r : WalkResult) → tail-answer.Err q ≡ tailResult o → r ≡ answer.Err q → (r ≡ endShown place start h nested o) × PutsTail o at l len l′

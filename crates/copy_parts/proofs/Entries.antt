@@ -29,9 +29,10 @@ use Rattle.format.proofs.Below.{below-split}
 use Rattle.format.proofs.Located.{AtPlace, any, at-give, at-here, at-then, at-string, Stands, StandsIf}
 use Rattle.reader.specs.Shown.{optionString}
 use Rattle.reader.proofs.Shows.{Was}
-use Rattle.lists.specs.Readers.{RawLocal, rawLocal, named}
-use Rattle.encode.specs.Put.{Put, Puts}
-use Rattle.encode.specs.Text.{There, spelt, speltName}
+use Rattle.lists.specs.Readers.{RawLocal, rawLocal}
+use Rattle.lists.specs.Inner.Counts.{named}
+use Rattle.encode.specs.Inner.Put.{Put, Puts}
+use Rattle.encode.specs.Inner.Text.{There, spelt, speltName}
 
 module _ {A : Type 0} {bytes : A → Bytes} {o : Read A} {at : ℕ} {l : Bytes} {behind : ℕ} {l′ : Bytes} where
   pub puts-of : {x : A} {to : ℕ} → Was o x to → Put (bytes x) at l behind l′ → Puts bytes o at l to behind l′

@@ -26,13 +26,14 @@ use Rattle.lists.specs.declared.constant.ConstantValue as declared
 use Rattle.lists.specs.declared.constant.ConstantResult.the-variants as constant-answer
 use Rattle.lists.specs.declared.debug.AnchorResult.the-variants as anchor-answer
 use Rattle.lists.specs.declared.debug.LocalResult.the-variants as local-answer
-use Rattle.lists.specs.Readers.{RawLocal, rawLocal, named}
+use Rattle.lists.specs.Readers.{RawLocal, rawLocal}
+use Rattle.lists.specs.Inner.Counts.{named}
 use Rattle.lists.specs.Shown.{constantValue, constantResult, anchorResult, localResult}
 use Rattle.lists.proofs.Constants.{constant-err, constant-ok}
 use Rattle.lists.proofs.DebugInfo.{local-named, local-refused, anchor-err, anchor-ok}
-use Rattle.encode.specs.Put.{Put, Puts}
-use Rattle.encode.specs.Text.{There, spelt, speltName}
-use Rattle.copy_parts.specs.Value.{Stood, valueBytes}
+use Rattle.encode.specs.Inner.Put.{Put, Puts}
+use Rattle.encode.specs.Inner.Text.{There, spelt, speltName}
+use Rattle.copy_parts.specs.Inner.Value.{Stood, valueBytes}
 use Rattle.encode.proofs.Writes.{put-then}
 use Rattle.copy_parts.proofs.Entries.{puts-of, puts-not, there-is, spelt-is, name-is, at-rawLocal}
 use Rattle.copy_parts.proofs.Values.{Kept, at-constant}

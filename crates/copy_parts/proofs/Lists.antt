@@ -14,7 +14,7 @@ use Rattle.format.specs.Copy.{listBytes}
 use Rattle.format.proofs.Exact.{Exact, never}
 use Rattle.format.proofs.Left.{left}
 use Rattle.counted.proofs.Listing.{many-sized}
-use Rattle.encode.specs.Put.{Put, Puts, PutsAll}
+use Rattle.encode.specs.Inner.Put.{Put, Puts, PutsAll}
 use Rattle.encode.proofs.Writes.{put-nothing, put-then}
 
 -- entries without their count

@@ -32,7 +32,7 @@ use Rattle.prototype.proofs.FrontAnswers.{exact-front}
 use Rattle.prototype.proofs.HeadAnswers.{exact-lists}
 use Rattle.encode.proofs.Stores.{size-pos}
 use Rattle.copy_parts.proofs.Entries.{Raw, at-run, raw-field, raw-upvalue, below-part}
-use Rattle.copy_parts.specs.Parts.{sourceBytes, linesBytes, sizesBytes, listsBytes, headBytes, tailBytes}
+use Rattle.copy_parts.specs.Inner.Parts.{sourceBytes, linesBytes, sizesBytes, listsBytes, headBytes, tailBytes}
 use Rattle.copy_parts.proofs.Lengths.{Short, short-then, short-number, raw-short, stays, short-string, short-anchor, short-local, short-constant, Listing, listed, counted-at, upTo-at}
 
 at-as : {A : Type 0} {s : Bytes} {at : ℕ} {r : Reader A} {P Q : ℕ → A → Type 0} → ((to : ℕ) (x : A) → P to x → Q to x) → AtPlace s at r P → AtPlace s at r Q

@@ -29,12 +29,12 @@ use Rattle.prototype.specs.Parts.{HeadLists, headLists, Head, head, Tail, tail}
 use Rattle.prototype.specs.PartsShown.{listsOf, headOf, tailOf}
 use Rattle.reader.specs.declared.string.OptionString.{OptionString}
 use Rattle.reader.specs.Shown.{optionString}
-use Rattle.encode.specs.Put.{Put, PutsAll}
-use Rattle.encode.specs.Text.{There, spelt}
+use Rattle.encode.specs.Inner.Put.{Put, PutsAll}
+use Rattle.encode.specs.Inner.Text.{There, spelt}
 use Rattle.encode.proofs.Writes.{put-then}
 use Rattle.copy_parts.proofs.Items.{string-put}
 use Rattle.copy_parts.proofs.Entries.{Raw, at-run, raw-field, raw-upvalue, raw-many, there-is, spelt-is}
-use Rattle.copy_parts.specs.Parts.{sourceBytes, linesBytes, sizesBytes, listsBytes, headBytes, tailBytes}
+use Rattle.copy_parts.specs.Inner.Parts.{sourceBytes, linesBytes, sizesBytes, listsBytes, headBytes, tailBytes}
 use Rattle.copy_parts.proofs.PartsAt.{TailAt, tail-at, ListsAt, lists-at, HeadAt, head-at}
 
 pub put-as : {a b : Bytes} {at w : ℕ} {k k′ : Bytes} → a ≡ b → Put a at k w k′ → Put b at k w k′

@@ -1,3 +1,1 @@
-pub mod Value
-pub mod Parts
-pub mod Ends
+pub mod Inner

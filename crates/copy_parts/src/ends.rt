@@ -3,7 +3,7 @@ ghost use mathlib.Core.Path.{_≡_};
 ghost use lib.ListN.{drop};
 ghost use Rattle.chunk.specs.declared.walk.WalkResult.the-variants as walk;
 ghost use Rattle.prototype.specs.Parts as parts;
-ghost use Rattle.copy_parts.specs.Ends.{PutsTail, endShown};
+ghost use Rattle.copy_parts.specs.Inner.Ends.{PutsTail, endShown};
 use crate::parts::put_tail;
 use chunk::walk::WalkResult;
 use chunk::walk::Walked;

@@ -6,7 +6,7 @@ ghost use Rattle.format.specs.Read.{many};
 ghost use Rattle.format.specs.ReadFields.{string};
 ghost use Rattle.format.specs.ReadChunk.{constant, anchor, local};
 ghost use Rattle.format.specs.Copy.{constantBytes, anchorBytes, localBytes, optionBytes};
-ghost use Rattle.encode.specs.Put.{PutsAll};
+ghost use Rattle.encode.specs.Inner.Put.{PutsAll};
 use crate::entry::copy_anchor;
 use crate::entry::copy_constant;
 use crate::entry::copy_local;

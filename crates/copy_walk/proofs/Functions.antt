@@ -25,16 +25,17 @@ use Rattle.chunk.specs.declared.walk.Where.{Where}
 use Rattle.chunk.specs.declared.walk.Walked.{Walked}
 use Rattle.chunk.specs.declared.walk.WalkResult.{WalkResult}
 use Rattle.chunk.specs.declared.walk.WalkResult.the-variants as answer
-use Rattle.prototype.specs.Parts.{Head, head, Tail, prototypeOf}
+use Rattle.prototype.specs.Parts.{Head, head, Tail}
+use Rattle.prototype.specs.Inner.Whole.{prototypeOf}
 use Rattle.prototype.specs.PartsShown.{headOf, tailOf, headResult, tailResult}
-use Rattle.chunk.specs.Walk.{shownWhere, walkResult}
+use Rattle.chunk.specs.Inner.Walk.{shownWhere, walkResult}
 use Rattle.prototype.proofs.On.{taken}
 use Rattle.chunk.proofs.Functions.{walk-err, by-parts, begins, headed, head-on, first, inner, walked, nested-on, ends, tail-refused, function-read}
-use Rattle.encode.specs.Put.{Put}
+use Rattle.encode.specs.Inner.Put.{Put}
 use Rattle.encode.proofs.Writes.{put-then}
-use Rattle.copy_parts.specs.Parts.{headBytes, functionBytes}
-use Rattle.copy_parts.specs.Ends.{PutsTail, endShown}
-use Rattle.copy_walk.specs.Walk.{PutsFunction}
+use Rattle.copy_parts.specs.Inner.Parts.{headBytes, functionBytes}
+use Rattle.copy_parts.specs.Inner.Ends.{PutsTail, endShown}
+use Rattle.copy_walk.specs.Inner.Walk.{PutsFunction}
 use Rattle.copy_parts.proofs.PutParts.{put-as}
 use Rattle.copy_walk.proofs.Nests.{made}
 use Rattle.copy_walk.proofs.Loops.{PutsForest}

@@ -24,11 +24,11 @@ use Rattle.chunk.specs.declared.walk.Where.{Where}
 use Rattle.chunk.specs.declared.walk.Walked.{Walked}
 use Rattle.chunk.specs.declared.walk.WalkResult.{WalkResult}
 use Rattle.chunk.specs.declared.walk.WalkResult.the-variants as answer
-use Rattle.chunk.specs.Walk.{shownWhere, entered, walkResult, further, againShown, joinedShown}
+use Rattle.chunk.specs.Inner.Walk.{shownWhere, entered, walkResult, further, againShown, joinedShown}
 use Rattle.chunk.proofs.Functions.{exact-entered, enters, walkedOf}
-use Rattle.encode.specs.Put.{Put}
+use Rattle.encode.specs.Inner.Put.{Put}
 use Rattle.encode.proofs.Writes.{put-nothing, put-then}
-use Rattle.copy_parts.specs.Parts.{functionBytes}
+use Rattle.copy_parts.specs.Inner.Parts.{functionBytes}
 use Rattle.copy_parts.proofs.PutParts.{put-as}
 use Rattle.copy_walk.proofs.Nests.{Single, more-bytes, entered-single}
 

@@ -23,11 +23,12 @@ use Rattle.format.specs.Copy.{optionBytes, behindSource, nest}
 use Rattle.format.proofs.Exact.{Exact, exact-atMost}
 use Rattle.format.proofs.ExactChunk.{exact-forest}
 use Rattle.format.proofs.Located.{AtPlace, at-give, at-here, at-then, at-refuse}
-use Rattle.prototype.specs.Parts.{Head, head, Tail, tail, prototypeOf, inside, parts}
-use Rattle.chunk.specs.Walk.{entered}
+use Rattle.prototype.specs.Parts.{Head, head, Tail, tail}
+use Rattle.prototype.specs.Inner.Whole.{prototypeOf, inside, parts}
+use Rattle.chunk.specs.Inner.Walk.{entered}
 use Rattle.prototype.proofs.Flat.{in-parts}
 use Rattle.chunk.proofs.Functions.{exact-entered, function-body, exact-head, exact-tail}
-use Rattle.copy_parts.specs.Parts.{sourceBytes, headBytes, tailBytes, functionBytes}
+use Rattle.copy_parts.specs.Inner.Parts.{sourceBytes, headBytes, tailBytes, functionBytes}
 use Rattle.copy_parts.proofs.Lengths.{Short, short-then, short-none, stays}
 use Rattle.copy_parts.proofs.PartsAt.{HeadAt, head-at, TailAt, tail-at}
 

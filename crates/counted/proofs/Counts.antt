@@ -18,13 +18,15 @@ use Rattle.cursor.specs.declared.Cursor.{Cursor}
 use Rattle.cursor.specs.declared.CursorResult.{CursorResult}
 use Rattle.reader.specs.declared.field.U64Result.{U64Result}
 use Rattle.reader.specs.declared.field.U64Result.the-variants as u64
-use Rattle.cursor.specs.Shown.{cursorAt, cursorResult}
+use Rattle.cursor.specs.Shown.{cursorAt}
+use Rattle.cursor.specs.Inner.Results.{cursorResult}
 use Rattle.reader.specs.Shown.{u64Result}
 use Rattle.reader.proofs.Shows.{Was, onward, u64-err, u64-ok}
 use Rattle.counted.specs.declared.ListResult.{ListResult}
 use Rattle.counted.specs.declared.ListResult.the-variants as list
-use Rattle.lists.specs.Readers.{countUpTo, codeCount, code, Count, protosCount}
-use Rattle.counted.specs.Shown.{listedOf, listResult, countResult}
+use Rattle.lists.specs.Readers.{code, Count, protosCount}
+use Rattle.lists.specs.Inner.Counts.{countUpTo, codeCount}
+use Rattle.counted.specs.Inner.Shown.{listedOf, listResult, countResult}
 use Rattle.counted.proofs.Listing.{CountUpTo, exact-countUpTo, many-sized, behindCount, count-refused, count-read, tested-then}
 
 -- ## Instructions

@@ -5,8 +5,9 @@ ghost use Rattle.format.specs.declared.refusal.Refusal.the-variants.{Constants,
 ghost use Rattle.format.specs.ReadFields.{string};
 ghost use Rattle.format.specs.ReadChunk as spec;
 ghost use Rattle.reader.specs.Shown.{u64Result};
-ghost use Rattle.lists.specs.Readers.{countUpTo, codeCount, code, lineInfo, protosCount};
-ghost use Rattle.counted.specs.Shown.{listedOf, listResult, countResult};
+ghost use Rattle.lists.specs.Readers.{code, lineInfo, protosCount};
+ghost use Rattle.lists.specs.Inner.Counts.{countUpTo, codeCount};
+ghost use Rattle.counted.specs.Inner.Shown.{listedOf, listResult, countResult};
 use cursor::Cursor;
 use cursor::CursorResult;
 use cursor::read_exact;

@@ -2,7 +2,7 @@
 ghost use mathlib.Core.Path.{_≡_};
 ghost use lib.ListN.{length, drop};
 ghost use Rattle.format.specs.Read as read;
-ghost use Rattle.cursor.specs.Shown.{cursorResult};
+ghost use Rattle.cursor.specs.Inner.Results.{cursorResult};
 use format::refusal::Refusal;
 
 // A place in a file: the Rust's `SafeReader` without the file, the limits and the counts.

@@ -26,15 +26,16 @@ use Rattle.reader.specs.Shown.{u8Result}
 use Rattle.reader.proofs.Shows.{Was, onward, u8-err, u8-ok}
 use Rattle.header.specs.declared.OptionWarning.{OptionWarning}
 use Rattle.header.specs.declared.HeaderResult.the-variants as header-answer
-use Rattle.header.specs.Shown.{firstWarning, headerResult}
+use Rattle.header.specs.Shown.{firstWarning}
+use Rattle.header.specs.Inner.Results.{headerResult}
 use Rattle.chunk.specs.declared.walk.Walked.{Walked}
 use Rattle.chunk.specs.declared.walk.WalkResult.the-variants as walk
-use Rattle.prototype.specs.Row.{shownRow, lookup}
-use Rattle.chunk.specs.Walk.{walkResult}
+use Rattle.prototype.specs.Inner.Row.{shownRow, lookup}
+use Rattle.chunk.specs.Inner.Walk.{walkResult}
 use Rattle.prototype.proofs.On.{taken, stopped}
 use Rattle.chunk.proofs.Functions.{WasWalk, walk-err, walk-ok}
 use Rattle.decode.specs.declared.LoadedResult.the-variants as answer
-use Rattle.decode.specs.Loaded.{loadedResult}
+use Rattle.decode.specs.Inner.Loaded.{loadedResult}
 
 header-err : (o : Read Headed) (q : Refusal) → header-answer.Err q ≡ headerResult o → o ≡ refused q
 header-err (ok x to rest) q e = absurd (let z : _≡_ {A = ℕ} 0 1 = cc in omega arith)

@@ -27,12 +27,13 @@ use Rattle.format.proofs.Left.{left}
 use Rattle.header.specs.declared.OptionWarning.{OptionWarning}
 use Rattle.header.specs.declared.OptionWarning.the-variants as option
 use Rattle.header.specs.Shown.{firstWarning}
-use Rattle.prototype.specs.Parts.{Head, head, Tail, tail, inside, prototypeOf}
-use Rattle.chunk.specs.Walk.{shownWhere, entered}
+use Rattle.prototype.specs.Parts.{Head, head, Tail, tail}
+use Rattle.prototype.specs.Inner.Whole.{prototypeOf, inside}
+use Rattle.chunk.specs.Inner.Walk.{shownWhere, entered}
 use Rattle.chunk.proofs.Functions.{by-parts}
 use Rattle.decode.specs.declared.summary.Decoded.{Decoded}
 use Rattle.decode.specs.declared.summary.DecodedResult.the-variants as decoded
-use Rattle.decode.specs.Decoded.{listOf, decodedResult, shownReading}
+use Rattle.decode.specs.Inner.Decoded.{shownReading, decodedResult, listOf}
 use Rattle.decode.proofs.Summaries.{every-main}
 
 -- what the first pass showed is of a reading

@@ -26,13 +26,14 @@ use Rattle.format.proofs.Left.{left}
 use Rattle.header.specs.declared.OptionWarning.{OptionWarning}
 use Rattle.header.specs.declared.OptionWarning.the-variants as option
 use Rattle.header.specs.Shown.{firstWarning}
-use Rattle.prototype.specs.Row.{shownRow, lookup}
+use Rattle.prototype.specs.Inner.Row.{shownRow, lookup}
 use Rattle.decode.specs.declared.LoadedResult.{LoadedResult}
 use Rattle.decode.specs.declared.LoadedResult.the-variants as loaded
 use Rattle.decode.specs.declared.summary.DecodedResult.{DecodedResult}
 use Rattle.decode.specs.declared.summary.DecodedResult.the-variants as answer
-use Rattle.decode.specs.Loaded.{loadedResult}
-use Rattle.decode.specs.Decoded.{listOf, shownWarnings, decodedResult, decodedShown}
+use Rattle.decode.specs.Inner.Loaded.{loadedResult}
+use Rattle.decode.specs.Decoded.{shownWarnings}
+use Rattle.decode.specs.Inner.Decoded.{decodedResult, listOf, decodedShown}
 
 -- ## Warnings
 take-none : (n : ℕ) → take {A = Warning} n [] ≡ []

@@ -5,7 +5,7 @@ ghost use mathlib.Core.Path.{_≡_};
 ghost use Prim.Native.Nat.{_≤_};
 ghost use Rattle.format.specs.ReadChunk.{main};
 ghost use Rattle.reader.specs.declared.string.OptionString.the-variants as string;
-ghost use Rattle.decode.specs.Loaded.{loadedResult};
+ghost use Rattle.decode.specs.Inner.Loaded.{loadedResult};
 use chunk::walk::WalkResult;
 use chunk::walk::Walked;
 use chunk::walk::Where;

@@ -12,9 +12,9 @@ use native.Mathlib.Omega.{arith}
 use lib.ListN.{length, take, drop, set, length-append, length-set, take-append-drop}
 use lib.Seq.{length-take-le, set-split, drop-at, take-set-le}
 use Rattle.format.specs.Shortest.{groupsOf, shortest}
-use Rattle.lent.specs.Splice.{splice}
+use Rattle.lent.specs.Inner.Splice.{splice}
 use Rattle.lent.proofs.Splices.{splice-length, splice-set, splice-then}
-use Rattle.encode.specs.Groups.{groups}
+use Rattle.encode.specs.Inner.Groups.{groups}
 
 length-groups : (n v : ℕ) → length (groups n v) ≡ n
 unfolding groups

@@ -1,4 +1,4 @@
--- Laws of `Put` (`specs/Put.antt`).
+-- Laws of `Put` (`specs/Inner/Put.antt`).
 --     put-room, put-none   bytes that have room and are written; bytes that have none
 --     put-then             two writers, the second right behind the first
 -- Assumes nothing.
@@ -10,9 +10,9 @@ use native.Mathlib.Omega.{arith}
 use lib.ListN.{length, take, drop, length-append, length-drop}
 use lib.Seq.{length-take-le}
 use Rattle.format.specs.Form.{Bytes}
-use Rattle.lent.specs.Splice.{splice}
+use Rattle.lent.specs.Inner.Splice.{splice}
 use Rattle.lent.proofs.Splices.{splice-none, splice-length, splice-then}
-use Rattle.encode.specs.Put.{Put}
+use Rattle.encode.specs.Inner.Put.{Put}
 
 module _ {b : Bytes} {at : ℕ} {l : Bytes} {behind : ℕ} where
   pub put-room : {l′ : Bytes} → at + length b ≤ length l → behind ≡ at + length b → l′ ≡ splice at b l → Put b at l behind l′

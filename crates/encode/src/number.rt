@@ -3,9 +3,9 @@ ghost use mathlib.Core.Path.{_≡_};
 ghost use Prim.Native.Nat.{_+_, _≤_, _/_};
 ghost use lib.ListN.{length};
 ghost use Rattle.format.specs.Shortest.{shortest};
-ghost use Rattle.lent.specs.Splice.{splice};
-ghost use Rattle.encode.specs.Put.{Put};
-ghost use Rattle.encode.specs.Groups.{groups};
+ghost use Rattle.lent.specs.Inner.Splice.{splice};
+ghost use Rattle.encode.specs.Inner.Put.{Put};
+ghost use Rattle.encode.specs.Inner.Groups.{groups};
 use crate::raw::plus;
 use shortest::varint_len;
 

@@ -3,7 +3,7 @@ ghost use mathlib.Core.Path.{_≡_};
 ghost use mathlib.Core.List.{[], _∷_, _++_};
 ghost use Prim.Native.Nat.{_+_, _-_, _*_, _≤_, _<_};
 ghost use lib.ListN.{length, take, drop};
-ghost use Rattle.encode.specs.Put.{Put};
+ghost use Rattle.encode.specs.Inner.Put.{Put};
 ghost use Rattle.format.specs.Shortest.{shortest};
 use crate::number::put_varint;
 use cursor::Cursor;

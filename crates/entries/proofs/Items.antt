@@ -17,9 +17,10 @@ use Rattle.format.specs.Reading.{LocalVar}
 use Rattle.format.proofs.Exact.{never}
 use Rattle.format.proofs.Steps.{run-enough, run-was, field-enough}
 use Rattle.format.proofs.Located.{Found}
-use Rattle.lists.specs.Readers.{RawLocal, rawLocal, named}
+use Rattle.lists.specs.Readers.{RawLocal, rawLocal}
+use Rattle.lists.specs.Inner.Counts.{named}
 use Rattle.lists.proofs.DebugInfo.{local-named}
-use Rattle.entries.specs.Nth.{entryAt, byteAt, localAt}
+use Rattle.entries.specs.Inner.Nth.{entryAt, byteAt, localAt}
 
 -- what a reader gives, with the rest left open
 record Gives {A : Type 0} (o : Read A) (x : A) : Type 0 where

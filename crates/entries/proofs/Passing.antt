@@ -9,7 +9,7 @@ use Rattle.format.specs.Read.{Read, ok, refused, Reader, next, _>>=_}
 use Rattle.format.proofs.Exact.{Exact}
 use Rattle.cursor.specs.declared.Cursor.{Cursor}
 use Rattle.cursor.specs.declared.CursorResult.the-variants as cursor
-use Rattle.cursor.specs.Shown.{cursorResult}
+use Rattle.cursor.specs.Inner.Results.{cursorResult}
 use Rattle.reader.proofs.Shows.{cursor-err, cursor-ok, onward}
 
 module _ {A B X : Type 0} {r : Reader A} {F : Form A} (exact : Exact r F) (f : Reader B) (shown : Read B → X) (s : Bytes) (at : ℕ) where

@@ -21,7 +21,7 @@ use Rattle.format.proofs.ExactFields.{exact-field, exact-number, exact-string}
 use Rattle.format.proofs.ExactChunk.{exact-always, exact-constant, exact-local}
 use Rattle.format.proofs.Located.{Found, AtPlace, any, at-give, at-refuse, at-here, at-then, Stands, StandsIf, at-string}
 use Rattle.lists.specs.Readers.{RawLocal, rawLocal}
-use Rattle.entries.specs.Nth.{entryAt, localAt}
+use Rattle.entries.specs.Inner.Nth.{entryAt, localAt}
 
 module _ (s : Bytes) where
   -- ## Constants

@@ -1,2 +1,2 @@
-pub mod Nth
 pub mod Shown
+pub mod Inner

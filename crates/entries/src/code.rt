@@ -5,7 +5,7 @@ ghost use Rattle.format.specs.ReadFields.{field};
 ghost use Rattle.format.specs.ReadChunk as spec;
 ghost use Rattle.reader.specs.Shown.{u32Result};
 ghost use Rattle.lists.specs.Shown.{constantResult};
-ghost use Rattle.entries.specs.Nth.{entryAt};
+ghost use Rattle.entries.specs.Inner.Nth.{entryAt};
 ghost use Rattle.entries.specs.Shown.{upvalueResult};
 use cursor::Cursor;
 use cursor::CursorResult;

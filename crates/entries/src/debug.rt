@@ -5,7 +5,7 @@ ghost use Rattle.format.specs.ReadFields.{string};
 ghost use Rattle.format.specs.ReadChunk as spec;
 ghost use Rattle.reader.specs.Shown.{u8Result, stringResult};
 ghost use Rattle.lists.specs.Shown.{anchorResult, localResult};
-ghost use Rattle.entries.specs.Nth.{entryAt, byteAt, localAt};
+ghost use Rattle.entries.specs.Inner.Nth.{entryAt, byteAt, localAt};
 use cursor::Cursor;
 use cursor::CursorResult;
 use cursor::read_exact;

@@ -15,11 +15,11 @@ use lib.Seq.{take-suc, length-take-le}
 use borrow.Author.Tests.{leb-true, leb-false, le-leb, lt-leb}
 use Rattle.format.specs.ReadChunk.{Outcome, shown, refusal}
 use Rattle.lent.specs.Over.{over}
-use Rattle.lent.specs.Splice.{splice}
+use Rattle.lent.specs.Inner.Splice.{splice}
 use Rattle.lent.proofs.Splices.{splice-none, splice-then, splice-front}
 use Rattle.rules.specs.declared.finding.Finding.{Finding}
 use Rattle.rules.specs.Findings.{chunkFindings}
-use Rattle.finding_plan.specs.Validated.{foundIn}
+use Rattle.finding_plan.specs.Inner.Found.{foundIn}
 use Rattle.finding_list.specs.FindingNumbers.{findingNumbers, listNumbers, numbersWritten}
 
 numbers-length : (fs : List Finding) → length (listNumbers fs) ≡ 4 * length fs

@@ -16,18 +16,19 @@ use Rattle.format.specs.Form.{Bytes}
 use Rattle.format.specs.Reading.{Reading}
 use Rattle.format.specs.ReadChunk.{Outcome, shown, refusal, read}
 use Rattle.decode.specs.declared.summary.DecodedResult.the-variants as decoded
-use Rattle.decode.specs.Decoded.{decodedResult}
+use Rattle.decode.specs.Inner.Decoded.{decodedResult}
 use Rattle.rules.specs.Findings.{MAX-DIAGNOSTICS, Listing, chunkFindings, verdict}
-use Rattle.validator.specs.Position.{outOf}
-use Rattle.validator.specs.Totals.{tallied, verdictShown}
+use Rattle.validator.specs.Inner.Position.{outOf}
+use Rattle.validator.specs.Inner.Totals.{tallied, verdictShown}
 use Rattle.rules.specs.declared.finding.Finding.{Finding}
 use Rattle.rules.specs.declared.finding.Verdict.{Verdict}
 use Rattle.validator.specs.declared.search.Position.{Position}
 use Rattle.validator.specs.declared.tally.Totals.{Totals}
 use Rattle.finding_plan.specs.declared.FindingsAnswer.the-variants as answer
 use Rattle.lent.specs.Over.{over}
-use Rattle.finding_plan.specs.Validated.{listingAnswer, shownFindings, findingsWritten, foundIn}
-use Rattle.finding_plan.specs.Plan.{refusedPlan, planOf, written, Planned}
+use Rattle.finding_plan.specs.Validated.{listingAnswer, shownFindings, findingsWritten}
+use Rattle.finding_plan.specs.Inner.Found.{foundIn}
+use Rattle.finding_plan.specs.Inner.Plan.{refusedPlan, planOf, written, Planned}
 
 pub was-refused : (o : Outcome) (q : Refusal) → decoded.Err q ≡ decodedResult 0 o → o ≡ refusal q
 was-refused (shown r) q e = absurd (let z : _≡_ {A = ℕ} 0 1 = cc in omega arith)

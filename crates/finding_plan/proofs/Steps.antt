@@ -13,7 +13,7 @@ use lib.Seq.{drop-cons}
 use Rattle.format.specs.declared.limits.ResourceLimits.{ResourceLimits}
 use Rattle.format.specs.Form.{Bytes}
 use Rattle.rules.specs.Findings.{Listing, ended, prepend}
-use Rattle.validator.specs.Position.{outOf, stepIs, stepped}
+use Rattle.validator.specs.Inner.Position.{outOf, stepIs, stepped}
 use Rattle.rules.specs.declared.finding.Finding.{Finding}
 use Rattle.validator.specs.declared.search.Position.{Position}
 use Rattle.validator.specs.declared.search.State.{State}

@@ -1,2 +1,2 @@
 pub mod Validated
-pub mod Plan
+pub mod Inner

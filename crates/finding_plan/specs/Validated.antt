@@ -1,9 +1,8 @@
 -- What `validate_chunk_lua54` answers, and what it leaves of the lent list.
 --     shownFindings room o         the verdict and the number of findings, where o was read; 26 where there is room for fewer, after every other refusal
 --     findingsWritten old o        what then stands in the list that held `old`
---     foundIn room o               the findings that are written where there is room for so many: all, or on a refusal none
 use mathlib.Core.Bool.{cond}
-use mathlib.Core.List.{List, []}
+use mathlib.Core.List.{List}
 use Prim.Native.Nat.{ℕ}
 use lib.Dec.{leb}
 use lib.ListN.{length}
@@ -27,7 +26,3 @@ shownFindings room (refusal q) = answer.Err q
 abbrev pub findingsWritten : List Finding → Outcome → List Finding
 findingsWritten old (shown r) = over (chunkFindings r .findings) old
 findingsWritten old (refusal q) = old
-
-abbrev pub foundIn : ℕ → Outcome → List Finding
-foundIn room (shown r) = cond (leb (length (chunkFindings r .findings)) room) (chunkFindings r .findings) []
-foundIn room (refusal q) = []

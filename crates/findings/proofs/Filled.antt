@@ -9,7 +9,7 @@ use lib.ListN.{length, getD, set, take, drop, length-append, length-drop}
 use lib.Seq.{take-suc, drop-cons, set-at, length-take-le}
 use Rattle.rules.specs.Findings.{Listing}
 use Rattle.rules.specs.declared.finding.Finding.{Finding}
-use Rattle.finding_plan.specs.Plan.{written}
+use Rattle.finding_plan.specs.Inner.Plan.{written}
 
 module _ (l : Listing) (ys : List Finding) where
   pub written-zero : ys ≡ written l 0 ys

@@ -20,14 +20,15 @@ use Rattle.format.proofs.Left.{left}
 use Rattle.counted.proofs.Within.{exact-protosCount, ProtosCount}
 use Rattle.cursor.specs.Shown.{cursorAt}
 use Rattle.prototype.specs.declared.parts.HeadResult.the-variants as head-answer
-use Rattle.prototype.specs.Parts.{Head, head, Tail, tail, parts, inside, prototypeOf}
+use Rattle.prototype.specs.Parts.{Head, head, Tail, tail}
+use Rattle.prototype.specs.Inner.Whole.{prototypeOf, inside, parts}
 use Rattle.prototype.specs.PartsShown.{headOf, headResult, tailResult}
-use Rattle.chunk.specs.Walk as walk
+use Rattle.chunk.specs.Inner.Walk as walk
 use Rattle.prototype.proofs.FrontAnswers.{FrontForm, exact-front}
 use Rattle.prototype.proofs.HeadAnswers.{ListsForm, exact-lists}
 use Rattle.prototype.proofs.Flat.{in-parts}
 use Rattle.chunk.proofs.Functions.{Entered, exact-entered, function-body}
-use Rattle.functions.specs.Rows.{rowShown, headAt, tailAt, onHead, onTail, Walked, through, cut, before, andThen, times, bodyAt, functionAt, rowsOf, chunkRows, prototypeRow}
+use Rattle.functions.specs.Inner.Rows.{rowShown, headAt, tailAt, onHead, onTail, Walked, through, cut, before, andThen, times, bodyAt, functionAt, rowsOf, chunkRows, prototypeRow}
 use Rattle.functions.specs.declared.Row.{Row}
 use Rattle.functions.proofs.Fewer.{Fewer, fewer-head}
 

@@ -14,7 +14,7 @@ use Rattle.prototype.specs.declared.parts.HeadResult.{HeadResult}
 use Rattle.prototype.specs.declared.parts.HeadResult.the-variants as head-answer
 use Rattle.prototype.specs.declared.parts.TailResult.{TailResult}
 use Rattle.prototype.specs.declared.parts.TailResult.the-variants as tail-answer
-use Rattle.functions.specs.Rows.{rowShown, headAt, tailAt, onHead, onTail, Walked, through, cut, before, andThen, times, bodyAt, functionAt, rowsOf, chunkRows, onward, rowsFrom, entered}
+use Rattle.functions.specs.Inner.Rows.{rowShown, headAt, tailAt, onHead, onTail, Walked, through, cut, before, andThen, times, bodyAt, functionAt, rowsOf, chunkRows, onward, rowsFrom, entered}
 use Rattle.functions.specs.declared.Row.{Row}
 
 -- laws of `onward`

@@ -13,7 +13,7 @@ use prototype::row::ListAt;
 ghost use mathlib.Core.Path.{_≡_};
 ghost use Prim.Native.Nat.{_≤_};
 ghost use lib.ListN.{length, getD};
-ghost use Rattle.functions.specs.Rows.{rowShown, rowsFrom, met, upTo, Within, Ready};
+ghost use Rattle.functions.specs.Inner.Rows.{rowShown, rowsFrom, met, upTo, Within, Ready};
 
 // A function's level, main's being 0, and what stands before its nested functions, without its source.
 pub struct Row {

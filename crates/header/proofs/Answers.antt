@@ -14,11 +14,12 @@ use Rattle.format.proofs.ExactHeader.{exact-before}
 use Rattle.cursor.specs.declared.Cursor.{Cursor}
 use Rattle.cursor.specs.declared.CursorResult.the-variants as cursor
 use Rattle.reader.specs.declared.field.U8Result.the-variants as u8
-use Rattle.cursor.specs.Shown.{cursorResult}
+use Rattle.cursor.specs.Inner.Results.{cursorResult}
 use Rattle.reader.specs.Shown.{u8Result}
 use Rattle.reader.proofs.Shows.{onward, cursor-err, cursor-ok, u8-err, u8-ok}
 use Rattle.header.specs.declared.HeaderResult.the-variants as answer
-use Rattle.header.specs.Shown.{firstWarning, headerResult}
+use Rattle.header.specs.Shown.{firstWarning}
+use Rattle.header.specs.Inner.Results.{headerResult}
 
 -- the header behind the format byte, which stands at `place`
 abbrev ending : ℕ → ℕ → Reader Headed

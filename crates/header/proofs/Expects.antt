@@ -11,7 +11,7 @@ use Rattle.format.specs.ReadHeader.{sameBytes, expect}
 use Rattle.format.proofs.Steps.{run-was}
 use Rattle.cursor.specs.declared.Cursor.{Cursor}
 use Rattle.cursor.specs.declared.CursorResult.the-variants as cursor
-use Rattle.cursor.specs.Shown.{cursorResult}
+use Rattle.cursor.specs.Inner.Results.{cursorResult}
 use Rattle.reader.proofs.Shows.{cursor-err, cursor-ok}
 
 module _ (s : Bytes) (at : ℕ) (bytes : Bytes) (q : Refusal) where

@@ -13,7 +13,7 @@ use Rattle.format.specs.ReadHeader.{expect, beforeFormat, behindFormat}
 use Rattle.format.proofs.Exact.{Exact, exact-then}
 use Rattle.format.proofs.ExactHeader.{exact-expect}
 use Rattle.cursor.specs.declared.CursorResult.{CursorResult}
-use Rattle.cursor.specs.Shown.{andThen, cursorResult}
+use Rattle.cursor.specs.Inner.Results.{cursorResult, andThen}
 use Rattle.reader.proofs.Shows.{on, regroup}
 
 -- what a call behind another shows

@@ -17,7 +17,7 @@ use Rattle.format.specs.Reading.{Prototype}
 use Rattle.format.specs.GrammarChunk.{Listed, Counted, CountedUpTo, inherit, Where, after, within, Forest, Body, Function, Main, Loaded}
 use Rattle.format.proofs.Every.{All, all-append}
 use Rattle.index.specs.Index.{indexRow, index}
-use Rattle.index_row.specs.Stored.{low, stored}
+use Rattle.index_row.specs.Inner.Stored.{low, stored}
 
 -- ## Bytes that an item takes
 record Takes {A : Type 0} (F : Form A) : Type 0 where

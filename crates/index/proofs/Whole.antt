@@ -32,20 +32,21 @@ use Rattle.format.proofs.Left.{left}
 use Rattle.format.proofs.ReadChunkLaws.{read-sound, read-within}
 use Rattle.prototype.specs.declared.row.OptionRow.the-variants as option
 use Rattle.prototype.specs.declared.row.FunctionRow.{FunctionRow}
-use Rattle.prototype.specs.Row.{rowOf, shownRow, lookup}
-use Rattle.prototype.specs.Parts.{Head, head, Tail, tail, inside, prototypeOf}
-use Rattle.chunk.specs.Walk.{shownWhere, entered}
+use Rattle.prototype.specs.Inner.Row.{rowOf, shownRow, lookup}
+use Rattle.prototype.specs.Parts.{Head, head, Tail, tail}
+use Rattle.prototype.specs.Inner.Whole.{prototypeOf, inside}
+use Rattle.chunk.specs.Inner.Walk.{shownWhere, entered}
 use Rattle.chunk.proofs.Functions.{by-parts}
 use Rattle.decode.specs.declared.summary.Decoded.{Decoded}
 use Rattle.decode.specs.declared.summary.DecodedResult.the-variants as decoded
-use Rattle.decode.specs.Decoded.{decodedResult, shownReading}
+use Rattle.decode.specs.Inner.Decoded.{shownReading, decodedResult}
 use Rattle.decode.proofs.Summaries.{in-ceilings, input-ceiling}
 use Rattle.decode.proofs.MainAt.{WasShown, was-shown, First, first-of, MainAt, main-at}
 use Rattle.index.specs.declared.IndexAnswer.the-variants as answer
 use Rattle.index.specs.Index.{index, shownIndex, indexWritten}
-use Rattle.lent.specs.Splice.{splice}
-use Rattle.index_row.specs.Stored.{stored}
-use Rattle.index_walk.specs.Written.{Wrote}
+use Rattle.lent.specs.Inner.Splice.{splice}
+use Rattle.index_row.specs.Inner.Stored.{stored}
+use Rattle.index_walk.specs.Inner.Written.{Wrote}
 use Rattle.index.proofs.Small.{small-main, stored-index}
 
 index-length : (ps : List Prototype) → length (index ps) ≡ 12 * length ps

@@ -3,8 +3,8 @@ ghost use mathlib.Core.Path.{_≡_};
 ghost use mathlib.Core.List.{[], _∷_};
 ghost use Prim.Native.Nat.{_+_, _*_, _≤_};
 ghost use lib.ListN.{length};
-ghost use Rattle.lent.specs.Splice.{splice};
-ghost use Rattle.index_row.specs.Stored.{low, storedRow};
+ghost use Rattle.lent.specs.Inner.Splice.{splice};
+ghost use Rattle.index_row.specs.Inner.Stored.{low, storedRow};
 use prototype::row::FunctionRow;
 
 // The low 32 bits: in a chunk that is read no number of the index has more.

@@ -28,15 +28,15 @@ use Rattle.chunk.specs.declared.walk.Where.{Where}
 use Rattle.chunk.specs.declared.walk.Walked.{Walked}
 use Rattle.chunk.specs.declared.walk.WalkResult.{WalkResult}
 use Rattle.chunk.specs.declared.walk.WalkResult.the-variants as answer
-use Rattle.prototype.specs.Row.{rowOf}
-use Rattle.prototype.specs.Parts.{prototypeOf}
+use Rattle.prototype.specs.Inner.Row.{rowOf}
+use Rattle.prototype.specs.Inner.Whole.{prototypeOf}
 use Rattle.prototype.specs.PartsShown.{headResult, tailResult}
-use Rattle.chunk.specs.Walk.{shownWhere, entered, walkResult, rowShown, further, againShown, joinedShown}
+use Rattle.chunk.specs.Inner.Walk.{shownWhere, entered, walkResult, rowShown, further, againShown, joinedShown}
 use Rattle.prototype.proofs.On.{taken}
 use Rattle.chunk.proofs.Functions.{exact-entered, enters, walk-err, walkedOf, tail-ok, row-shown, by-parts, begins, headed, head-on, first, inner, walked, nested-on, ends}
-use Rattle.lent.specs.Splice.{splice}
-use Rattle.index_row.specs.Stored.{storedRow, stored}
-use Rattle.index_walk.specs.Written.{Wrote}
+use Rattle.lent.specs.Inner.Splice.{splice}
+use Rattle.index_row.specs.Inner.Stored.{storedRow, stored}
+use Rattle.index_walk.specs.Inner.Written.{Wrote}
 use Rattle.lent.proofs.Splices.{splice-none, splice-then, splice-before}
 
 -- ## Rows

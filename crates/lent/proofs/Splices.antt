@@ -1,4 +1,4 @@
--- Laws of `splice` (`specs/Splice.antt`).
+-- Laws of `splice` (`specs/Inner/Splice.antt`).
 --     splice-length    the list is as long as it was
 --     splice-none      nothing is written
 --     splice-front     what is written from the first place on
@@ -17,7 +17,7 @@ use native.Mathlib.Numerals.{add-one}
 use native.Mathlib.Omega.{arith}
 use lib.ListN.{length, take, drop, set, getD, length-append, length-drop, take-append-drop}
 use lib.Seq.{length-take-le, take-append-seam, drop-append-add, drop-drop, set-split, take-suc, getD-drop, take-append-le, take-take, drop-at, sets-eq}
-use Rattle.lent.specs.Splice.{splice}
+use Rattle.lent.specs.Inner.Splice.{splice}
 
 pub splice-length : (at : ℕ) (s l : List ℕ) → at + length s ≤ length l → length (splice at s l) ≡ length l
 unfolding splice

@@ -11,7 +11,7 @@ use native.Mathlib.Omega.{arith}
 use borrow.Rule.Slice.PartMut.{putMid}
 use lib.ListN.{length, take, drop, length-append, length-drop, drop-of-length-le}
 use lib.Seq.{length-take-le, drop-drop, take-all}
-use Rattle.lent.specs.Splice.{splice}
+use Rattle.lent.specs.Inner.Splice.{splice}
 
 pub part-length : (a : ℕ) (l : List ℕ) → length (take (length l - a) (drop a l)) ≡ length l - a
 part-length a l = length-take-le (length l - a) (drop a l) (omega (arith, length-drop a l))

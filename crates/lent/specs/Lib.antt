@@ -1,2 +1,2 @@
-pub mod Splice
 pub mod Over
+pub mod Inner

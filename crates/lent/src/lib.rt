@@ -2,7 +2,7 @@
 ghost use mathlib.Core.Path.{_≡_};
 ghost use Prim.Native.Nat.{_+_, _-_, _≤_};
 ghost use lib.ListN.{length, take, drop};
-ghost use Rattle.lent.specs.Splice.{splice};
+ghost use Rattle.lent.specs.Inner.Splice.{splice};
 
 // Copies `len` bytes of s from `start` on to place `at` of the lent memory. Ruled out: the last byte left out, a byte written beyond.
 pub fn copy_bytes(s: &[u8], start: usize, len: usize, out: &mut [u8], at: usize)

@@ -19,15 +19,15 @@ use Rattle.format.specs.ReadChunk.{refusal, outcome, main, read}
 use Rattle.format.proofs.Located.{Located}
 use Rattle.format.proofs.Steps.{run-was}
 use Rattle.prototype.specs.declared.row.FunctionRow.{FunctionRow}
-use Rattle.prototype.specs.Row.{rowOf}
+use Rattle.prototype.specs.Inner.Row.{rowOf}
 use Rattle.decode.proofs.Summaries.{input-ceiling}
 use Rattle.access.specs.declared.row.RowAnswer.the-variants as row
 use Rattle.access.specs.Asked.{Asked, found, refused, functionOf}
-use Rattle.access.specs.Places.{shownRowAnswer}
+use Rattle.access.specs.Inner.Places.{shownRowAnswer}
 use Rattle.access.proofs.Found.{found-located}
 use Rattle.lines.specs.declared.line.LineAnswer.the-variants as answer
 use Rattle.lines.specs.Lines.{answerOf, shownLine}
-use Rattle.lines.specs.Scan.{answered, shownRowLine}
+use Rattle.lines.specs.Inner.Scan.{answered, shownRowLine}
 
 -- ## The input limit
 module _ (L : ResourceLimits) (s : Bytes) (f : ℕ) (x : FunctionRow) where

@@ -18,8 +18,8 @@ use Rattle.format.specs.declared.entry.AbsLineInfo.{AbsLineInfo}
 use Rattle.format.specs.Form.{Bytes}
 use Rattle.anchors.specs.declared.Scan.{Scan}
 use Rattle.lines.specs.Lines.{lineAt, stepped, walked}
-use Rattle.anchors.specs.Scan.{resetBy, passed, scanned}
-use Rattle.lines.specs.Scan.{added, summed}
+use Rattle.anchors.specs.Inner.Scan.{resetBy, passed, scanned}
+use Rattle.lines.specs.Inner.Scan.{added, summed}
 
 -- ## The first anchor at a pc
 lineAt-append : (j : ℕ) (xs ys : List AbsLineInfo) (z : ℤ) → lineAt j (xs ++ ys) z ≡ lineAt j xs (lineAt j ys z)

@@ -18,7 +18,7 @@ use Rattle.format.specs.declared.entry.AbsLineInfo.{AbsLineInfo}
 use Rattle.format.specs.Form.{Bytes}
 use Rattle.format.proofs.Every.{All}
 use Rattle.lines.specs.Lines.{baseOf, lineAt, stepped, walked, large}
-use Rattle.lines.specs.Scan.{added}
+use Rattle.lines.specs.Inner.Scan.{added}
 use Rattle.lines.proofs.Scans.{pick-both}
 
 -- ## One delta

@@ -23,8 +23,8 @@ use Rattle.anchors.specs.declared.ScanResult.the-variants as scan
 use Rattle.lines.specs.declared.line.LineAnswer.{LineAnswer}
 use Rattle.lines.specs.declared.line.LineAnswer.the-variants as answer
 use Rattle.lines.specs.Lines.{answerOf}
-use Rattle.anchors.specs.Scan.{scanned, startOf, scanResult}
-use Rattle.lines.specs.Scan.{startIn, lineFrom, numberedOf, answered, shownRowLine}
+use Rattle.anchors.specs.Inner.Scan.{scanned, startOf, scanResult}
+use Rattle.lines.specs.Inner.Scan.{startIn, lineFrom, numberedOf, answered, shownRowLine}
 use Rattle.anchors.specs.declared.Sought.{Sought}
 use Rattle.anchors.specs.declared.Sought.the-variants.{Ahead, At}
 use Rattle.lines.proofs.Rules.{large-refused, small-shown, by-number, by-deltas}

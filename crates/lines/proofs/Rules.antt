@@ -15,8 +15,8 @@ use Rattle.format.specs.Form.{Bytes}
 use Rattle.anchors.specs.declared.Scan.{Scan}
 use Rattle.lines.specs.declared.line.LineAnswer.the-variants as answer
 use Rattle.lines.specs.Lines.{rule1, rule2, rule3, baseOf, raised, byDeltas, lineOf, large, answerOf}
-use Rattle.anchors.specs.Scan.{scanned, startOf}
-use Rattle.lines.specs.Scan.{startIn, summed, lineFrom, numberedOf}
+use Rattle.anchors.specs.Inner.Scan.{scanned, startOf}
+use Rattle.lines.specs.Inner.Scan.{startIn, summed, lineFrom, numberedOf}
 use Rattle.anchors.specs.declared.Sought.the-variants.{Ahead, At}
 use Rattle.lines.proofs.Fast.{settled, fast, none-settled}
 use Rattle.lines.proofs.Scans.{lineSought, scanned-base, scanned-large, scanned-sought}

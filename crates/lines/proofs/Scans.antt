@@ -19,8 +19,8 @@ use Rattle.anchors.specs.declared.Scan.{Scan}
 use Rattle.anchors.specs.declared.Sought.{Sought}
 use Rattle.anchors.specs.declared.Sought.the-variants.{Ahead, At}
 use Rattle.lines.specs.Lines.{baseOf, large}
-use Rattle.anchors.specs.Scan.{orLarge, stillTaking, seekBy, passed, scanned, startOf}
-use Rattle.lines.specs.Scan.{startIn}
+use Rattle.anchors.specs.Inner.Scan.{orLarge, stillTaking, seekBy, passed, scanned, startOf}
+use Rattle.lines.specs.Inner.Scan.{startIn}
 use Rattle.anchors.proofs.Tests.{other}
 
 abbrev pub lineSought : Sought → Option ℕ

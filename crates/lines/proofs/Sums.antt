@@ -18,7 +18,7 @@ use mir.Facts.{toZ-pos, toZ-ofZ, fits-natAbs}
 use Rattle.format.specs.Form.{Bytes}
 use Rattle.anchors.specs.declared.Scan.{Scan}
 use Rattle.lines.specs.Lines.{raised}
-use Rattle.lines.specs.Scan.{added, summed, startIn, lineFrom}
+use Rattle.lines.specs.Inner.Scan.{added, summed, startIn, lineFrom}
 use Rattle.lines.proofs.Range.{plus-delta, mag-added}
 use Rattle.anchors.proofs.Tests.{picked, other, drop-beyond}
 

@@ -1,3 +1,3 @@
 pub mod Ldebug
 pub mod Lines
-pub mod Scan
+pub mod Inner

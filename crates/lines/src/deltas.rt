@@ -4,7 +4,7 @@ ghost use Prim.Native.Nat.{_+_, _^_, _≤_};
 ghost use lib.ListN.{length, take, drop};
 ghost use lib.Signed.{mag};
 ghost use Rattle.lines.specs.Lines.{raised};
-ghost use Rattle.lines.specs.Scan.{added, summed, startIn, lineFrom};
+ghost use Rattle.lines.specs.Inner.Scan.{added, summed, startIn, lineFrom};
 use anchors::Scan;
 use format::entry::AbsLineInfo;
 

@@ -5,7 +5,7 @@ ghost use lib.ListN.{length};
 ghost use Rattle.format.specs.ReadChunk.{read};
 ghost use Rattle.access.specs.Asked.{functionOf};
 ghost use Rattle.lines.specs.Lines.{shownLine};
-ghost use Rattle.lines.specs.Scan.{numberedOf, shownRowLine};
+ghost use Rattle.lines.specs.Inner.Scan.{numberedOf, shownRowLine};
 use crate::deltas::line_from;
 use crate::deltas::up_to;
 use access::bytes::bytes_at;

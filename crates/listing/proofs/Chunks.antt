@@ -14,8 +14,8 @@ use Rattle.prototype.specs.declared.row.OptionRow.the-variants as option
 use Rattle.prototype.specs.declared.row.FunctionRow.{FunctionRow}
 use Rattle.decode.specs.declared.summary.Decoded.{Decoded}
 use Rattle.decode.specs.declared.summary.DecodedResult.the-variants as decoded
-use Rattle.decode.specs.Decoded.{decodedResult}
-use Rattle.functions.specs.Rows.{chunkRows}
+use Rattle.decode.specs.Inner.Decoded.{decodedResult}
+use Rattle.functions.specs.Inner.Rows.{chunkRows}
 use Rattle.functions.proofs.Agreement.{rowsFor}
 use Rattle.rules.specs.declared.finding.Verdict.{Verdict}
 use Rattle.validator.specs.declared.verdict.VerdictAnswer.the-variants as verdicts
@@ -23,8 +23,10 @@ use Rattle.rules.specs.Findings.{chunkFindings, verdict}
 use Rattle.validator.specs.Answers.{shownVerdict}
 use Rattle.validator.proofs.Chunk.{r, shows, was, rows-shown}
 use Rattle.print.specs.Output.{Waiting, puts}
-use Rattle.listing_text.specs.Lines.{firstLine, refusalLine, rowLine}
-use Rattle.listing.specs.Listing.{functionLine, functionLines, chunkLines, listed, linesOf, rowLines}
+use Rattle.listing_text.specs.Lines.{firstLine, refusalLine}
+use Rattle.listing_text.specs.Inner.Rows.{rowLine}
+use Rattle.listing.specs.Listing.{functionLine, functionLines, chunkLines, listed}
+use Rattle.listing.specs.Inner.Rows.{linesOf, rowLines}
 use Rattle.listing_text.proofs.Laws.{then}
 
 -- ## By the verdict

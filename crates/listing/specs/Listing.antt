@@ -9,10 +9,9 @@ use Rattle.format.specs.Limits.{ceilings}
 use Rattle.format.specs.Form.{Bytes}
 use Rattle.format.specs.Reading.{Prototype, Reading}
 use Rattle.format.specs.ReadChunk.{Outcome, shown, refusal, read}
-use Rattle.functions.specs.declared.Row.{Row}
 use Rattle.rules.specs.declared.finding.Verdict.{Verdict}
 use Rattle.rules.specs.Findings.{chunkFindings, verdict}
-use Rattle.listing_text.specs.Lines.{decimal, spaced, firstLine, refusalLine, rowLine}
+use Rattle.listing_text.specs.Lines.{decimal, spaced, firstLine, refusalLine}
 
 -- number, depth, first line, last line, parameters, vararg, stack, instructions, constants, upvalues
 abbrev pub functionLine : ℕ → Prototype → List ℕ
@@ -59,13 +58,3 @@ listed bytes (refusal q) = refusalLine q
 
 abbrev pub listing : Bytes → List ℕ
 listing s = listed (length s) (read listLimits s)
-
--- ## The same of the code's values
--- of a chunk that has this verdict; nothing, where it is refused
-abbrev pub linesOf : ℕ → Verdict → Outcome → List ℕ
-linesOf bytes v (shown r) = chunkLines bytes v r
-linesOf bytes v (refusal q) = []
-
-abbrev pub rowLines : ℕ → List Row → List ℕ
-rowLines k [] = []
-rowLines k (row ∷ rows) = rowLine k row ++ rowLines (k + 1) rows

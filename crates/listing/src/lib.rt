@@ -4,8 +4,9 @@ ghost use Prim.Native.Nat.{_≤_, _<_};
 ghost use lib.ListN.{length};
 ghost use Rattle.print.specs.Output.{waiting, puts};
 ghost use Rattle.format.specs.ReadChunk.{read};
-ghost use Rattle.functions.specs.Rows.{chunkRows};
+ghost use Rattle.functions.specs.Inner.Rows.{chunkRows};
 ghost use Rattle.listing.specs.Listing as listings;
+ghost use Rattle.listing.specs.Inner.Rows.{linesOf, rowLines};
 use cursor::Cursor;
 use decode::summary::DecodedResult;
 use decode::summary::decode_chunk_lua54;
@@ -53,7 +54,7 @@ fn function_lines(
     requires { ⌜ (limits .«max_total_instructions» ≤ 16777216) × (length (chunkRows limits (now s) (start .at)) ≡ n) ⌝ }
     requires { ⌜ used < 65536 ⌝ }
     ensures { λ r. ⌜ r < 65536 ⌝ }
-    ensures { λ r. ⌜ waiting (now (out .exit)) r ≡ puts (listings.rowLines 0 (chunkRows limits (now (s .entry)) (start .at))) (waiting (now (out .entry)) used) ⌝ }
+    ensures { λ r. ⌜ waiting (now (out .exit)) r ≡ puts (rowLines 0 (chunkRows limits (now (s .entry)) (start .at))) (waiting (now (out .entry)) used) ⌝ }
 {
     let mut left = [0; 202];
     left[0] = 1;
@@ -98,7 +99,7 @@ fn chunk_lines(
 ) -> usize
     requires { ⌜ used < 65536 ⌝ }
     ensures { λ r. ⌜ r < 65536 ⌝ }
-    ensures { λ r. ⌜ waiting (now (out .exit)) r ≡ puts (listings.linesOf (length (now (s .entry))) verdict (read limits (now (s .entry)))) (waiting (now (out .entry)) used) ⌝ }
+    ensures { λ r. ⌜ waiting (now (out .exit)) r ≡ puts (linesOf (length (now (s .entry))) verdict (read limits (now (s .entry)))) (waiting (now (out .entry)) used) ⌝ }
 {
     let decoded = decode_chunk_lua54(s, limits, 0);
     match decoded {

@@ -2,7 +2,6 @@
 --     decimal n            a number's digits
 --     firstLine            a chunk that is read
 --     refusalLine          one that is not
---     rowLine k row        the function whose number is k
 use mathlib.Core.Bool.{cond}
 use Prim.Native.Nat.{ℕ, zero, suc, _/_, _%_}
 use mathlib.Core.List.{List, [], _∷_, _++_}
@@ -13,7 +12,6 @@ use Rattle.format.specs.declared.refusal.Refusal.{Refusal}
 use Rattle.format.specs.declared.refusal.Place.{Place}
 use Rattle.format.specs.declared.refusal.Place.the-variants as place
 use Rattle.format.specs.Refusals.{reported}
-use Rattle.functions.specs.declared.Row.{Row}
 use Rattle.rules.specs.declared.finding.Verdict.{Verdict}
 use Rattle.rules.specs.Findings.{verdictWord}
 
@@ -48,19 +46,3 @@ atPlace place.None = []
 -- the refusal's number, and its place
 unfoldable pub refusalLine : Refusal → List ℕ
 refusalLine q = (ascii "refused " ++ decimal (reported q .number)) ++ (atPlace (reported q .place) ++ (10 ∷ []))
-
--- number, depth, first line, last line, parameters, vararg, stack, instructions, constants, upvalues
-unfoldable pub rowLine : ℕ → Row → List ℕ
-rowLine k row =
-    decimal k ++ spaced (
-    row .depth
-    ∷ row .lines .«line_defined»
-    ∷ row .lines .«last_line_defined»
-    ∷ row .sizes .numparams
-    ∷ row .sizes .«is_vararg»
-    ∷ row .sizes .maxstacksize
-    ∷ row .instructions .count
-    ∷ row .constants .count
-    ∷ row .upvalues .count
-    ∷ []
-    )

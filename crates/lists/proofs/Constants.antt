@@ -22,7 +22,8 @@ use Rattle.reader.proofs.Shows.{Showed, onward, u8-err, u8-ok}
 use Rattle.lists.specs.declared.constant.ConstantValue as declared
 use Rattle.lists.specs.declared.constant.ConstantResult.{ConstantResult}
 use Rattle.lists.specs.declared.constant.ConstantResult.the-variants as answer
-use Rattle.lists.specs.Shown.{integerOf, floatOf, shortStringOf, longStringOf, constantValue, constantResult}
+use Rattle.lists.specs.Shown.{constantValue, constantResult}
+use Rattle.lists.specs.Inner.Constants.{integerOf, floatOf, shortStringOf, longStringOf}
 
 -- ## Behind a tag
 pub integer-shown : (o : Read ℕ) → integerOf (u64Result o) ≡ constantResult (next o (λ n. give (integer n)))

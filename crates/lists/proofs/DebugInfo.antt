@@ -25,7 +25,8 @@ use Rattle.reader.specs.Shown.{u64Result, optionString, stringResult}
 use Rattle.reader.proofs.Shows.{Was, Showed, Passed, onward, u64-err, u64-ok, string-err, string-ok}
 use Rattle.lists.specs.declared.debug.AnchorResult.the-variants as anchor-answer
 use Rattle.lists.specs.declared.debug.LocalResult.the-variants as local-answer
-use Rattle.lists.specs.Readers.{RawLocal, rawLocal, named}
+use Rattle.lists.specs.Readers.{RawLocal, rawLocal}
+use Rattle.lists.specs.Inner.Counts.{named}
 use Rattle.lists.specs.Shown.{anchorResult, localResult}
 
 -- ## Anchors

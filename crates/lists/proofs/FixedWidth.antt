@@ -12,7 +12,8 @@ use Rattle.format.specs.ReadFields.{field}
 use Rattle.format.specs.ReadChunk.{upvalue}
 use Rattle.format.proofs.Steps.{field-short, field-enough}
 use Rattle.cursor.specs.declared.CursorResult.the-variants as cursor
-use Rattle.cursor.specs.Shown.{cursorAt, cursorResult}
+use Rattle.cursor.specs.Shown.{cursorAt}
+use Rattle.cursor.specs.Inner.Results.{cursorResult}
 use Rattle.lists.proofs.Turns.{same-end}
 
 module _ (w : ℕ) where

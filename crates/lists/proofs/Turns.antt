@@ -10,7 +10,8 @@ use Rattle.format.specs.Form.{Bytes, Form}
 use Rattle.format.specs.Read.{Read, ok, refused, Reader, next, _>>=_, give, many}
 use Rattle.format.proofs.Exact.{Exact}
 use Rattle.cursor.specs.declared.CursorResult.the-variants as cursor
-use Rattle.cursor.specs.Shown.{cursorAt, cursorResult}
+use Rattle.cursor.specs.Shown.{cursorAt}
+use Rattle.cursor.specs.Inner.Results.{cursorResult}
 use Rattle.reader.proofs.Shows.{Was, onward}
 
 -- of one item more in front of the list only the end is shown

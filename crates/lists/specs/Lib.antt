@@ -1,2 +1,3 @@
 pub mod Readers
 pub mod Shown
+pub mod Inner

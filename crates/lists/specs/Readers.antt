@@ -1,12 +1,9 @@
 -- Readers that `format`'s are made of: a local variable with its name as it is spelt, and parts of `body`.
-use mathlib.Core.List.{[], _∷_}
-use mathlib.Core.Option.{Option, Option·getD}
+use mathlib.Core.Option.{Option}
 use Prim.Native.Nat.{ℕ, _+_}
-use Rattle.format.specs.declared.refusal.Refusal.{Refusal}
 use Rattle.format.specs.declared.refusal.Refusal.the-variants.{Instructions, TotalInstructions, Prototypes}
 use Rattle.format.specs.GrammarFields.{LuaString}
 use Rattle.format.specs.GrammarChunk.{Listed}
-use Rattle.format.specs.Reading.{LocalVar}
 use Rattle.format.specs.Read.{Reader, next, _>>=_, _>>_, give, here, atMost, run, many}
 use Rattle.format.specs.ReadFields.{field, number, string}
 
@@ -25,25 +22,6 @@ rawLocal limit = do
   startpc ← number
   endpc ← number
   give (record { name = name; behind = behind; startpc = startpc; endpc = endpc })
-
--- an absent name reads as `?`
-abbrev pub named : RawLocal → LocalVar
-named l = record { name = Option·getD (l .name) (record { place = l .behind; bytes = 63 ∷ [] }); startpc = l .startpc; endpc = l .endpc }
-
--- ## Counts
-abbrev pub countUpTo : ℕ → Refusal → Reader ℕ
-countUpTo limit refusal = do
-  n ← number
-  atMost n limit refusal
-  give n
-
--- how many instructions, behind `before` of the functions before
-abbrev pub codeCount : ℕ → ℕ → ℕ → Reader ℕ
-codeCount per-proto before total = do
-  first ← here
-  size ← countUpTo per-proto (Instructions first)
-  atMost (before + size) total (TotalInstructions first)
-  give size
 
 -- how many functions nest in one, and the place behind that number
 pub record Count : Type 0 where

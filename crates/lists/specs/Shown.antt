@@ -1,5 +1,4 @@
 -- What the code shows of what a reader gives, of an entry: the value and the cursor behind it, or the refusal.
-use Prim.Native.Nat.{ℕ}
 use lib.ListN.{length}
 use mir.Syntax.{w64}
 use mir.Val.{toZ}
@@ -7,13 +6,7 @@ use Rattle.format.specs.GrammarFields.{LuaString}
 use Rattle.format.specs.declared.entry.AbsLineInfo.{AbsLineInfo}
 use Rattle.format.specs.Reading as reading
 use Rattle.format.specs.Read.{Read, ok, refused}
-use Rattle.reader.specs.declared.string.OptionString.{OptionString}
-use Rattle.reader.specs.declared.string.OptionString.the-variants as option
 use Rattle.reader.specs.declared.string.StringAt.{StringAt}
-use Rattle.reader.specs.declared.string.StringResult.{StringResult}
-use Rattle.reader.specs.declared.string.StringResult.the-variants as string
-use Rattle.reader.specs.declared.field.U64Result.{U64Result}
-use Rattle.reader.specs.declared.field.U64Result.the-variants as u64
 use Rattle.cursor.specs.Shown.{cursorAt}
 use Rattle.reader.specs.Shown.{optionString}
 use Rattle.lists.specs.declared.constant.ConstantValue.{ConstantValue}
@@ -27,28 +20,6 @@ use Rattle.lists.specs.declared.debug.LocalResult.the-variants as local
 use Rattle.lists.specs.Readers.{RawLocal}
 
 -- ## Constants
--- a string, or where it is absent an empty one at the place behind its size
-abbrev pub orEmpty : OptionString → ℕ → StringAt
-orEmpty (option.Some t) place = t
-orEmpty option.None place = record { place = place; len = 0 }
-
--- a constant by its tag, of what was read behind it
-abbrev pub integerOf : U64Result → ConstantResult
-integerOf (u64.Ok v c) = answer.Ok (constant.Integer (toZ w64 v)) c
-integerOf (u64.Err q) = answer.Err q
-
-abbrev pub floatOf : U64Result → ConstantResult
-floatOf (u64.Ok v c) = answer.Ok (constant.Float v) c
-floatOf (u64.Err q) = answer.Err q
-
-abbrev pub shortStringOf : StringResult → ConstantResult
-shortStringOf (string.Ok t c) = answer.Ok (constant.ShortString (orEmpty t (c .at))) c
-shortStringOf (string.Err q) = answer.Err q
-
-abbrev pub longStringOf : StringResult → ConstantResult
-longStringOf (string.Ok t c) = answer.Ok (constant.LongString (orEmpty t (c .at))) c
-longStringOf (string.Err q) = answer.Err q
-
 -- of a string its place and length
 abbrev pub stringAt : LuaString → StringAt
 stringAt t = record { place = t .place; len = length (t .bytes) }

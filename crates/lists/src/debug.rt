@@ -3,7 +3,7 @@ ghost use mathlib.Core.Path.{_≡_};
 ghost use lib.ListN.{drop};
 ghost use Rattle.format.specs.Read.{many};
 ghost use Rattle.format.specs.ReadChunk.{anchor, local};
-ghost use Rattle.cursor.specs.Shown.{cursorResult};
+ghost use Rattle.cursor.specs.Inner.Results.{cursorResult};
 ghost use Rattle.lists.specs.Readers.{rawLocal};
 ghost use Rattle.lists.specs.Shown.{anchorResult, localResult};
 use cursor::Cursor;

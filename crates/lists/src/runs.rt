@@ -4,7 +4,7 @@ ghost use lib.ListN.{drop};
 ghost use Rattle.format.specs.Read.{many};
 ghost use Rattle.format.specs.ReadFields.{field};
 ghost use Rattle.format.specs.ReadChunk.{upvalue};
-ghost use Rattle.cursor.specs.Shown.{cursorResult};
+ghost use Rattle.cursor.specs.Inner.Results.{cursorResult};
 use cursor::Cursor;
 use cursor::CursorResult;
 use cursor::remaining;

@@ -3,7 +3,7 @@ ghost use mathlib.Core.Path.{_≡_};
 ghost use lib.ListN.{drop};
 ghost use Rattle.format.specs.Read.{many};
 ghost use Rattle.format.specs.ReadFields.{string};
-ghost use Rattle.cursor.specs.Shown.{cursorResult};
+ghost use Rattle.cursor.specs.Inner.Results.{cursorResult};
 use cursor::Cursor;
 use cursor::CursorResult;
 use reader::string::StringResult;

@@ -12,7 +12,8 @@ use Rattle.format.specs.GrammarChunk.{inherit, Where, within}
 use Rattle.format.specs.Read.{Read, ok, refused, Reader, next, atMost, run, many}
 use Rattle.format.specs.ReadFields.{field, byte, number, string}
 use Rattle.format.specs.ReadChunk.{counted, countedUpTo, constant, upvalue, anchor, local, forest, body}
-use Rattle.prototype.specs.Parts.{head, tail, prototypeOf, inside, parts}
+use Rattle.prototype.specs.Parts.{head, tail}
+use Rattle.prototype.specs.Inner.Whole.{prototypeOf, inside, parts}
 
 flat : {A B C : Type 0} (o : Read A) (f : A → Reader B) (g : B → Reader C) → next (next o f) g ≡ next o (λ x at s. next (f x at s) g)
 flat (ok x to rest) f g = refl

@@ -24,7 +24,8 @@ use Rattle.prototype.specs.declared.front.LinesResult.the-variants as li
 use Rattle.prototype.specs.declared.front.Sizes.{Sizes}
 use Rattle.prototype.specs.declared.front.SizesResult.the-variants as sizes-answer
 use Rattle.prototype.specs.declared.front.FrontResult.the-variants as front-answer
-use Rattle.prototype.specs.Front.{Front, lines, sizes, front, linesResult, sizesResult, frontResult}
+use Rattle.prototype.specs.Front.{Front, lines, sizes, front}
+use Rattle.prototype.specs.Inner.Results.{linesResult, sizesResult, frontResult}
 use Rattle.prototype.proofs.On.{u8-on, u64-on, taken, stopped}
 
 -- ## Two numbers

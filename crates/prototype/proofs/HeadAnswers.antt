@@ -25,7 +25,7 @@ use Rattle.cursor.specs.Shown.{cursorAt}
 use Rattle.reader.proofs.Shows.{Showed, onward}
 use Rattle.counted.specs.declared.ListResult.the-variants as list
 use Rattle.lists.specs.Readers.{Count, protosCount, code, lineInfo}
-use Rattle.counted.specs.Shown.{listResult, countResult}
+use Rattle.counted.specs.Inner.Shown.{listResult, countResult}
 use Rattle.counted.proofs.Listing.{WasList, list-err, list-ok}
 use Rattle.counted.proofs.Counts.{count-err, count-ok}
 use Rattle.counted.proofs.Within.{Code, exact-lineInfo, exact-code, exact-protosCount}
@@ -36,7 +36,8 @@ use Rattle.prototype.specs.declared.parts.HeadListsResult.the-variants a
 use Rattle.prototype.specs.declared.parts.HeadResult.the-variants as head-answer
 use Rattle.prototype.specs.declared.parts.Tail as declared-tail
 use Rattle.prototype.specs.declared.parts.TailResult.the-variants as tail-answer
-use Rattle.prototype.specs.Front.{Front, front, frontResult}
+use Rattle.prototype.specs.Front.{Front, front}
+use Rattle.prototype.specs.Inner.Results.{frontResult}
 use Rattle.prototype.specs.Parts.{HeadLists, headLists, Head, head, Tail, tail}
 use Rattle.prototype.specs.PartsShown.{frontOf, listsOf, headListsResult, headResult, tailResult}
 use Rattle.prototype.proofs.On.{taken, stopped}

@@ -1,4 +1,4 @@
 pub mod Front
 pub mod Parts
 pub mod PartsShown
-pub mod Row
+pub mod Inner

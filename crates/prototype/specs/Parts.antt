@@ -1,18 +1,16 @@
--- A function in two parts, before and behind the functions that nest in it, as readers. (`proofs/Flat.antt`: the reader of a function is made of these.)
-use mathlib.Core.List.{List, _∷_}
+-- A function in two parts, before and behind the functions that nest in it, as readers.
 use mathlib.Core.Option.{Option}
 use Prim.Native.Nat.{ℕ}
-use lib.ListN.{length}
 use Rattle.format.specs.declared.limits.ResourceLimits.{ResourceLimits}
 use Rattle.format.specs.declared.refusal.Refusal.the-variants.{Constants, Upvalues}
 use Rattle.format.specs.declared.entry.UpvalueDesc.{UpvalueDesc}
 use Rattle.format.specs.declared.entry.AbsLineInfo.{AbsLineInfo}
 use Rattle.format.specs.GrammarFields.{LuaString}
-use Rattle.format.specs.Reading.{ConstantValue, LocalVar, Prototype}
-use Rattle.format.specs.GrammarChunk.{Listed, inherit, Where, within, prototype}
-use Rattle.format.specs.Read.{Read, Reader, next, _>>=_, _>>_, give, here}
+use Rattle.format.specs.Reading.{ConstantValue, LocalVar}
+use Rattle.format.specs.GrammarChunk.{Listed}
+use Rattle.format.specs.Read.{Read, Reader, next, _>>=_, _>>_, give}
 use Rattle.format.specs.ReadFields.{string}
-use Rattle.format.specs.ReadChunk.{counted, countedUpTo, constant, upvalue, anchor, local, forest}
+use Rattle.format.specs.ReadChunk.{counted, countedUpTo, constant, upvalue, anchor, local}
 use Rattle.lists.specs.Readers.{Count, protosCount, code, lineInfo}
 use Rattle.prototype.specs.Front.{Front, front}
 
@@ -55,23 +53,3 @@ tail limit = do
   loc-vars ← counted (local limit)
   upvalue-names ← counted (string limit)
   give (record { line-info = line-info; abs-line-info = abs-line-info; loc-vars = loc-vars; upvalue-names = upvalue-names })
-
--- the function of its parts
-abbrev pub prototypeOf : Where → ℕ → Head → Tail → ℕ → Prototype
-prototypeOf w start h t end =
-    prototype w start (h .front .source) (h .front .lines .«line_defined») (h .front .lines .«last_line_defined») (h .front .sizes .numparams) (h .front .sizes .«is_vararg») (h .front .sizes .maxstacksize)
-    (h .lists .instructions) (h .lists .constants) (h .lists .upvalues) (h .protos .place) (h .protos .count)
-    (t .line-info) (t .abs-line-info) (t .loc-vars) (t .upvalue-names) end
-
--- where the first function stands that nests in w's
-abbrev pub inside : Where → Head → Where
-inside w h = within w (inherit (h .front .source) (w .source)) (length (h .lists .instructions .items))
-
-abbrev pub parts : ResourceLimits → (Where → Reader (List Prototype)) → Where → Reader (List Prototype)
-parts L r w = do
-  start ← here
-  h ← head L (w .instructions)
-  nested ← forest (h .protos .count) r (inside w h)
-  t ← tail (L .«max_string_bytes»)
-  end ← here
-  give (prototypeOf w start h t end ∷ nested)

@@ -1,7 +1,8 @@
 // What stands at the front of a function: its source, its lines and three bytes.
 ghost use mathlib.Core.Path.{_≡_};
 ghost use lib.ListN.{drop};
-ghost use Rattle.prototype.specs.Front.{lines, sizes, front, linesResult, sizesResult, frontResult};
+ghost use Rattle.prototype.specs.Front.{lines, sizes, front};
+ghost use Rattle.prototype.specs.Inner.Results.{linesResult, sizesResult, frontResult};
 use cursor::Cursor;
 use format::refusal::Refusal;
 use reader::field::U8Result;

@@ -22,7 +22,8 @@ use Rattle.reader.specs.declared.field.U32Result.the-variants as u32
 use Rattle.reader.specs.declared.field.U64Result.the-variants as u64
 use Rattle.reader.specs.declared.string.OptionString.{OptionString}
 use Rattle.reader.specs.declared.string.StringResult.the-variants as string
-use Rattle.cursor.specs.Shown.{cursorAt, andThen, cursorResult}
+use Rattle.cursor.specs.Shown.{cursorAt}
+use Rattle.cursor.specs.Inner.Results.{cursorResult, andThen}
 use Rattle.reader.specs.Shown.{u8Result, u32Result, u64Result, optionString, stringResult}
 
 -- what a reader gave, with the rest left open

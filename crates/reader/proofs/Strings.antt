@@ -19,7 +19,8 @@ use Rattle.cursor.specs.declared.CursorResult.the-variants as cursor
 use Rattle.reader.specs.declared.field.U64Result.the-variants as u64
 use Rattle.reader.specs.declared.string.OptionString.the-variants as option
 use Rattle.reader.specs.declared.string.StringResult.the-variants as answer
-use Rattle.cursor.specs.Shown.{cursorAt, cursorResult}
+use Rattle.cursor.specs.Shown.{cursorAt}
+use Rattle.cursor.specs.Inner.Results.{cursorResult}
 use Rattle.reader.specs.Shown.{u64Result, stringResult}
 use Rattle.reader.proofs.Shows.{Was, onward, u64-err, u64-ok, cursor-err, cursor-ok}
 

@@ -1,4 +1,4 @@
 pub mod Rules
-pub mod Judged
 pub mod Findings
 pub mod Rust
+pub mod Inner

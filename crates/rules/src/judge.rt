@@ -2,7 +2,7 @@
 ghost use mathlib.Core.Path.{_≡_};
 ghost use mathlib.Core.List.{_++_};
 ghost use Rattle.rules.specs.Rules.{usesRegisterA, checkOf, operandRule, registerRule, brokenRule, jumpRule, ifAny, at, instruction};
-ghost use Rattle.rules.specs.Judged.{groupOf, asList, ruleOf};
+ghost use Rattle.rules.specs.Inner.Judged.{groupOf, asList, ruleOf};
 use crate::finding::Bounds;
 use crate::finding::Finding;
 use crate::finding::OptionFinding;

@@ -6,12 +6,13 @@ use native.Mathlib.Omega.{arith}
 use Rattle.format.specs.declared.refusal.Refusal.{Refusal}
 use Rattle.format.specs.Reading.{Prototype}
 use Rattle.prototype.specs.declared.row.FunctionRow.{FunctionRow}
-use Rattle.prototype.specs.Row.{rowOf}
+use Rattle.prototype.specs.Inner.Row.{rowOf}
 use Rattle.access.specs.declared.row.RowAnswer.the-variants as row
 use Rattle.access.specs.Asked.{Asked, found, refused}
-use Rattle.access.specs.Places.{shownRowAnswer}
+use Rattle.access.specs.Inner.Places.{shownRowAnswer}
 use Rattle.show_chunk.specs.declared.fields.FieldsAnswer.the-variants as fields
-use Rattle.show_chunk.specs.Fields.{fieldsShown, shownFields}
+use Rattle.show_chunk.specs.Fields.{shownFields}
+use Rattle.show_chunk.specs.Inner.Rows.{fieldsShown}
 
 pub fields-refused : (a : Asked Prototype) (q : Refusal) → row.Err q ≡ shownRowAnswer a → fields.Err q ≡ shownFields a
 fields-refused (found p) q e = absurd (let z : _≡_ {A = ℕ} 0 1 = cc in omega arith)

@@ -11,7 +11,7 @@ use Rattle.format.specs.Form.{Bytes}
 use Rattle.format.specs.ReadChunk.{Outcome, shown, refusal, read}
 use Rattle.decode.specs.declared.summary.Decoded.{Decoded}
 use Rattle.decode.specs.declared.summary.DecodedResult.the-variants as decoded
-use Rattle.decode.specs.Decoded.{shownReading, decodedResult}
+use Rattle.decode.specs.Inner.Decoded.{shownReading, decodedResult}
 use Rattle.access.proofs.Whole.{whole}
 use Rattle.show_chunk.specs.declared.summary.SummaryAnswer.the-variants as summary
 use Rattle.show_chunk.specs.Summaries.{shownSummary, trailingOf}

@@ -3,7 +3,6 @@ use Prim.Native.Nat.{ℕ}
 use lib.ListN.{length}
 use Rattle.format.specs.Reading.{Prototype}
 use Rattle.reader.specs.Shown.{optionString}
-use Rattle.prototype.specs.declared.row.FunctionRow.{FunctionRow}
 use Rattle.show_chunk.specs.declared.fields.FunctionFields.{FunctionFields}
 use Rattle.show_chunk.specs.declared.fields.FieldsAnswer.{FieldsAnswer}
 use Rattle.show_chunk.specs.declared.fields.FieldsAnswer.the-variants as fields
@@ -34,26 +33,3 @@ fieldsOf p = record {
 abbrev pub shownFields : Asked Prototype → FieldsAnswer
 shownFields (found p) = fields.Ok (fieldsOf p)
 shownFields (refused q) = fields.Err q
-
--- ## The same of a row
-abbrev pub fieldsShown : FunctionRow → FunctionFields
-fieldsShown r = record {
-  depth = r .depth;
-  parent = r .parent;
-  «source_name» = r .«source_name»;
-  «line_defined» = r .lines .«line_defined»;
-  «last_line_defined» = r .lines .«last_line_defined»;
-  numparams = r .sizes .numparams;
-  «is_vararg» = r .sizes .«is_vararg»;
-  maxstacksize = r .sizes .maxstacksize;
-  counts = record {
-    instructions = r .lists .instructions .count;
-    constants = r .lists .constants .count;
-    upvalues = r .lists .upvalues .count;
-    protos = r .lists .protos .count;
-    «line_info» = r .lists .«line_info» .count;
-    «abs_line_info» = r .lists .«abs_line_info» .count;
-    «loc_vars» = r .lists .«loc_vars» .count;
-    «upvalue_names» = r .lists .«upvalue_names» .count;
-  };
-}

@@ -2,7 +2,8 @@
 ghost use mathlib.Core.Path.{_≡_};
 ghost use Rattle.format.specs.ReadChunk.{read};
 ghost use Rattle.access.specs.Asked.{functionOf};
-ghost use Rattle.show_chunk.specs.Fields.{fieldsShown, shownFields};
+ghost use Rattle.show_chunk.specs.Fields.{shownFields};
+ghost use Rattle.show_chunk.specs.Inner.Rows.{fieldsShown};
 use access::row::RowAnswer;
 use access::row::function_row;
 use format::limits::ResourceLimits;

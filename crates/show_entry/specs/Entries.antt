@@ -7,20 +7,8 @@ use Rattle.format.specs.declared.entry.UpvalueDesc.{UpvalueDesc}
 use Rattle.format.specs.declared.entry.AbsLineInfo.{AbsLineInfo}
 use Rattle.format.specs.GrammarFields.{LuaString}
 use Rattle.format.specs.Reading as reading
-use Rattle.reader.specs.declared.field.U8Result.{U8Result}
-use Rattle.reader.specs.declared.field.U8Result.the-variants as u8
-use Rattle.reader.specs.declared.field.U32Result.{U32Result}
-use Rattle.reader.specs.declared.field.U32Result.the-variants as u32
-use Rattle.reader.specs.declared.string.StringResult.{StringResult}
-use Rattle.reader.specs.declared.string.StringResult.the-variants as string
 use Rattle.reader.specs.Shown.{optionString}
-use Rattle.lists.specs.declared.constant.ConstantResult.{ConstantResult}
-use Rattle.lists.specs.declared.constant.ConstantResult.the-variants as constant
-use Rattle.lists.specs.declared.debug.AnchorResult.{AnchorResult}
-use Rattle.lists.specs.declared.debug.AnchorResult.the-variants as anchor
 use Rattle.lists.specs.Shown.{constantValue}
-use Rattle.entries.specs.declared.code.UpvalueResult.{UpvalueResult}
-use Rattle.entries.specs.declared.code.UpvalueResult.the-variants as upvalue
 use Rattle.show_entry.specs.declared.WordAnswer.{WordAnswer}
 use Rattle.show_entry.specs.declared.WordAnswer.the-variants as word-answer
 use Rattle.show_entry.specs.declared.ConstantAnswer.{ConstantAnswer}
@@ -61,28 +49,3 @@ shownAnchor (refused q) = anchor-answer.Err q
 abbrev pub shownName : Asked (Option LuaString) → NameAnswer
 shownName (found t) = name-answer.Ok (optionString t)
 shownName (refused q) = name-answer.Err q
-
--- ## The same of what was read
-abbrev pub wordOf : U32Result → WordAnswer
-wordOf (u32.Ok v c) = word-answer.Ok v
-wordOf (u32.Err q) = word-answer.Err q
-
-abbrev pub constantOf : ConstantResult → ConstantAnswer
-constantOf (constant.Ok v c) = constant-answer.Ok v
-constantOf (constant.Err q) = constant-answer.Err q
-
-abbrev pub upvalueOf : UpvalueResult → UpvalueAnswer
-upvalueOf (upvalue.Ok v c) = upvalue-answer.Ok v
-upvalueOf (upvalue.Err q) = upvalue-answer.Err q
-
-abbrev pub deltaOf : U8Result → DeltaAnswer
-deltaOf (u8.Ok v c) = delta-answer.Ok (toZ w8 v)
-deltaOf (u8.Err q) = delta-answer.Err q
-
-abbrev pub anchorOf : AnchorResult → AnchorAnswer
-anchorOf (anchor.Ok v c) = anchor-answer.Ok v
-anchorOf (anchor.Err q) = anchor-answer.Err q
-
-abbrev pub nameOf : StringResult → NameAnswer
-nameOf (string.Ok v c) = name-answer.Ok v
-nameOf (string.Err q) = name-answer.Err q

@@ -25,11 +25,12 @@ use Rattle.reader.specs.declared.string.OptionString.the-variants as string
 use Rattle.reader.specs.declared.string.StringAt.{StringAt}
 use Rattle.reader.specs.Shown.{optionString}
 use Rattle.lists.specs.declared.debug.LocalResult.the-variants as raw
-use Rattle.lists.specs.Readers.{RawLocal, named}
+use Rattle.lists.specs.Readers.{RawLocal}
+use Rattle.lists.specs.Inner.Counts.{named}
 use Rattle.lists.specs.Shown as lists
-use Rattle.lent.specs.Splice.{splice}
+use Rattle.lent.specs.Inner.Splice.{splice}
 use Rattle.lent.proofs.Splices.{splice-front, splice-set}
-use Rattle.entries.specs.Nth.{localAt}
+use Rattle.entries.specs.Inner.Nth.{localAt}
 use Rattle.entries.proofs.Items.{LocalFound, local-nth}
 use Rattle.entries.proofs.Strings.{local-stands}
 use Rattle.show_local.specs.declared.LocalAnswer.{LocalAnswer}
@@ -37,8 +38,9 @@ use Rattle.show_local.specs.declared.LocalAnswer.the-variants as answer
 use Rattle.access.specs.declared.place.EntryKind.the-variants as kind
 use Rattle.access.specs.declared.place.PlaceAnswer.the-variants as place
 use Rattle.access.specs.Asked.{Asked, found, refused, functionOf, entryOf}
-use Rattle.show_local.specs.Locals.{shownLocal, nameWritten, nameLength, nameBytes, Stands}
-use Rattle.access.specs.Places.{shownPlace}
+use Rattle.show_local.specs.Locals.{shownLocal, nameWritten}
+use Rattle.show_local.specs.Inner.Names.{nameLength, nameBytes, Stands}
+use Rattle.access.specs.Inner.Places.{shownPlace}
 use Rattle.access.proofs.Found.{entry-refused, entry-there}
 
 -- the name of a variable, as it is spelt and as it is shown

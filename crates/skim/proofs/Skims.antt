@@ -30,15 +30,15 @@ use Rattle.chunk.specs.declared.walk.WalkResult.{WalkResult}
 use Rattle.chunk.specs.declared.walk.WalkResult.the-variants as answer
 use Rattle.prototype.specs.Parts as parts
 use Rattle.prototype.specs.PartsShown.{headResult, tailResult}
-use Rattle.prototype.specs.Row.{shownRow, lookup}
-use Rattle.chunk.specs.Walk.{shownWhere, entered, walkResultFrom, walkResult, further, joinedShown}
+use Rattle.prototype.specs.Inner.Row.{shownRow, lookup}
+use Rattle.chunk.specs.Inner.Walk.{shownWhere, entered, walkResultFrom, walkResult, further, joinedShown}
 use Rattle.chunk.proofs.Forests.{restOf, andRest, one-more, no-more}
 use Rattle.chunk.proofs.Functions as functions
 use Rattle.chunk.proofs.Functions.{walkedOf, exact-entered, too-deep, too-many, enters}
 use Rattle.skim.specs.declared.walk.Skimmed.{Skimmed}
 use Rattle.skim.specs.declared.walk.SkimResult.{SkimResult}
 use Rattle.skim.specs.declared.walk.SkimResult.the-variants as skim
-use Rattle.skim.specs.Skim.{skimResult, walkedShown}
+use Rattle.skim.specs.Inner.Skim.{skimResult, walkedShown}
 
 -- a walk without its row
 abbrev pub dropRow : WalkResult → SkimResult

@@ -1,1 +1,1 @@
-pub mod Skim
+pub mod Inner

@@ -10,7 +10,7 @@ use lib.ListN.{length, getD, take, drop, length-drop, drop-of-length-le}
 use lib.Seq.{drop-cons, take-all}
 use Rattle.text.specs.declared.number.Number.the-variants.{Value, None}
 use Rattle.text.specs.declared.number.Integer.the-variants as integer
-use Rattle.text.specs.Numbers.{digitOf, spelling, spelt, positive, negative, signedOf}
+use Rattle.text.specs.Inner.Numbers.{digitOf, spelling, spelt, positive, negative, signedOf}
 
 -- the test of the code, without a product
 pub above : (base most d n : ℕ) → 0 < base → d ≤ most → (most - d) / base < n → most < n * base + d

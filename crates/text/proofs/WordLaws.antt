@@ -9,7 +9,7 @@ use borrow.Author.Tests.{eq-eqb, ne-eqb}
 use lib.Dec.{eqb}
 use lib.ListN.{length, getD, drop, drop-of-length-le}
 use lib.Seq.{drop-cons}
-use Rattle.text.specs.Tokens.{starts, wordLength}
+use Rattle.text.specs.Inner.Tokens.{starts, wordLength}
 
 module _ (s : List ℕ) (i : ℕ) where
   pub word-end : length s ≤ i → wordLength (drop i s) ≡ 0

@@ -1,4 +1,1 @@
-pub mod Lines
-pub mod Numbers
-pub mod Tokens
-pub mod Hex
+pub mod Inner

@@ -1,7 +1,7 @@
 // Bytes as a request spells them: two digits each, or `-` where there are none.
 ghost use Prim.Native.Nat.{_+_, _*_, _≤_, _<_};
 ghost use lib.ListN.{length};
-ghost use Rattle.text.specs.Hex.{Fitting};
+ghost use Rattle.text.specs.Inner.Hex.{Fitting};
 use crate::number::digit;
 
 // How many bytes were read, or none: the word spells no bytes, or more than there is room for.

@@ -2,7 +2,7 @@
 ghost use mathlib.Core.Path.{_≡_};
 ghost use Prim.Native.Nat.{ℕ, _+_, _≤_, _<_};
 ghost use lib.ListN.{length, getD};
-ghost use Rattle.text.specs.Lines.{Held, Within};
+ghost use Rattle.text.specs.Inner.Lines.{Held, Within};
 use libc::STDIN_FILENO;
 
 // The longest request, without its newline.

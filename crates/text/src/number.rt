@@ -2,7 +2,7 @@
 ghost use mathlib.Core.Path.{_≡_};
 ghost use Prim.Native.Nat.{_≤_, _<_, _^_};
 ghost use lib.IntN.{pos, negℤ};
-ghost use Rattle.text.specs.Numbers.{digitOf, spelt, signedOf, Most, MostSigned};
+ghost use Rattle.text.specs.Inner.Numbers.{digitOf, spelt, signedOf, Most, MostSigned};
 
 pub enum Number {
     Value(u64),

@@ -2,7 +2,7 @@
 ghost use mathlib.Core.Path.{_≡_};
 ghost use Prim.Native.Nat.{_≤_, _<_, _^_};
 ghost use lib.ListN.{length};
-ghost use Rattle.text.specs.Tokens.{starts, wordAt, numberAt, integerAt, Inside, MostAt, MostSignedAt};
+ghost use Rattle.text.specs.Inner.Tokens.{starts, wordAt, numberAt, integerAt, Inside, MostAt, MostSignedAt};
 use crate::number;
 use crate::number::Integer;
 use crate::number::Number;

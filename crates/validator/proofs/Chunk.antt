@@ -18,23 +18,25 @@ use Rattle.format.proofs.Located.{Located, all-located}
 use Rattle.format.proofs.ReadChunkLaws.{read-sound, main-complete, read-within}
 use Rattle.prototype.specs.declared.row.OptionRow.the-variants as option
 use Rattle.prototype.specs.declared.row.FunctionRow.{FunctionRow}
-use Rattle.prototype.specs.Row.{rowOf, shownRow, lookup}
+use Rattle.prototype.specs.Inner.Row.{rowOf, shownRow, lookup}
 use Rattle.decode.specs.declared.summary.Decoded.{Decoded}
 use Rattle.decode.specs.declared.summary.DecodedResult.the-variants as decoded
-use Rattle.decode.specs.Decoded.{shownWarnings, decodedResult, shownReading}
+use Rattle.decode.specs.Decoded.{shownWarnings}
+use Rattle.decode.specs.Inner.Decoded.{shownReading, decodedResult}
 use Rattle.decode.proofs.Summaries.{in-ceilings}
 use Rattle.decode.proofs.MainAt.{WasShown, was-shown, First, first-of, MainAt, main-at, two-warnings}
 use Rattle.validator.specs.declared.verdict.TotalsResult.the-variants as totals
 use Rattle.rules.specs.Findings.{MAX-DIAGNOSTICS, chunkFindings}
-use Rattle.validator.specs.Position.{outOf, startPosition}
+use Rattle.validator.specs.Inner.Position.{outOf, startPosition}
 use Rattle.validator.specs.declared.tally.Totals.{Totals}
 use Rattle.validator.specs.declared.verdict.VerdictAnswer.the-variants as verdicts
 use Rattle.validator.specs.declared.verdict.CountAnswer.the-variants as counts
-use Rattle.validator.specs.Totals.{tallied, verdictShown}
-use Rattle.validator.specs.Answers.{warningCount, totalsResult, shownVerdict, shownCount}
+use Rattle.validator.specs.Inner.Totals.{tallied, verdictShown}
+use Rattle.validator.specs.Answers.{shownVerdict, shownCount}
+use Rattle.validator.specs.Inner.Counts.{totalsResult, warningCount}
 use Rattle.rules.specs.Rust.{validate}
 use Rattle.rules.proofs.RustLaws.{validate-is}
-use Rattle.functions.specs.Rows.{chunkRows}
+use Rattle.functions.specs.Inner.Rows.{chunkRows}
 use Rattle.functions.proofs.Agreement.{rowsFor, all-rows}
 use Rattle.validator.proofs.Whole.{whole}
 

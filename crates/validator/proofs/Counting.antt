@@ -10,7 +10,7 @@ use Rattle.rules.specs.declared.finding.Finding.{Finding}
 use Rattle.validator.specs.declared.tally.Totals.{Totals}
 use Rattle.rules.specs.Rules.{severity}
 use Rattle.rules.specs.Findings.{Listing, ended, prepend, isError, anyError}
-use Rattle.validator.specs.Totals.{andTally, tallied}
+use Rattle.validator.specs.Inner.Totals.{andTally, tallied}
 
 or-false : (b : Bool) → b || false ≡ b
 or-false true = refl

@@ -12,7 +12,7 @@ use Rattle.format.specs.declared.limits.ResourceLimits.{ResourceLimits}
 use Rattle.format.specs.Form.{Bytes}
 use Rattle.format.proofs.Every.{All, all-append}
 use Rattle.functions.specs.declared.Row.{Row}
-use Rattle.functions.specs.Rows.{rowsFrom}
+use Rattle.functions.specs.Inner.Rows.{rowsFrom}
 use Rattle.rules.specs.declared.finding.Finding.{Finding}
 use Rattle.validator.specs.declared.scan.Code.{Code}
 use Rattle.rules.proofs.FewFindings.{Few, few-code}
@@ -21,8 +21,8 @@ use Rattle.rules.specs.Findings.{MAX-DIAGNOSTICS, boundsOf, codeGroups, groups,
 use Rattle.rules.specs.declared.finding.OptionFinding.{OptionFinding}
 use Rattle.rules.specs.declared.finding.OptionFinding.the-variants as finding
 use Rattle.validator.specs.declared.search.Position.{Position}
-use Rattle.rules.specs.Judged.{asList}
-use Rattle.validator.specs.Position.{wordsAt, codeLeft, rowBounds, nextNumber, rowGroups, groupsLeft, goesOn, outOf}
+use Rattle.rules.specs.Inner.Judged.{asList}
+use Rattle.validator.specs.Inner.Position.{wordsAt, codeLeft, rowBounds, nextNumber, rowGroups, groupsLeft, goesOn, outOf}
 
 few-rows : (s : Bytes) (k : ℕ) (rows : List Row) → All Few (rowGroups s k rows)
 unfolding rowGroups

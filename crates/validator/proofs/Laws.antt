@@ -15,9 +15,9 @@ use Rattle.reader.specs.declared.field.U32Result.the-variants as u32
 use Rattle.reader.specs.Shown.{u32Result}
 use Rattle.functions.specs.declared.Row.{Row}
 use Rattle.rules.specs.Rules.{instruction}
-use Rattle.rules.specs.Judged.{asList}
+use Rattle.rules.specs.Inner.Judged.{asList}
 use Rattle.rules.specs.Findings.{codeGroups, Listing, ended, prepend, limited}
-use Rattle.validator.specs.Position.{onWord, wordsAt, codeLeft, codeAt, skip, rowBounds, nextNumber, rowGroups, anyLeft}
+use Rattle.validator.specs.Inner.Position.{onWord, wordsAt, codeLeft, codeAt, skip, rowBounds, nextNumber, rowGroups, anyLeft}
 use Rattle.rules.specs.declared.finding.Finding.{Finding}
 use Rattle.rules.specs.declared.finding.OptionFinding.{OptionFinding}
 use Rattle.rules.specs.declared.finding.Bounds.{Bounds}

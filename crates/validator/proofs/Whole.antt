@@ -19,11 +19,11 @@ use Rattle.format.proofs.ExactFields.{exact-field}
 use Rattle.format.proofs.Left.{left}
 use Rattle.format.proofs.Located.{Located}
 use Rattle.reader.specs.Shown.{u32Result}
-use Rattle.functions.specs.Rows.{chunkRows}
+use Rattle.functions.specs.Inner.Rows.{chunkRows}
 use Rattle.functions.proofs.RowLaws.{at-start}
 use Rattle.functions.proofs.Agreement.{rowsFor, all-rows}
 use Rattle.rules.specs.Findings.{boundsOf, codeGroups, groups, Listing, limited, MAX-DIAGNOSTICS, chunkFindings}
-use Rattle.validator.specs.Position.{onWord, wordsAt, codeLeft, nextNumber, rowGroups, outOf, startPosition}
+use Rattle.validator.specs.Inner.Position.{onWord, wordsAt, codeLeft, nextNumber, rowGroups, outOf, startPosition}
 use Rattle.rules.specs.declared.finding.Finding.{Finding}
 
 -- ## The words of a list that was read

@@ -1,3 +1,2 @@
-pub mod Position
-pub mod Totals
 pub mod Answers
+pub mod Inner

@@ -2,7 +2,8 @@
 ghost use mathlib.Core.Path.{_≡_};
 ghost use Prim.Native.Nat.{_<_};
 ghost use Rattle.format.specs.ReadChunk as format;
-ghost use Rattle.validator.specs.Answers.{warningCount, totalsResult, shownVerdict, shownCount};
+ghost use Rattle.validator.specs.Answers.{shownVerdict, shownCount};
+ghost use Rattle.validator.specs.Inner.Counts.{totalsResult, warningCount};
 use crate::tally::Totals;
 use crate::tally::tally;
 use crate::tally::verdict_of;

@@ -1,7 +1,7 @@
 // Answers the requests on standard input, a line each, on standard output.
 ghost use Prim.Native.Nat.{_<_};
 ghost use lib.ListN.{length};
-ghost use Rattle.text.specs.Lines.{Within};
+ghost use Rattle.text.specs.Inner.Lines.{Within};
 use answers::Rows;
 use answers::reply;
 use answers::reply::Asked;

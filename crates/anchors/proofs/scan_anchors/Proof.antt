@@ -5,7 +5,7 @@ use borrow.Author.Needs.{needs}
 use lib.ListN.{drop}
 use Rattle.format.specs.ReadChunk.{anchor}
 use Rattle.lists.proofs.DebugInfo.{anchor-err, anchor-ok}
-use Rattle.anchors.specs.Scan.{startOf}
+use Rattle.anchors.specs.Inner.Scan.{startOf}
 use Rattle.anchors.proofs.Turns.{scanFrom, ends, stops, goes-on}
 use Rattle.anchors.proofs.scan_anchors.Statement.{statement}
 use Rattle.anchors.proofs.scan_anchors.Tie as tie

@@ -5,7 +5,7 @@ use Prim.Native.Nat.{_/_}
 use borrow.Author.Needs.{needs}
 use lib.ListN.{length}
 use Rattle.format.specs.ReadChunk.{read}
-use Rattle.validator.specs.Position.{outOf}
+use Rattle.validator.specs.Inner.Position.{outOf}
 use Rattle.finding_plan.specs.Validated.{shownFindings}
 use Rattle.boundary.proofs.Calls.{call-refuses, call-answers}
 use Rattle.finding_list.specs.FindingNumbers.{ofFindings, numbersWritten}

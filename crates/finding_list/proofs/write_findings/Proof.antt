@@ -5,8 +5,8 @@ use Prim.Native.Nat.{_≤_, _-_}
 use native.Mathlib.Omega.{arith}
 use borrow.Author.Needs.{needs}
 use lib.ListN.{length, take}
-use Rattle.lent.specs.Splice.{splice}
-use Rattle.validator.specs.Position.{outOf}
+use Rattle.lent.specs.Inner.Splice.{splice}
+use Rattle.validator.specs.Inner.Position.{outOf}
 use Rattle.finding_plan.proofs.Steps.{After, at-first, step-found}
 use Rattle.finding_list.specs.FindingNumbers.{listNumbers}
 use Rattle.finding_list.proofs.Numbered.{none-put, next-put}

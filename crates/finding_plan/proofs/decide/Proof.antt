@@ -4,7 +4,7 @@ use borrow.Author.Needs.{needs}
 use Rattle.format.specs.declared.limits.ResourceLimits.{ResourceLimits}
 use Rattle.format.specs.Form.{Bytes}
 use Rattle.rules.specs.Findings.{MAX-DIAGNOSTICS, Listing}
-use Rattle.validator.specs.Position.{outOf, startPosition}
+use Rattle.validator.specs.Inner.Position.{outOf, startPosition}
 use Rattle.finding_plan.proofs.Planning.{too-many, all-fit}
 use Rattle.finding_plan.proofs.decide.Statement.{statement}
 use Rattle.finding_plan.proofs.decide.Tie as tie

@@ -3,8 +3,8 @@ use mathlib.Core.Path.{sym, ap, subst, _∙_}
 use borrow.Author.Needs.{needs}
 use Rattle.format.specs.ReadChunk.{read}
 use Rattle.rules.specs.Findings.{MAX-DIAGNOSTICS}
-use Rattle.validator.specs.Position.{outOf, startPosition}
-use Rattle.finding_plan.specs.Plan.{Planned}
+use Rattle.validator.specs.Inner.Position.{outOf, startPosition}
+use Rattle.finding_plan.specs.Inner.Plan.{Planned}
 use Rattle.validator.proofs.Chunk.{was, few-instructions, main-there, all-findings}
 use Rattle.finding_plan.proofs.Planning.{was-refused, plan-refused, plan-made}
 use Rattle.finding_plan.proofs.prepare.Statement.{statement}

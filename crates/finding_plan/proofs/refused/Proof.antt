@@ -1,7 +1,7 @@
 -- `finding_plan::refused` meets its contract. Assumes nothing.
 use mathlib.Core.Path.{ap}
 use borrow.Author.Needs.{needs}
-use Rattle.finding_plan.specs.Plan.{refusedPlan}
+use Rattle.finding_plan.specs.Inner.Plan.{refusedPlan}
 use Rattle.finding_plan.proofs.refused.Statement.{statement}
 use Rattle.finding_plan.proofs.refused.Tie as tie
 

@@ -59,9 +59,9 @@ use Rattle.rules.specs.declared.finding.Finding.{Finding}
 use Rattle.validator.specs.declared.search.Position.{Position}
 use Rattle.validator.specs.declared.search.Step.{Step}
 use Rattle.rules.specs.Findings.{MAX-DIAGNOSTICS, Listing}
-use Rattle.validator.specs.Position.{outOf, stepped}
+use Rattle.validator.specs.Inner.Position.{outOf, stepped}
 use Rattle.finding_plan.specs.declared.Plan.{Plan}
-use Rattle.finding_plan.specs.Plan.{written, Planned}
+use Rattle.finding_plan.specs.Inner.Plan.{written, Planned}
 use Rattle.findings.proofs.Rest.{rest}
 use Rattle.finding_plan.proofs.Steps.{After, at-first, step-found}
 use Rattle.findings.proofs.Filled.{written-zero, written-length, written-next}

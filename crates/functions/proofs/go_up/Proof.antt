@@ -4,7 +4,7 @@ use borrow.Author.Needs.{needs}
 use mathlib.Core.Path.{_≡_, refl}
 use native.Mathlib.Omega.{arith}
 use Prim.Native.Nat.{_<_}
-use Rattle.functions.specs.Rows.{tailAt, rowsFrom}
+use Rattle.functions.specs.Inner.Rows.{tailAt, rowsFrom}
 use Rattle.functions.proofs.RowLaws.{none-at-top, none-here, too-deep}
 use Rattle.functions.proofs.go_up.Statement.{statement}
 use Rattle.functions.proofs.go_up.Tie as tie

@@ -1,7 +1,7 @@
 -- `header::refusal_of` meets its contract: each arm is told which part it has. Assumes nothing.
 use mathlib.Core.Path.{ap, sym}
 use borrow.Author.Needs.{needs}
-use Rattle.header.specs.Shown.{refusalOf}
+use Rattle.header.specs.Inner.Results.{refusalOf}
 use Rattle.header.proofs.refusal_of.Statement.{statement}
 use Rattle.header.proofs.refusal_of.Tie as tie
 

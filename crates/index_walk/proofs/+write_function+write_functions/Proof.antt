@@ -17,12 +17,12 @@ use Rattle.chunk.specs.declared.walk.Walked.{Walked}
 use Rattle.chunk.specs.declared.walk.WalkResult.the-variants as answer
 use Rattle.prototype.specs.Parts as parts
 use Rattle.prototype.specs.PartsShown.{headResult, tailResult}
-use Rattle.chunk.specs.Walk.{shownWhere, entered, walkResult, rowShown, finishedShown, againShown, joinedShown}
+use Rattle.chunk.specs.Inner.Walk.{shownWhere, entered, walkResult, rowShown, finishedShown, againShown, joinedShown}
 use Rattle.chunk.proofs.Turns.{all, Rest, starts, ends, deep, many, stops, goes-on}
 use Rattle.chunk.proofs.Functions.{in-total, first, first-shown, head-refused, nested-refused, tail-refused, function-read}
-use Rattle.lent.specs.Splice.{splice}
-use Rattle.index_row.specs.Stored.{storedRow}
-use Rattle.index_walk.specs.Written.{Wrote}
+use Rattle.lent.specs.Inner.Splice.{splice}
+use Rattle.index_row.specs.Inner.Stored.{storedRow}
+use Rattle.index_walk.specs.Inner.Written.{Wrote}
 use Rattle.index_walk.proofs.Rows.{refuses, function-wrote, Behind, starts-behind, ends-behind, on-behind}
 use borrow.Author.Needs.{needs}
 use native.Mathlib.Omega.{arith}

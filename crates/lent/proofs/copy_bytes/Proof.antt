@@ -5,7 +5,7 @@ use Prim.Native.Nat.{_≤_, _-_}
 use native.Mathlib.Omega.{arith}
 use borrow.Author.Needs.{needs}
 use lib.ListN.{length, take, drop}
-use Rattle.lent.specs.Splice.{splice}
+use Rattle.lent.specs.Inner.Splice.{splice}
 use Rattle.lent.proofs.Splices.{splice-none, copied-next}
 use Rattle.lent.proofs.copy_bytes.Statement.{statement}
 use Rattle.lent.proofs.copy_bytes.Tie as tie

@@ -6,11 +6,11 @@ use Prim.Native.Nat.{_+_, _<_}
 use native.Mathlib.Omega.{arith}
 use lib.ListN.{set, replicate, length-set}
 use lib.ListN as lists
-use Rattle.functions.specs.Rows.{rowsFrom, chunkRows}
+use Rattle.functions.specs.Inner.Rows.{rowsFrom, chunkRows}
 use Rattle.functions.proofs.RowLaws.{at-start}
 use Rattle.print.specs.Output.{waiting, puts}
-use Rattle.listing_text.specs.Lines.{rowLine}
-use Rattle.listing.specs.Listing.{rowLines}
+use Rattle.listing_text.specs.Inner.Rows.{rowLine}
+use Rattle.listing.specs.Inner.Rows.{rowLines}
 use Rattle.listing_text.proofs.Laws.{puts-append, nothing}
 use Rattle.listing.proofs.function_lines.Statement.{statement}
 use Rattle.listing.proofs.function_lines.Tie as tie

@@ -1,6 +1,6 @@
 -- `listing_text::function_line` meets its contract. Assumes nothing.
 use borrow.Author.Needs.{needs}
-use Rattle.listing_text.specs.Lines.{rowLine}
+use Rattle.listing_text.specs.Inner.Rows.{rowLine}
 use Rattle.listing_text.proofs.function_line.Statement.{statement}
 use Rattle.listing_text.proofs.function_line.Tie as tie
 

@@ -4,10 +4,11 @@ use borrow.Author.Needs.{needs}
 use lib.ListN.{length}
 use Rattle.format.specs.ReadChunk.{read}
 use Rattle.reader.specs.Shown.{u8Result}
-use Rattle.entries.specs.Nth.{byteAt}
+use Rattle.entries.specs.Inner.Nth.{byteAt}
 use Rattle.entries.proofs.Items.{run-nth}
 use Rattle.access.specs.declared.place.EntryKind.the-variants as kind
-use Rattle.show_entry.specs.Entries.{deltaOf, shownDelta}
+use Rattle.show_entry.specs.Entries.{shownDelta}
+use Rattle.show_entry.specs.Inner.Results.{deltaOf}
 use Rattle.access.proofs.Found.{entry-refused, entry-shown}
 use Rattle.show_entry.proofs.delta.Statement.{statement}
 use Rattle.show_entry.proofs.delta.Tie as tie

@@ -5,10 +5,11 @@ use lib.ListN.{length}
 use Rattle.format.specs.ReadFields.{field}
 use Rattle.format.specs.ReadChunk.{read}
 use Rattle.reader.specs.Shown.{u32Result}
-use Rattle.entries.specs.Nth.{entryAt}
+use Rattle.entries.specs.Inner.Nth.{entryAt}
 use Rattle.entries.proofs.Items.{many-nth}
 use Rattle.access.specs.declared.place.EntryKind.the-variants as kind
-use Rattle.show_entry.specs.Entries.{wordOf, shownWord}
+use Rattle.show_entry.specs.Entries.{shownWord}
+use Rattle.show_entry.specs.Inner.Results.{wordOf}
 use Rattle.access.proofs.Found.{entry-refused, entry-shown}
 use Rattle.show_entry.proofs.instruction.Statement.{statement}
 use Rattle.show_entry.proofs.instruction.Tie as tie

@@ -5,10 +5,11 @@ use lib.ListN.{length}
 use Rattle.format.specs.ReadFields.{string}
 use Rattle.format.specs.ReadChunk.{read}
 use Rattle.reader.specs.Shown.{stringResult}
-use Rattle.entries.specs.Nth.{entryAt}
+use Rattle.entries.specs.Inner.Nth.{entryAt}
 use Rattle.entries.proofs.Items.{many-nth}
 use Rattle.access.specs.declared.place.EntryKind.the-variants as kind
-use Rattle.show_entry.specs.Entries.{nameOf, shownName}
+use Rattle.show_entry.specs.Entries.{shownName}
+use Rattle.show_entry.specs.Inner.Results.{nameOf}
 use Rattle.access.proofs.Found.{entry-refused, entry-shown}
 use Rattle.show_entry.proofs.upvalue_name.Statement.{statement}
 use Rattle.show_entry.proofs.upvalue_name.Tie as tie

@@ -3,7 +3,7 @@ use mathlib.Core.Path.{_≡_, refl, _∙_}
 use Prim.Native.Nat.{_<_}
 use borrow.Author.Needs.{needs}
 use lib.ListN.{length}
-use Rattle.text.specs.Lines.{Held}
+use Rattle.text.specs.Inner.Lines.{Held}
 use Rattle.vectors.proofs.answer_all.Statement.{statement}
 use Rattle.vectors.proofs.answer_all.Tie as tie
 

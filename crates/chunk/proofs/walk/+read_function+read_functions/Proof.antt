@@ -14,7 +14,7 @@ use Rattle.prototype.specs.declared.parts.TailResult.the-variants as tail-answe
 use Rattle.chunk.specs.declared.walk.Walked.{Walked}
 use Rattle.prototype.specs.Parts as parts
 use Rattle.prototype.specs.PartsShown.{headResult, tailResult}
-use Rattle.chunk.specs.Walk.{shownWhere, entered, walkResult, finishedShown, againShown, joinedShown}
+use Rattle.chunk.specs.Inner.Walk.{shownWhere, entered, walkResult, finishedShown, againShown, joinedShown}
 use borrow.Author.Needs.{needs}
 use native.Mathlib.Omega.{arith}
 use mathlib.Core.Path.{_≡_, sym, _∙_, ap}

@@ -6,7 +6,7 @@ use native.Mathlib.Omega.{arith}
 use lib.ListN.{length, drop}
 use Rattle.format.specs.GrammarChunk.{outermost}
 use Rattle.format.specs.ReadChunk.{function}
-use Rattle.copy_parts.specs.Parts.{functionBytes}
+use Rattle.copy_parts.specs.Inner.Parts.{functionBytes}
 use Rattle.copy_walk.proofs.Tails.{tail-inside, put-part}
 use Rattle.copy.proofs.Chunks.{functions-stops, functions-put}
 use Rattle.copy.proofs.whole.copy_functions.Statement.{statement}

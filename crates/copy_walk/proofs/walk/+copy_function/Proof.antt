@@ -18,10 +18,10 @@ use Rattle.prototype.specs.declared.parts.HeadResult.the-variants as head-answe
 use Rattle.chunk.specs.declared.walk.WalkResult.the-variants as answer
 use Rattle.prototype.specs.Parts as parts
 use Rattle.prototype.specs.PartsShown.{headResult}
-use Rattle.chunk.specs.Walk.{shownWhere, walkResult, againShown}
+use Rattle.chunk.specs.Inner.Walk.{shownWhere, walkResult, againShown}
 use Rattle.chunk.proofs.Turns.{all, Rest, starts, ends, deep, many, stops, goes-on}
 use Rattle.chunk.proofs.Functions.{in-total, first, first-shown, head-refused, nested-refused}
-use Rattle.copy_parts.specs.Parts.{functionBytes}
+use Rattle.copy_parts.specs.Inner.Parts.{functionBytes}
 use Rattle.copy_walk.proofs.Tails.{tail-inside, part-kept, put-part}
 use Rattle.copy_walk.proofs.Loops.{GoesOn, on-first, on-next, on-last}
 use Rattle.copy_walk.proofs.Functions.{not-read, end-shows, whole-put}

@@ -9,7 +9,7 @@ use lib.Signed.{mag}
 use mir.Syntax.{w64}
 use mir.Val.{toZ}
 use mir.Facts.{toZ-ofZ}
-use Rattle.lines.specs.Scan.{summed}
+use Rattle.lines.specs.Inner.Scan.{summed}
 use Rattle.lines.proofs.Sums.{turn, none-left}
 use Rattle.lines.proofs.deltas.add_deltas.Statement.{statement}
 use Rattle.lines.proofs.deltas.add_deltas.Tie as tie

@@ -8,7 +8,7 @@ use lib.ListN.{drop}
 use mir.Syntax.{w64}
 use mir.Facts.{toZ-pos, toZ-ofZ}
 use Rattle.lines.specs.Lines.{raised}
-use Rattle.lines.specs.Scan.{summed}
+use Rattle.lines.specs.Inner.Scan.{summed}
 use Rattle.lines.proofs.Sums.{none-from, some-from}
 use Rattle.lines.proofs.deltas.line_from.Statement.{statement}
 use Rattle.lines.proofs.deltas.line_from.Tie as tie

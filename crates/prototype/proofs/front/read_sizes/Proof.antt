@@ -2,7 +2,7 @@
 use mathlib.Core.Path.{sym, _∙_}
 use borrow.Author.Needs.{needs}
 use Rattle.reader.proofs.ThreeBytes.{first-refused, second-refused, third-refused, three-read}
-use Rattle.prototype.specs.Front.{sizesResult}
+use Rattle.prototype.specs.Inner.Results.{sizesResult}
 use Rattle.prototype.proofs.front.read_sizes.Statement.{statement}
 use Rattle.prototype.proofs.front.read_sizes.Tie as tie
 

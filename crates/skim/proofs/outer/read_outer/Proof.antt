@@ -14,11 +14,11 @@ use Rattle.prototype.specs.declared.parts.HeadResult.the-variants as head-answe
 use Rattle.chunk.specs.declared.walk.WalkResult.the-variants as answer
 use Rattle.prototype.specs.Parts as parts
 use Rattle.prototype.specs.PartsShown.{headResult}
-use Rattle.chunk.specs.Walk.{shownWhere, walkResult, finishedShown}
+use Rattle.chunk.specs.Inner.Walk.{shownWhere, walkResult, finishedShown}
 use Rattle.chunk.proofs.Functions as functions
 use Rattle.skim.specs.declared.walk.Skimmed.{Skimmed}
 use Rattle.skim.specs.declared.walk.SkimResult.the-variants as skim
-use Rattle.skim.specs.Skim.{skimResult, walkedShown}
+use Rattle.skim.specs.Inner.Skim.{skimResult, walkedShown}
 use Rattle.skim.proofs.Skims.{refused-too, without-row}
 use Rattle.skim.proofs.outer.read_outer.Statement.{statement}
 use Rattle.skim.proofs.outer.read_outer.Tie as tie

@@ -18,7 +18,7 @@ use Rattle.prototype.specs.PartsShown.{headResult}
 use Rattle.chunk.proofs.Functions.{in-total}
 use Rattle.skim.specs.declared.walk.Skimmed.{Skimmed}
 use Rattle.skim.specs.declared.walk.SkimResult.the-variants as skim
-use Rattle.skim.specs.Skim.{skimResult}
+use Rattle.skim.specs.Inner.Skim.{skimResult}
 use Rattle.skim.proofs.Skims as skims
 use Rattle.skim.proofs.walk.skim_function.Reads as skim-function
 use Rattle.skim.proofs.walk.skim_function.Kinds as skim-function-kinds

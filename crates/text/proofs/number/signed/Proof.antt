@@ -5,7 +5,7 @@ use native.Mathlib.Omega.{arith}
 use borrow.Author.Needs.{needs}
 use mir.Syntax.{w64}
 use mir.Facts.{toZ-pos}
-use Rattle.text.specs.Numbers.{positive, negative}
+use Rattle.text.specs.Inner.Numbers.{positive, negative}
 use Rattle.text.proofs.NumberLaws.{signed-empty, signed-below, signed-above}
 use Rattle.text.proofs.SignLaws.{negated-is, negated-most}
 use Rattle.text.proofs.number.signed.Statement.{statement}

@@ -5,7 +5,7 @@ use Prim.Native.Nat.{_+_, _*_, _≤_, _-_}
 use native.Mathlib.Omega.{arith}
 use borrow.Author.Needs.{needs}
 use lib.ListN.{length, drop}
-use Rattle.text.specs.Numbers.{spelling, spelt}
+use Rattle.text.specs.Inner.Numbers.{spelling, spelt}
 use Rattle.text.proofs.NumberLaws.{above, within, spelling-end, no-digit, too-large, one-digit, spelt-empty, spelt-all}
 use Rattle.text.proofs.number.unsigned.Statement.{statement}
 use Rattle.text.proofs.number.unsigned.Tie as tie

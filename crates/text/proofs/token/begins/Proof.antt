@@ -4,7 +4,7 @@ use mathlib.Core.Path.{_≡_, refl, sym, _∙_}
 use Prim.Native.Nat.{_≤_, _-_}
 use borrow.Author.Needs.{needs}
 use lib.ListN.{length, drop}
-use Rattle.text.specs.Tokens.{starts}
+use Rattle.text.specs.Inner.Tokens.{starts}
 use Rattle.text.proofs.WordLaws.{starts-end, starts-other, starts-more, starts-longer}
 use Rattle.text.proofs.token.begins.Statement.{statement}
 use Rattle.text.proofs.token.begins.Tie as tie

@@ -7,7 +7,7 @@ use borrow.Author.Needs.{needs}
 use borrow.Author.Tests.{le-leb, lt-leb}
 use lib.ListN.{length, drop}
 use Rattle.text.specs.declared.token.Token.the-variants.{Word}
-use Rattle.text.specs.Tokens.{wordLength}
+use Rattle.text.specs.Inner.Tokens.{wordLength}
 use Rattle.text.proofs.WordLaws.{word-end, word-space, word-more}
 use Rattle.text.proofs.token.next.Statement.{statement}
 use Rattle.text.proofs.token.next.Tie as tie

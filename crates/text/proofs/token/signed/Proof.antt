@@ -5,7 +5,7 @@ use native.Mathlib.Omega.{arith}
 use borrow.Author.Needs.{needs}
 use lib.Signed.{mag}
 use lib.ListN.{length}
-use Rattle.text.specs.Tokens.{integerThen, integerIn}
+use Rattle.text.specs.Inner.Tokens.{integerThen, integerIn}
 use Rattle.text.proofs.SignLaws.{held}
 use Rattle.text.proofs.token.signed.Statement.{statement}
 use Rattle.text.proofs.token.signed.Tie as tie

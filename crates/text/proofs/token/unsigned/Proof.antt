@@ -4,7 +4,7 @@ use Prim.Native.Nat.{_+_, _≤_}
 use native.Mathlib.Omega.{arith}
 use borrow.Author.Needs.{needs}
 use lib.ListN.{length}
-use Rattle.text.specs.Tokens.{numberThen, numberIn}
+use Rattle.text.specs.Inner.Tokens.{numberThen, numberIn}
 use Rattle.text.proofs.token.unsigned.Statement.{statement}
 use Rattle.text.proofs.token.unsigned.Tie as tie
 

@@ -4,7 +4,7 @@ use borrow.Author.Needs.{needs}
 use mathlib.Core.Path.{_≡_, refl}
 use native.Mathlib.Omega.{arith}
 use Prim.Native.Nat.{_-_}
-use Rattle.validator.specs.Position.{codeLeft, codeAt, skip}
+use Rattle.validator.specs.Inner.Position.{codeLeft, codeAt, skip}
 use Rattle.validator.proofs.Laws.{code-end, code-more}
 use Rattle.validator.proofs.scan.scan.Statement.{statement}
 use Rattle.validator.proofs.scan.scan.Tie as tie

@@ -1,7 +1,7 @@
 -- `validator::search::advance` meets its contract: what waits; or there are enough; or the next. Assumes nothing.
 use native.Mathlib.Omega.{arith}
 use borrow.Author.Needs.{needs}
-use Rattle.validator.specs.Position.{outOf}
+use Rattle.validator.specs.Inner.Position.{outOf}
 use Rattle.validator.proofs.Laws.{limited-full}
 use Rattle.validator.proofs.search.advance.Statement.{statement}
 use Rattle.validator.proofs.search.advance.Tie as tie

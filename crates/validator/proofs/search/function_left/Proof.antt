@@ -1,6 +1,6 @@
 -- `validator::search::function_left` meets its contract: whether a function was met. Assumes nothing.
 use borrow.Author.Needs.{needs}
-use Rattle.validator.specs.Position.{rowGroups}
+use Rattle.validator.specs.Inner.Position.{rowGroups}
 use Rattle.validator.proofs.search.function_left.Statement.{statement}
 use Rattle.validator.proofs.search.function_left.Tie as tie
 

@@ -8,9 +8,9 @@ use Prim.Native.Nat.{_<_}
 use mathlib.Core.List.{_++_}
 use lib.ListN.{length-set}
 use lib.ListN as lists
-use Rattle.functions.specs.Rows.{rowsFrom}
+use Rattle.functions.specs.Inner.Rows.{rowsFrom}
 use Rattle.rules.specs.Findings.{limited}
-use Rattle.validator.specs.Position.{codeLeft, rowGroups, goesOn, outOf}
+use Rattle.validator.specs.Inner.Position.{codeLeft, rowGroups, goesOn, outOf}
 use Rattle.validator.proofs.Laws.{limited-found, limited-fine, limited-none, limited-enter}
 use Rattle.validator.proofs.search.search.Statement.{statement}
 use Rattle.validator.proofs.search.search.Tie as tie

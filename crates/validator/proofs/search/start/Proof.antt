@@ -1,7 +1,7 @@
 -- `validator::search::start` meets its contract. Assumes nothing.
 use borrow.Author.Needs.{needs}
 use mathlib.Core.Path.{refl}
-use Rattle.validator.specs.Position.{startPosition}
+use Rattle.validator.specs.Inner.Position.{startPosition}
 use Rattle.validator.proofs.search.start.Statement.{statement}
 use Rattle.validator.proofs.search.start.Tie as tie
 

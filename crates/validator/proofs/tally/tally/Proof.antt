@@ -8,8 +8,8 @@ use mathlib.Core.List.{[], _∷_}
 use Prim.Native.Nat.{ℕ, _+_, _<_, _≤_, _^_}
 use lib.ListN as lists
 use Rattle.rules.specs.Findings.{prepend}
-use Rattle.validator.specs.Position.{outOf, stepIs}
-use Rattle.validator.specs.Totals.{andTally, tallied}
+use Rattle.validator.specs.Inner.Position.{outOf, stepIs}
+use Rattle.validator.specs.Inner.Totals.{andTally, tallied}
 use Rattle.validator.proofs.Few.{few-out}
 use Rattle.validator.proofs.Counting.{at-first, at-end, one-more, fewer, counts-up}
 use Rattle.validator.proofs.tally.tally.Statement.{statement}

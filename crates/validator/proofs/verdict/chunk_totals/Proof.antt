@@ -4,8 +4,8 @@ use borrow.Author.Needs.{needs}
 use Rattle.format.specs.ReadChunk.{read}
 use Rattle.validator.specs.declared.verdict.TotalsResult.the-variants as totals
 use Rattle.rules.specs.Findings.{MAX-DIAGNOSTICS}
-use Rattle.validator.specs.Position.{outOf, startPosition}
-use Rattle.validator.specs.Totals.{tallied}
+use Rattle.validator.specs.Inner.Position.{outOf, startPosition}
+use Rattle.validator.specs.Inner.Totals.{tallied}
 use Rattle.validator.proofs.Chunk.{totals-refused, few-instructions, main-there, totals-shown}
 use Rattle.validator.proofs.verdict.chunk_totals.Statement.{statement}
 use Rattle.validator.proofs.verdict.chunk_totals.Tie as tie
