@@ -14,6 +14,8 @@ pub mod LdumpChunk
 pub mod LundumpLaws
 pub mod LundumpParts
 pub mod LundumpChunk
+pub mod LundumpRead
+pub mod LuaChunks
 pub mod LundumpCase
 pub mod Cases
 pub mod ChunkCases
