@@ -1,32 +1,37 @@
--- The copy of a function behind its source is what `dumpFunction` (specs/LdumpFunctions.antt) writes there, where it has as many upvalue names as upvalues and every
--- number fits a size_t, as it does in what was read. So 01 parts from ldump.c in four things: a nested source is absent in the copy, where C writes one that differs from
--- its parent's; the copy has the upvalue names that were read, where C writes as many as upvalues; an absent local name is `?` in the copy; and a string constant keeps
--- the tag that was read, where C writes it by the string's length (that one is within `dumpConstant`). Numbers from 2^31 on are no ints, and so outside the C (`dumpInt`).
+-- What `dumpFunction` (specs/LdumpFunctions.antt) writes of one function, where three things do not part it from the copy: behind the source it is what the copy has there.
+-- And what is known of the functions of a chunk that was read.
+--     Alike p              no local name is absent, there are as many upvalue names as upvalues, and string constants are tagged by their length
+--     copied-as-dumped     then behind its source it is written as in the copy, if every number fits a size_t
+--     functions-known      every number that was read fits; there is a main; and each function's parent stands before it
+-- Numbers from 2^31 on are no ints, and so outside the C (`dumpInt`). The whole is in `proofs/LdumpWhole.antt`.
 -- Assumes nothing.
 use mathlib.Core.Path.{_≡_, refl, _∙_, ap, ap₂}
-use mathlib.Core.Bool.{true, false}
+use mathlib.Core.Bool.{Bool, true, false}
 use mathlib.Core.List.{List, [], _∷_, _++_, append-assoc, map, flatten}
 use mathlib.Core.Option.{Option, none, some}
-use Prim.Native.Nat.{ℕ, zero, suc, _-_, _^_, _<_}
+use Prim.Native.Nat.{ℕ, zero, suc, _+_, _-_, _^_, _≤_, _<_}
 use native.Mathlib.Omega.{arith}
+use native.Mathlib.Numerals.{add-one}
+use native.Mathlib.Nat.{add-zero, add-suc, suc-add}
 use lib.Dec.{eqb, lit<}
 use lib.ListN.{length}
 use Rattle.format.specs.declared.entry.AbsLineInfo.{AbsLineInfo}
 use Rattle.format.specs.Reading.{ConstantValue, nil, boolean, integer, float, short-string, long-string, LocalVar, Prototype, Reading}
 use Rattle.format.specs.Copy.{fieldBytes, optionBytes, constantBytes, upvalueBytes, anchorBytes, localBytes, listBytes, behindSource}
-use Rattle.format.specs.LdumpFunctions.{dumpString, dumpEach, dumpConstant, dumpAbsLineInfo, dumpLocVar, upvalueNames, dumpFunction}
+use Rattle.format.specs.LdumpFunctions.{dumpString, dumpEach, isShort, dumpConstant, Dump, dumpAbsLineInfo, dumpLocVar, upvalueNames, dumpSource, dumpFunction}
+use Rattle.format.specs.ReadHeader.{sameBytes}
 use Rattle.format.specs.declared.limits.ResourceLimits.{ResourceLimits}
 use Rattle.format.specs.Form.{Bytes, Form}
 use Rattle.format.specs.GrammarFields.{LuaString, Content, String}
-use Rattle.format.specs.GrammarChunk.{orElse, Counted, CountedUpTo, Always, Tagged, Constant, Anchor, Local, Where, after, within, inherit, Forest, Body, Function, Loaded, Chunk}
+use Rattle.format.specs.GrammarChunk.{orElse, Counted, CountedUpTo, Always, Tagged, Constant, Anchor, Local, Where, after, within, inherit, Forest, Body, Function, Loaded, outermost, Chunk}
 use Rattle.format.proofs.Every.{Every, any, every-then, every-is, every-nothing, every-when, every-number, every-run, every-many, All, all-any, all-append}
 use Rattle.format.proofs.LdumpLaws.{dumped}
 
-abbrev Fits : ℕ → Type 0
+abbrev pub Fits : ℕ → Type 0
 Fits n = n < 2 ^ 64
 
 -- the numbers that each part writes
-abbrev StringFits : Option LuaString → Type 0
+abbrev pub StringFits : Option LuaString → Type 0
 StringFits none = Unit {0}
 StringFits (some t) = Fits (suc (length (t .bytes)))
 
@@ -49,6 +54,7 @@ ListFits P xs = Fits (length xs) × All P xs
 
 -- every number of a function fits a size_t
 pub record FunctionFits (p : Prototype) : Type 0 where
+  pub source-name : StringFits (p .source-name)
   pub line-defined : Fits (p .line-defined)
   pub last-line-defined : Fits (p .last-line-defined)
   pub instructions : Fits (length (p .instructions))
@@ -60,24 +66,51 @@ pub record FunctionFits (p : Prototype) : Type 0 where
   pub loc-vars : ListFits LocalFits (p .loc-vars)
   pub upvalue-names : ListFits StringFits (p .upvalue-names)
 
-string-is : (t : Option LuaString) → StringFits t → dumpString t ≡ optionBytes t
+-- ## What does not part the dumper from the copy
+-- a string constant's tag is the one that C would give it
+abbrev pub TaggedByLength : ConstantValue → Type 0
+TaggedByLength nil = Unit {0}
+TaggedByLength (boolean b) = Unit {0}
+TaggedByLength (integer n) = Unit {0}
+TaggedByLength (float n) = Unit {0}
+TaggedByLength (short-string t) = isShort t ≡ true
+TaggedByLength (long-string t) = isShort t ≡ false
+
+-- a name that is there: an absent one is shown as `?`
+abbrev pub Named : LocalVar → Type 0
+Named l = sameBytes (l .name .bytes) (63 ∷ []) ≡ false
+
+pub record Alike (p : Prototype) : Type 0 where
+  -- C writes a string's tag by its length, the copy the tag that was read
+  pub tags : All TaggedByLength (p .constants)
+  -- C writes an absent local name as absent, the copy as `?`
+  pub locals : All Named (p .loc-vars)
+  -- C writes a name for each upvalue, absent where none was read, the copy the names that were read
+  pub names : length (p .upvalues) ≡ length (p .upvalue-names)
+
+-- ## One function
+pub string-is : (t : Option LuaString) → StringFits t → dumpString t ≡ optionBytes t
 string-is none h = dumped 0 (lit< tt)
 string-is (some t) h = ap (λ b. b ++ t .bytes) (dumped (suc (length (t .bytes))) h)
 
-constant-is : (c : ConstantValue) → ConstantFits c → dumpConstant c ≡ constantBytes c
+constant-is : (c : ConstantValue) → ConstantFits c × TaggedByLength c → dumpConstant c ≡ constantBytes c
 constant-is nil h = refl
 constant-is (boolean false) h = refl
 constant-is (boolean true) h = refl
 constant-is (integer n) h = refl
 constant-is (float n) h = refl
-constant-is (short-string t) h = ap (λ b. fieldBytes 1 4 ++ b) (string-is (some t) h)
-constant-is (long-string t) h = ap (λ b. fieldBytes 1 20 ++ b) (string-is (some t) h)
+constant-is (short-string t) h = rw (h .1) (ap (λ b. fieldBytes 1 4 ++ b) (string-is (some t) (h .0)))
+constant-is (long-string t) h = rw (h .1) (ap (λ b. fieldBytes 1 20 ++ b) (string-is (some t) (h .0)))
 
 anchor-is : (a : AbsLineInfo) → AnchorFits a → dumpAbsLineInfo a ≡ anchorBytes a
 anchor-is a h = ap₂ _++_ (dumped (a .pc) (h .0)) (dumped (a .line) (h .1))
 
-local-is : (l : LocalVar) → LocalFits l → dumpLocVar l ≡ localBytes l
-local-is l h = ap₂ _++_ (string-is (some (l .name)) (h .0)) (ap₂ _++_ (dumped (l .startpc) (h .1)) (dumped (l .endpc) (h .2)))
+local-is : (l : LocalVar) → LocalFits l × Named l → dumpLocVar l ≡ localBytes l
+local-is l (h, named) = rw named (ap₂ _++_ (string-is (some (l .name)) (h .0)) (ap₂ _++_ (dumped (l .startpc) (h .1)) (dumped (l .endpc) (h .2))))
+
+all-both : {A : Type 0} (P Q : A → Type 0) (xs : List A) → All P xs → All Q xs → All (λ x. P x × Q x) xs
+all-both P Q [] p q = tt
+all-both P Q (x ∷ xs) p q = ((p .0, q .0), all-both P Q xs (p .1) (q .1))
 
 -- a list, where each item is written alike
 maps-are : {A : Type 0} {P : A → Type 0} (f g : A → Bytes) → ((x : A) → P x → f x ≡ g x) → (xs : List A) → All P xs → map f xs ≡ map g xs
@@ -95,23 +128,25 @@ all-named : (names : List (Option LuaString)) → upvalueNames (length names) na
 all-named [] = refl
 all-named (name ∷ names) = ap (λ l. name ∷ l) (all-named names)
 
-pub copied-as-dumped : (source : Bytes) (p : Prototype) (nested : Bytes) → FunctionFits p → length (p .upvalues) ≡ length (p .upvalue-names)
-    → dumpFunction source p nested ≡ source ++ behindSource p nested
-unfolding behindSource
-copied-as-dumped source p nested h same =
-    let names : upvalueNames (length (p .upvalues)) (p .upvalue-names) ≡ p .upvalue-names = rw same (all-named (p .upvalue-names)) in
+pub copied-as-dumped : (f : Prototype) (p : List Dump) (psource : Option LuaString) → FunctionFits f → Alike f
+    → dumpFunction f p psource ≡ dumpSource (f .source-name) psource ++ behindSource f (flatten (map (λ (dump : Dump). dump (f .source-name)) p))
+unfolding dumpFunction behindSource
+copied-as-dumped f p psource h a =
+    let names : upvalueNames (length (f .upvalues)) (f .upvalue-names) ≡ f .upvalue-names = rw (a .names) (all-named (f .upvalue-names)) in
+    let constants : ListFits (λ c. ConstantFits c × TaggedByLength c) (f .constants) = (h .constants .0, all-both ConstantFits TaggedByLength (f .constants) (h .constants .1) (a .tags)) in
+    let locals : ListFits (λ l. LocalFits l × Named l) (f .loc-vars) = (h .loc-vars .0, all-both LocalFits Named (f .loc-vars) (h .loc-vars .1) (a .locals)) in
     rw (
       names,
-      dumped (p .line-defined) (h .line-defined),
-      dumped (p .last-line-defined) (h .last-line-defined),
-      plain-is (fieldBytes 4) (p .instructions) (h .instructions),
-      list-is dumpConstant constantBytes constant-is (p .constants) (h .constants),
-      plain-is upvalueBytes (p .upvalues) (h .upvalues),
-      dumped (p .protos) (h .protos),
-      dumped (length (p .line-info)) (h .line-info),
-      list-is dumpAbsLineInfo anchorBytes anchor-is (p .abs-line-info) (h .abs-line-info),
-      list-is dumpLocVar localBytes local-is (p .loc-vars) (h .loc-vars),
-      list-is dumpString optionBytes string-is (p .upvalue-names) (h .upvalue-names),
+      dumped (f .line-defined) (h .line-defined),
+      dumped (f .last-line-defined) (h .last-line-defined),
+      plain-is (fieldBytes 4) (f .instructions) (h .instructions),
+      list-is dumpConstant constantBytes constant-is (f .constants) constants,
+      plain-is upvalueBytes (f .upvalues) (h .upvalues),
+      dumped (f .protos) (h .protos),
+      dumped (length (f .line-info)) (h .line-info),
+      list-is dumpAbsLineInfo anchorBytes anchor-is (f .abs-line-info) (h .abs-line-info),
+      list-is dumpLocVar localBytes local-is (f .loc-vars) locals,
+      list-is dumpString optionBytes string-is (f .upvalue-names) (h .upvalue-names),
       append-assoc,
     )
 
@@ -164,15 +199,49 @@ upTo-fits : {A : Type 0} {F : Form A} {P : A → Type 0} (limit : ℕ) → Every
 upTo-fits limit one =
     every-then every-number λ n h. every-then any λ _ _. every-then any λ place _. every-then (every-many n one) λ items k. every-is (rw (k .0) (below h), k .1)
 
-forest-fits : (n : ℕ) {F : Where → Form (List Prototype)} (w : Where) → ((w : Where) → Every (F w) (All FunctionFits)) → Every (Forest n F w) (All FunctionFits)
-forest-fits zero w one = every-is tt
-forest-fits (suc n) w one = every-then (one w) λ ps h. every-then (forest-fits n (after ps w) one) λ more k. every-is (all-append FunctionFits ps more h k)
+-- ## What is known of the functions that were read
+-- the first of these functions has the number n, and each stands behind its parent (main is its own)
+abbrev pub BehindParents : ℕ → List Prototype → Type 0
+BehindParents n [] = Unit {0}
+BehindParents n (p ∷ ps) = (p .parent ≤ n - 1) × BehindParents (suc n) ps
 
-body-fits : (L : ResourceLimits) {F : Where → Form (List Prototype)} → ((w : Where) → Every (F w) (All FunctionFits)) → (w : Where) → Every (Body L F w) (All FunctionFits)
+pub record Known (n : ℕ) (ps : List Prototype) : Type 0 where
+  pub fit : All FunctionFits ps
+  pub behind : BehindParents n ps
+
+behind-append : (n : ℕ) (ps more : List Prototype) → BehindParents n ps → BehindParents (n + length ps) more → BehindParents n (ps ++ more)
+behind-append n [] more h k = rw add-zero at k
+behind-append n (p ∷ ps) more h k = (h .0, behind-append (suc n) ps more (h .1) (rw (add-suc, ← suc-add) at k))
+
+abbrev pub There : List Prototype → Type 0
+There [] = ⊥
+There (p ∷ ps) = Unit {0}
+
+-- of where a function stands: its parent stands before it, and its parent's source fits
+record Placed (w : Where) : Type 0 where
+  parent : w .parent ≤ w .number - 1
+  source : StringFits (w .source)
+
+inherit-fits : (own parent : Option LuaString) → StringFits own → StringFits parent → StringFits (inherit own parent)
+inherit-fits none parent h k = k
+inherit-fits (some t) parent h k = h
+
+-- of nested functions, and of a function with those that nest in it
+abbrev EachKnown : (Where → Form (List Prototype)) → Type 0
+EachKnown F = (w : Where) → Placed w → Every (F w) (λ ps. There ps × Known (w .number) ps)
+
+forest-known : (n : ℕ) {F : Where → Form (List Prototype)} (w : Where) → Placed w → EachKnown F → Every (Forest n F w) (Known (w .number))
+forest-known zero w placed one = every-is (record { fit = tt; behind = tt })
+forest-known (suc n) w placed one =
+    every-then (one w placed) λ ps (t, h).
+    every-then (forest-known n (after ps w) (record { parent = omega (arith, placed .parent); source = placed .source }) one) λ more k.
+    every-is (record { fit = all-append FunctionFits ps more (h .fit) (k .fit); behind = behind-append (w .number) ps more (h .behind) (k .behind) })
+
+body-known : (L : ResourceLimits) {F : Where → Form (List Prototype)} → EachKnown F → EachKnown (Body L F)
 unfolding Body
-body-fits L one w =
+body-known L one w placed =
     every-then any λ start _.
-    every-then any λ spelt _.
+    every-then (string-fits (L .«max_string_bytes»)) λ spelt h0.
     every-then every-number λ line-defined h1.
     every-then every-number λ last-line-defined h2.
     every-then any λ numparams _.
@@ -188,7 +257,7 @@ body-fits L one w =
     every-then every-number λ protos h6.
     every-then any λ _ _.
     every-then any λ protos-at _.
-    every-then (forest-fits protos (within w (inherit spelt (w .source)) (length instructions)) one) λ nested rest.
+    every-then (forest-known protos (within w (inherit spelt (w .source)) (length instructions)) (record { parent = omega arith; source = inherit-fits spelt (w .source) h0 (placed .source) }) one) λ nested rest.
     every-then every-number λ line-info-size h7.
     every-then any λ line-info-at _.
     every-then (every-run line-info-size) λ line-info k7.
@@ -197,29 +266,35 @@ body-fits L one w =
     every-then (counted-fits (string-fits (L .«max_string_bytes»))) λ upvalue-names h10.
     every-then any λ end _.
     every-is (
+      tt,
       record {
-        line-defined = below h1;
-        last-line-defined = below h2;
-        instructions = rw (k3 .0) (below h3);
-        constants = h4;
-        upvalues = h5 .0;
-        protos = below h6;
-        line-info = rw k7 (below h7);
-        abs-line-info = h8;
-        loc-vars = h9;
-        upvalue-names = h10;
+        fit = (
+          record {
+            source-name = inherit-fits spelt (w .source) h0 (placed .source);
+            line-defined = below h1;
+            last-line-defined = below h2;
+            instructions = rw (k3 .0) (below h3);
+            constants = h4;
+            upvalues = h5 .0;
+            protos = below h6;
+            line-info = rw k7 (below h7);
+            abs-line-info = h8;
+            loc-vars = h9;
+            upvalue-names = h10;
+          },
+          rest .fit,
+        );
+        behind = (placed .parent, rw add-one at (rest .behind));
       },
-      rest,
     )
 
-function-fits : (L : ResourceLimits) (left : ℕ) (w : Where) → Every (Function L left w) (All FunctionFits)
+function-known : (L : ResourceLimits) (left : ℕ) → EachKnown (Function L left)
 unfolding Function
-function-fits L zero w = body-fits L (λ w. every-nothing) w
-function-fits L (suc left) w = body-fits L (λ w. every-then any λ _ _. function-fits L left w) w
+function-known L zero = body-known L λ w placed. every-nothing
+function-known L (suc left) = body-known L λ w placed. every-then any λ _ _. function-known L left w placed
 
--- every function of a chunk is one of which the law above speaks
-pub functions-fit : (L : ResourceLimits) (chunk : Bytes) (r : Reading) → Chunk L chunk r → All FunctionFits (r .functions)
-functions-fit L chunk r c =
+pub functions-known : (L : ResourceLimits) (chunk : Bytes) (r : Reading) → Chunk L chunk r → There (r .functions) × Known 0 (r .functions)
+functions-known L chunk r c =
     let f = c .main .two .two in
     let same : f .value ≡ r .functions = ap (λ (m : Loaded). m .functions) (f .two .1) ∙ ap (λ (q : Reading). q .functions) (c .shows) in
-    rw (← same) (function-fits L (L .«max_nesting_depth») _ .holds _ (f .front) (f .value) (f .one))
+    rw (← same) (function-known L (L .«max_nesting_depth») outermost (record { parent = omega arith; source = tt }) .holds _ (f .front) (f .value) (f .one))

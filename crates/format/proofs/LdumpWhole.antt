@@ -1,0 +1,155 @@
+-- The archive copy is what Lua's own dumper writes (`luaU_dump`, specs/LdumpFunctions.antt) of what was read, where four things do not part the two, and behind it the trailing bytes.
+--     AsLua fs p           the function p, among the functions fs, meets the four: its source, names, locals and string tags
+--     copy-as-dumped       where every function does, the copy is what `luaU_dump` writes, and the trailing bytes
+-- The smallest chunks that part the two are in `proofs/LdumpCase.antt`. Numbers from 2^31 on, which Lua does not load, are written alike too (`dumpInt`).
+-- Assumes nothing.
+use mathlib.Core.Path.{_≡_, refl, sym, _∙_, ap, ap₂}
+use mathlib.Core.Bool.{Bool, true, false, _&&_}
+use mathlib.Core.List.{List, [], _∷_, _++_, append-assoc, map, foldr, flatten}
+use mathlib.Core.Option.{Option, none, some}
+use Prim.Native.Nat.{ℕ, zero, suc, _+_, _-_, _≤_, _<_}
+use native.Mathlib.Omega.{arith}
+use native.Mathlib.Nat.{add-zero, zero-add, add-suc, suc-add}
+use lib.Dec.{T, lit<, ltb, eqb, eqb→eq, eqb-refl}
+use borrow.Author.Tests.{ltb-true, ltb-false}
+use lib.ListN.{length, take, drop}
+use Rattle.format.specs.declared.limits.ResourceLimits.{ResourceLimits}
+use Rattle.format.specs.Pick.{pick}
+use Rattle.format.specs.Form.{Bytes}
+use Rattle.format.specs.GrammarFields.{LuaString}
+use Rattle.format.specs.Reading.{Prototype, Reading}
+use Rattle.format.specs.GrammarChunk.{Chunk}
+use Rattle.format.specs.ReadHeader.{sameBytes}
+use Rattle.format.specs.Copy.{fieldBytes, optionBytes, behindSource, nest, functionsBytes, headerBytes, upvaluesOfMain, copy}
+use Rattle.format.specs.LdumpFunctions.{object, Dump, sameSource, dumpSource, dumpFunction, dumpNested, dumpHeader, «luaU_dump»}
+use Rattle.format.proofs.Every.{All}
+use Rattle.format.proofs.ExactHeader.{both, both-of, same-eq, same-refl}
+use Rattle.format.proofs.LdumpLaws.{dumped}
+use Rattle.format.proofs.LdumpChunk.{StringFits, FunctionFits, Alike, string-is, copied-as-dumped, BehindParents, Known, There, functions-known}
+
+-- the source of the function with this number
+abbrev pub sourceOf : List Prototype → ℕ → Option LuaString
+sourceOf [] k = none
+sourceOf (f ∷ fs) zero = f .source-name
+sourceOf (f ∷ fs) (suc k) = sourceOf fs k
+
+pub record AsLua (fs : List Prototype) (p : Prototype) : Type 0 where
+  -- its source is its parent's (main is its own parent): then C writes none, as the copy does in every nested function
+  pub source : sameSource (p .source-name) (sourceOf fs (p .parent)) ≡ true
+  -- what else is written of it is alike: string tags, local names, upvalue names
+  pub alike : Alike p
+
+-- ## Sources that are one object: an equality
+abbrev key : Option LuaString → List ℕ
+key none = []
+key (some s) = object s ∷ s .bytes
+
+true-T : {b : Bool} → b ≡ true → T b
+true-T e = rw e tt
+
+T-true : (b : Bool) → T b → b ≡ true
+T-true true h = refl
+
+key-of : (s t : Option LuaString) → sameSource s t ≡ true → key s ≡ key t
+key-of s t e = go s t (true-T e)
+  where
+    go : (s t : Option LuaString) → T (sameSource s t) → key s ≡ key t
+    go none none h = refl
+    go (some s) (some t) h =
+        let k = both (sameBytes (s .bytes) (t .bytes)) (eqb (object s) (object t)) h in
+        ap₂ _∷_ (eqb→eq (object s) (object t) (k .1)) (same-eq (s .bytes) (t .bytes) (k .0))
+
+of-key : (s t : Option LuaString) → key s ≡ key t → sameSource s t ≡ true
+of-key s t e = T-true (sameSource s t) (go s t e)
+  where
+    go : (s t : Option LuaString) → key s ≡ key t → T (sameSource s t)
+    go none none e = tt
+    go none (some t) e = absurd (let z : _≡_ {A = ℕ} 0 1 = cc in omega arith)
+    go (some s) none e = absurd (let z : _≡_ {A = ℕ} 0 1 = cc in omega arith)
+    go (some s) (some t) e =
+        let place : object s ≡ object t = cc in
+        let bytes : s .bytes ≡ t .bytes = cc in
+        both-of (sameBytes (s .bytes) (t .bytes)) (eqb (object s) (object t)) (rw bytes (same-refl (t .bytes))) (rw place (eqb-refl (object t)))
+
+-- ## Every source is main's
+-- this is known of the first n functions of fs
+abbrev MainsUpTo : List Prototype → ℕ → Type 0
+MainsUpTo fs n = (k : ℕ) → k < n → key (sourceOf fs k) ≡ key (sourceOf fs 0)
+
+-- the function with the number n, whose parent stands before it
+one-more : (fs : List Prototype) (n : ℕ) (p : Prototype) → sourceOf fs n ≡ p .source-name → p .parent ≤ n - 1 → AsLua fs p → MainsUpTo fs n → key (p .source-name) ≡ key (sourceOf fs 0)
+one-more fs zero p at parent a before = ap key (sym at)
+one-more fs (suc n) p at parent a before = key-of (p .source-name) (sourceOf fs (p .parent)) (a .source) ∙ before (p .parent) (omega arith)
+
+up-to-next : (fs : List Prototype) (n : ℕ) → key (sourceOf fs n) ≡ key (sourceOf fs 0) → MainsUpTo fs n → MainsUpTo fs (suc n)
+up-to-next fs n e before k h = go (ltb k n) refl
+  where
+    go : (b : Bool) → ltb k n ≡ b → key (sourceOf fs k) ≡ key (sourceOf fs 0)
+    go true t = before k (ltb-true k n t)
+    go false t =
+        let last : k ≡ n = omega (arith, ltb-false k n t) in
+        rw last e
+
+-- the functions from the number n on
+mains : (fs ps : List Prototype) (n : ℕ) → ((k : ℕ) → sourceOf fs (n + k) ≡ sourceOf ps k) → BehindParents n ps → All (AsLua fs) ps → MainsUpTo fs n
+    → All (λ p. key (p .source-name) ≡ key (sourceOf fs 0)) ps
+mains fs [] n at parents a before = tt
+mains fs (p ∷ ps) n at parents a before =
+    let here : sourceOf fs n ≡ p .source-name = rw add-zero at (at 0) in
+    let one = one-more fs n p here (parents .0) (a .0) before in
+    (one, mains fs ps (suc n) (λ k. rw (add-suc, ← suc-add) at (at (suc k))) (parents .1) (a .1) (up-to-next fs n (ap key here ∙ one) before))
+
+-- ## Nested functions
+map-take : {A B : Type 0} (f : A → B) (n : ℕ) (xs : List A) → map f (take n xs) ≡ take n (map f xs)
+map-take f zero xs = refl
+map-take f (suc n) [] = refl
+map-take f (suc n) (x ∷ xs) = ap (λ l. f x ∷ l) (map-take f n xs)
+
+map-drop : {A B : Type 0} (f : A → B) (n : ℕ) (xs : List A) → map f (drop n xs) ≡ drop n (map f xs)
+map-drop f zero xs = refl
+map-drop f (suc n) [] = refl
+map-drop f (suc n) (x ∷ xs) = map-drop f n xs
+
+-- where a function is the same as its parent's, no source is written
+none-written : (s t : Option LuaString) → key s ≡ key t → dumpSource s t ≡ optionBytes none
+none-written s t e = rw (of-key s t e) (dumped 0 (lit< tt))
+
+-- each, with any source that is main's, writes what the copy has
+nested-as-dumped : (main : List ℕ) (ps : List Prototype) → All FunctionFits ps → All Alike ps → All (λ p. key (p .source-name) ≡ main) ps
+    → (psource : Option LuaString) → key psource ≡ main → map (λ (dump : Dump). dump psource) (foldr dumpNested [] ps) ≡ foldr nest [] ps
+nested-as-dumped main [] fits alike same psource e = refl
+nested-as-dumped main (p ∷ ps) fits alike same psource e =
+    let later = foldr dumpNested [] ps in
+    let inner = nested-as-dumped main ps (fits .1) (alike .1) (same .1) (p .source-name) (same .0) in
+    let others = nested-as-dumped main ps (fits .1) (alike .1) (same .1) psource e in
+    ap₂ _∷_
+    (copied-as-dumped p (take (p .protos) later) psource (fits .0) (alike .0)
+    ∙ rw (none-written (p .source-name) psource (same .0 ∙ sym e), map-take (λ (dump : Dump). dump (p .source-name)) (p .protos) later, inner) refl)
+    (map-drop (λ (dump : Dump). dump psource) (p .protos) later ∙ ap (drop (p .protos)) others)
+
+-- ## Main, and the whole
+source-written : (s : Option LuaString) → StringFits s → dumpSource s none ≡ optionBytes s
+source-written none h = string-is none h
+source-written (some t) h = string-is (some t) h
+
+all-alike : (fs ps : List Prototype) → All (AsLua fs) ps → All Alike ps
+all-alike fs [] a = tt
+all-alike fs (p ∷ ps) a = (a .0 .alike, all-alike fs ps (a .1))
+
+header-is : dumpHeader ≡ headerBytes 0
+header-is = refl
+
+functions-as-dumped : (fs : List Prototype) → There fs → Known 0 fs → All (AsLua fs) fs → «luaU_dump» fs ≡ headerBytes 0 ++ (fieldBytes 1 (upvaluesOfMain fs) ++ functionsBytes fs)
+unfolding «luaU_dump»
+functions-as-dumped (main ∷ nested) there known a =
+    let fits = known .fit in
+    let same = mains (main ∷ nested) (main ∷ nested) 0 (λ k. rw zero-add refl) (known .behind) a (λ k h. absurd (omega arith)) in
+    let inner = nested-as-dumped (key (main .source-name)) nested (fits .1) (all-alike (main ∷ nested) nested (a .1)) (same .1) (main .source-name) refl in
+    ap (λ b. headerBytes 0 ++ (fieldBytes 1 (length (main .upvalues)) ++ b))
+    (copied-as-dumped main (foldr dumpNested [] nested) none (fits .0) (a .0 .alike) ∙ rw (source-written (main .source-name) (fits .0 .source-name), inner) refl)
+
+pub copy-as-dumped : (L : ResourceLimits) (chunk : Bytes) (r : Reading) → Chunk L chunk r → All (AsLua (r .functions)) (r .functions) → copy r ≡ «luaU_dump» (r .functions) ++ r .trailing
+unfolding copy
+copy-as-dumped L chunk r c a =
+    let (there, known) = functions-known L chunk r c in
+    rw (functions-as-dumped (r .functions) there known a) (simp append-assoc)
