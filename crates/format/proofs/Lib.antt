@@ -18,6 +18,7 @@ pub mod LundumpChunk
 pub mod LundumpRead
 pub mod LuaChunks
 pub mod LundumpCase
+pub mod LdumpCase
 pub mod Cases
 pub mod ChunkCases
 pub mod Below
