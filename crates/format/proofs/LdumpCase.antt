@@ -1,13 +1,15 @@
 -- Worked cases of Lua's own dumper as it is defined (`luaU_dump`, specs/LdumpFunctions.antt): chunks, what is written of them once they are loaded, and whether the copy is that.
---     dumps-hold           what is written: Lua 5.4.4 was run on each chunk (`string.dump` of `load`), and wrote these bytes
+--     dumps-hold           what is written: Lua 5.4.4 was run on each chunk (`string.dump` of `load`, with strip and without), and wrote these bytes
 --     copies-part          where the copy is that, and where not: each condition of `proofs/LdumpWhole.antt` is needed
 --     alike-meets          a chunk of two functions, with constants, an upvalue, a local and a trailing byte, meets all that is asked there,
 --     alike-copied         and so its copy is what `luaU_dump` writes
+--     bare-meets           and a chunk with nothing to strip meets what is asked there of such
 -- So a dumper that writes every source, none, or not main's, that goes by the tag that was read, or leaves out the byte behind the header, is none of these.
 -- Assumes nothing.
 use mathlib.Core.Path.{_≡_, refl, ap}
 use mathlib.Core.Bool.{Bool, true, false}
 use mathlib.Core.List.{List, [], _∷_, _++_, map}
+use mathlib.Core.Option as option
 use lib.ListN.{replicate}
 use Rattle.format.specs.Form.{Bytes}
 use Rattle.format.specs.Limits.{ceilings}
@@ -20,7 +22,8 @@ use Rattle.format.specs.Ldump.{dumpSize}
 use Rattle.format.specs.LdumpFunctions.{dumpFunction, «luaU_dump»}
 use Rattle.format.proofs.Every.{All}
 use Rattle.format.proofs.ReadChunkLaws.{read-sound}
-use Rattle.format.proofs.LdumpWhole.{AsLua, copy-as-dumped}
+use Rattle.format.proofs.LdumpChunk.{Alike}
+use Rattle.format.proofs.LdumpWhole.{sourceOf, AsLua, copy-as-dumped}
 use Rattle.format.proofs.LuaChunks.{header, full}
 
 -- a function of lines 1 and 2, no words, and two registers: its source, constants, upvalues, nested functions, no deltas and no anchors, its locals and upvalue names
@@ -56,36 +59,55 @@ unfolding fn leaf none a41
 alike =
     header ++ 1 ∷ fn (0x83 ∷ 0x40 ∷ 0x6d ∷ []) (0x82 ∷ 4 ∷ 0x82 ∷ 0x78 ∷ 20 ∷ a41) (0x81 ∷ 1 ∷ 0 ∷ 0 ∷ []) (0x81 ∷ leaf none) (0x81 ∷ 0x82 ∷ 0x69 ∷ 0x80 ∷ 0x81 ∷ []) (0x81 ∷ 0x82 ∷ 0x75 ∷ [])
 
+-- an upvalue without a name, and a nested function
+bare : Bytes
+unfolding fn leaf none
+bare = header ++ 1 ∷ fn none none (0x81 ∷ 1 ∷ 0 ∷ 0 ∷ []) (0x81 ∷ leaf none) none none
+
+full-stripped : Bytes
+full-stripped =
+    header ++ 1 ∷ 0x80 ∷ 0x8a ∷ 0x9e ∷ 3 ∷ 1 ∷ 7 ∷ 0x82 ∷ 0x38 ∷ 0xff ∷ 0xff ∷ 0x7f ∷ 0x46 ∷ 0 ∷ 0 ∷ 1
+    ∷ 0x87 ∷ 0 ∷ 1 ∷ 17 ∷ 3 ∷ 0xfe ∷ replicate 7 0xff ++ 19 ∷ 0 ∷ 0 ∷ 0 ∷ 0 ∷ 0 ∷ 0 ∷ 4 ∷ 0x40 ∷ 4 ∷ 0x82 ∷ 0x78 ∷ 20 ∷ 0xaa ∷ replicate 41 0x61
+    ++ 0x81 ∷ 1 ∷ 0 ∷ 2 ∷ 0x82
+    ∷ 0x80 ∷ 0x8b ∷ 0x8f ∷ 1 ∷ 0 ∷ 3 ∷ 0x81 ∷ 4 ∷ 3 ∷ 2 ∷ 1 ∷ 0x80 ∷ 0x82 ∷ 0 ∷ 0 ∷ 0 ∷ 1 ∷ 5 ∷ 1 ∷ 0x81
+    ∷ 0x80 ∷ 0x8c ∷ 0x8d ∷ 0 ∷ 0 ∷ 2 ∷ replicate 12 0x80
+    ++ 0x80 ∷ 0x90 ∷ 0x91 ∷ 0 ∷ 0 ∷ 4 ∷ replicate 12 0x80
+
 record Case : Type 0 where
+  strip : Bool
   chunk : Bytes
   dump : Bytes
   copied : Bool
 
 cases : List Case
-unfolding fn none leaf around holding a40 a41 alike
+unfolding fn none leaf around holding a40 a41 alike bare full-stripped
 cases =
     -- a main that alone meets all conditions, and byte 31 and the padding are not kept
-    record { chunk = alike; dump = alike; copied = true }
+    record { strip = false; chunk = alike; dump = alike; copied = true }
     ∷ record {
+      strip = false;
       chunk = header ++ 9 ∷ 0 ∷ 0x83 ∷ 0x40 ∷ 0x6d ∷ 0 ∷ 0x81 ∷ 0 ∷ 0 ∷ 0x82 ∷ 0 ∷ 0 ∷ 2 ∷ 0x80 ∷ 0x80 ∷ 0x81 ∷ 1 ∷ 0 ∷ 0 ∷ 0x80 ∷ 0x80 ∷ 0x80 ∷ 0x80 ∷ 0x81 ∷ 0x82 ∷ 0x75 ∷ [];
       dump = header ++ 1 ∷ 0x83 ∷ 0x40 ∷ 0x6d ∷ 0x81 ∷ 0x82 ∷ 0 ∷ 0 ∷ 2 ∷ 0x80 ∷ 0x80 ∷ 0x81 ∷ 1 ∷ 0 ∷ 0 ∷ 0x80 ∷ 0x80 ∷ 0x80 ∷ 0x80 ∷ 0x81 ∷ 0x82 ∷ 0x75 ∷ [];
       copied = true;
     }
     -- a nested source: another; the same, short; the same, long; a long one that is inherited; one where main has none
-    ∷ record { chunk = around (0x82 ∷ 0x6d ∷ []) (leaf (0x82 ∷ 0x6e ∷ [])); dump = around (0x82 ∷ 0x6d ∷ []) (leaf (0x82 ∷ 0x6e ∷ [])); copied = false }
-    ∷ record { chunk = around a40 (leaf a40); dump = around a40 (leaf none); copied = true }
-    ∷ record { chunk = around a41 (leaf a41); dump = around a41 (leaf a41); copied = false }
-    ∷ record { chunk = around a41 (leaf none); dump = around a41 (leaf none); copied = true }
-    ∷ record { chunk = around none (leaf (0x82 ∷ 0x6e ∷ [])); dump = around none (leaf (0x82 ∷ 0x6e ∷ [])); copied = false }
+    ∷ record { strip = false; chunk = around (0x82 ∷ 0x6d ∷ []) (leaf (0x82 ∷ 0x6e ∷ [])); dump = around (0x82 ∷ 0x6d ∷ []) (leaf (0x82 ∷ 0x6e ∷ [])); copied = false }
+    ∷ record { strip = false; chunk = around a40 (leaf a40); dump = around a40 (leaf none); copied = true }
+    ∷ record { strip = false; chunk = around a41 (leaf a41); dump = around a41 (leaf a41); copied = false }
+    ∷ record { strip = false; chunk = around a41 (leaf none); dump = around a41 (leaf none); copied = true }
+    ∷ record { strip = false; chunk = around none (leaf (0x82 ∷ 0x6e ∷ [])); dump = around none (leaf (0x82 ∷ 0x6e ∷ [])); copied = false }
     -- an absent local name
-    ∷ record { chunk = holding none (0x81 ∷ 0x80 ∷ 0x80 ∷ 0x81 ∷ []); dump = holding none (0x81 ∷ 0x80 ∷ 0x80 ∷ 0x81 ∷ []); copied = false }
+    ∷ record { strip = false; chunk = holding none (0x81 ∷ 0x80 ∷ 0x80 ∷ 0x81 ∷ []); dump = holding none (0x81 ∷ 0x80 ∷ 0x80 ∷ 0x81 ∷ []); copied = false }
     -- an upvalue without a name
-    ∷ record { chunk = header ++ 1 ∷ fn none none (0x81 ∷ 1 ∷ 0 ∷ 0 ∷ []) none none none; dump = header ++ 1 ∷ fn none none (0x81 ∷ 1 ∷ 0 ∷ 0 ∷ []) none none (0x81 ∷ 0x80 ∷ []); copied = false }
+    ∷ record { strip = false; chunk = header ++ 1 ∷ fn none none (0x81 ∷ 1 ∷ 0 ∷ 0 ∷ []) none none none; dump = header ++ 1 ∷ fn none none (0x81 ∷ 1 ∷ 0 ∷ 0 ∷ []) none none (0x81 ∷ 0x80 ∷ []); copied = false }
     -- a long tag on a short string, a short one on a long string
-    ∷ record { chunk = holding (0x81 ∷ 20 ∷ 0x82 ∷ 0x78 ∷ []) none; dump = holding (0x81 ∷ 4 ∷ 0x82 ∷ 0x78 ∷ []) none; copied = false }
-    ∷ record { chunk = holding (0x81 ∷ 4 ∷ a41) none; dump = holding (0x81 ∷ 20 ∷ a41) none; copied = false }
+    ∷ record { strip = false; chunk = holding (0x81 ∷ 20 ∷ 0x82 ∷ 0x78 ∷ []) none; dump = holding (0x81 ∷ 4 ∷ 0x82 ∷ 0x78 ∷ []) none; copied = false }
+    ∷ record { strip = false; chunk = holding (0x81 ∷ 4 ∷ a41) none; dump = holding (0x81 ∷ 20 ∷ a41) none; copied = false }
     -- all at once
-    ∷ record { chunk = full; dump = full; copied = false }
+    ∷ record { strip = false; chunk = full; dump = full; copied = false }
+    -- stripped: what has nothing to strip, and `full`
+    ∷ record { strip = true; chunk = bare; dump = bare; copied = true }
+    ∷ record { strip = true; chunk = full; dump = full-stripped; copied = false }
     ∷ []
 
 functionsOf : Outcome → List Prototype
@@ -98,14 +120,14 @@ copyOf (refusal q) = []
 
 dumped : Case → Bytes
 unfolding functionsOf
-dumped c = «luaU_dump» (functionsOf (read ceilings (c .chunk)))
+dumped c = «luaU_dump» (c .strip) (functionsOf (read ceilings (c .chunk)))
 
 dumps-hold : map dumped cases ≡ map (λ (c : Case). c .dump) cases
-unfolding cases dumped functionsOf read body function «luaU_dump» dumpFunction dumpSize mathlib.Core.List.flatten fn none leaf around holding a40 a41 alike
+unfolding cases dumped functionsOf read body function «luaU_dump» dumpFunction dumpSize mathlib.Core.List.flatten fn none leaf around holding a40 a41 alike bare full-stripped
 dumps-hold = refl
 
 copies-part : map (λ (c : Case). sameBytes (copyOf (read ceilings (c .chunk))) (dumped c)) cases ≡ map (λ (c : Case). c .copied) cases
-unfolding cases dumped functionsOf copyOf read body function copy behindSource listBytes shortest «luaU_dump» dumpFunction dumpSize mathlib.Core.List.flatten fn none leaf around holding a40 a41 alike
+unfolding cases dumped functionsOf copyOf read body function copy behindSource listBytes shortest «luaU_dump» dumpFunction dumpSize mathlib.Core.List.flatten fn none leaf around holding a40 a41 alike bare full-stripped
 copies-part = refl
 
 -- ## What is asked can be met
@@ -120,15 +142,32 @@ functions = functionsOf (read ceilings trailed)
 alike-meets : All (AsLua functions) functions
 unfolding functions functionsOf trailed read body function fn none leaf a41 alike
 alike-meets = (
-  record { source = refl; alike = record { tags = (refl, (refl, tt)); locals = (refl, tt); names = refl } },
+  record { source = refl; alike = record { tags = (refl, (refl, tt)); debug = record { locals = (refl, tt); names = refl } } },
   (
-    record { source = refl; alike = record { tags = tt; locals = tt; names = refl } },
+    record { source = refl; alike = record { tags = tt; debug = record { locals = tt; names = refl } } },
     tt,
   ),
 )
 
-alike-copied : (r : Reading) → read ceilings trailed ≡ shown r → copy r ≡ «luaU_dump» (r .functions) ++ r .trailing
+alike-copied : (r : Reading) → read ceilings trailed ≡ shown r → copy r ≡ «luaU_dump» false (r .functions) ++ r .trailing
 unfolding functions functionsOf
 alike-copied r e =
     let same : functions ≡ r .functions = ap functionsOf e in
     copy-as-dumped ceilings trailed r (read-sound ceilings trailed r e) (rw same at alike-meets)
+
+bare-functions : List Prototype
+unfolding functionsOf
+bare-functions = functionsOf (read ceilings bare)
+
+bare-meets : (sourceOf bare-functions 0 ≡ option.none) × All (Alike true) bare-functions
+unfolding bare-functions functionsOf bare read body function fn none leaf
+bare-meets = (
+  refl,
+  (
+    record { tags = tt; debug = record { line-info = refl; abs-line-info = refl; loc-vars = refl; upvalue-names = refl } },
+    (
+      record { tags = tt; debug = record { line-info = refl; abs-line-info = refl; loc-vars = refl; upvalue-names = refl } },
+      tt,
+    ),
+  ),
+)

@@ -17,8 +17,9 @@ use lib.Dec.{eqb, lit<}
 use lib.ListN.{length}
 use Rattle.format.specs.declared.entry.AbsLineInfo.{AbsLineInfo}
 use Rattle.format.specs.Reading.{ConstantValue, nil, boolean, integer, float, short-string, long-string, LocalVar, Prototype, Reading}
+use Rattle.format.specs.Shortest.{shortest}
 use Rattle.format.specs.Copy.{fieldBytes, optionBytes, constantBytes, upvalueBytes, anchorBytes, localBytes, listBytes, behindSource}
-use Rattle.format.specs.LdumpFunctions.{dumpString, dumpEach, isShort, dumpConstant, Dump, dumpAbsLineInfo, dumpLocVar, upvalueNames, dumpSource, dumpFunction}
+use Rattle.format.specs.LdumpFunctions.{dumpString, dumpEach, isShort, dumpConstant, Dump, dumpAbsLineInfo, dumpLocVar, upvalueNames, dumpDebug, dumpSource, dumpFunction}
 use Rattle.format.specs.ReadHeader.{sameBytes}
 use Rattle.format.specs.declared.limits.ResourceLimits.{ResourceLimits}
 use Rattle.format.specs.Form.{Bytes, Form}
@@ -80,13 +81,28 @@ TaggedByLength (long-string t) = isShort t ≡ false
 abbrev pub Named : LocalVar → Type 0
 Named l = sameBytes (l .name .bytes) (63 ∷ []) ≡ false
 
-pub record Alike (p : Prototype) : Type 0 where
-  -- C writes a string's tag by its length, the copy the tag that was read
-  pub tags : All TaggedByLength (p .constants)
+-- where it is not stripped
+pub record Unstripped (p : Prototype) : Type 0 where
   -- C writes an absent local name as absent, the copy as `?`
   pub locals : All Named (p .loc-vars)
   -- C writes a name for each upvalue, absent where none was read, the copy the names that were read
   pub names : length (p .upvalues) ≡ length (p .upvalue-names)
+
+-- where it is stripped: no debug information was read
+pub record Stripped (p : Prototype) : Type 0 where
+  pub line-info : p .line-info ≡ []
+  pub abs-line-info : p .abs-line-info ≡ []
+  pub loc-vars : p .loc-vars ≡ []
+  pub upvalue-names : p .upvalue-names ≡ []
+
+abbrev pub DebugAlike : Bool → Prototype → Type 0
+DebugAlike true = Stripped
+DebugAlike false = Unstripped
+
+pub record Alike (strip : Bool) (p : Prototype) : Type 0 where
+  -- C writes a string's tag by its length, the copy the tag that was read
+  pub tags : All TaggedByLength (p .constants)
+  pub debug : DebugAlike strip p
 
 -- ## One function
 pub string-is : (t : Option LuaString) → StringFits t → dumpString t ≡ optionBytes t
@@ -128,25 +144,35 @@ all-named : (names : List (Option LuaString)) → upvalueNames (length names) na
 all-named [] = refl
 all-named (name ∷ names) = ap (λ l. name ∷ l) (all-named names)
 
-pub copied-as-dumped : (f : Prototype) (p : List Dump) (psource : Option LuaString) → FunctionFits f → Alike f
-    → dumpFunction f p psource ≡ dumpSource (f .source-name) psource ++ behindSource f (flatten (map (λ (dump : Dump). dump (f .source-name)) p))
-unfolding dumpFunction behindSource
-copied-as-dumped f p psource h a =
+debug-is : (strip : Bool) (f : Prototype) → FunctionFits f → DebugAlike strip f
+    → dumpDebug strip f
+    ≡ shortest (length (f .line-info)) ++ (f .line-info ++ (listBytes anchorBytes (f .abs-line-info) ++ (listBytes localBytes (f .loc-vars) ++ listBytes optionBytes (f .upvalue-names))))
+debug-is true f h a =
+    rw (a .line-info, a .abs-line-info, a .loc-vars, a .upvalue-names, dumped 0 (lit< tt), ← plain-is anchorBytes [] (lit< tt), ← plain-is localBytes [] (lit< tt), ← plain-is optionBytes [] (lit< tt), dumped 0 (lit< tt))
+debug-is false f h a =
     let names : upvalueNames (length (f .upvalues)) (f .upvalue-names) ≡ f .upvalue-names = rw (a .names) (all-named (f .upvalue-names)) in
-    let constants : ListFits (λ c. ConstantFits c × TaggedByLength c) (f .constants) = (h .constants .0, all-both ConstantFits TaggedByLength (f .constants) (h .constants .1) (a .tags)) in
     let locals : ListFits (λ l. LocalFits l × Named l) (f .loc-vars) = (h .loc-vars .0, all-both LocalFits Named (f .loc-vars) (h .loc-vars .1) (a .locals)) in
     rw (
       names,
+      dumped (length (f .line-info)) (h .line-info),
+      list-is dumpAbsLineInfo anchorBytes anchor-is (f .abs-line-info) (h .abs-line-info),
+      list-is dumpLocVar localBytes local-is (f .loc-vars) locals,
+      list-is dumpString optionBytes string-is (f .upvalue-names) (h .upvalue-names),
+    )
+
+pub copied-as-dumped : (strip : Bool) (f : Prototype) (p : List Dump) (psource : Option LuaString) → FunctionFits f → Alike strip f
+    → dumpFunction strip f p psource ≡ dumpSource strip (f .source-name) psource ++ behindSource f (flatten (map (λ (dump : Dump). dump (f .source-name)) p))
+unfolding dumpFunction behindSource
+copied-as-dumped strip f p psource h a =
+    let constants : ListFits (λ c. ConstantFits c × TaggedByLength c) (f .constants) = (h .constants .0, all-both ConstantFits TaggedByLength (f .constants) (h .constants .1) (a .tags)) in
+    rw (
       dumped (f .line-defined) (h .line-defined),
       dumped (f .last-line-defined) (h .last-line-defined),
       plain-is (fieldBytes 4) (f .instructions) (h .instructions),
       list-is dumpConstant constantBytes constant-is (f .constants) constants,
       plain-is upvalueBytes (f .upvalues) (h .upvalues),
       dumped (f .protos) (h .protos),
-      dumped (length (f .line-info)) (h .line-info),
-      list-is dumpAbsLineInfo anchorBytes anchor-is (f .abs-line-info) (h .abs-line-info),
-      list-is dumpLocVar localBytes local-is (f .loc-vars) locals,
-      list-is dumpString optionBytes string-is (f .upvalue-names) (h .upvalue-names),
+      debug-is strip f h (a .debug),
       append-assoc,
     )
 

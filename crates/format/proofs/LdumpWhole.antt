@@ -1,6 +1,7 @@
--- The archive copy is what Lua's own dumper writes (`luaU_dump`, specs/LdumpFunctions.antt) of what was read, where four things do not part the two, and behind it the trailing bytes.
---     AsLua fs p           the function p, among the functions fs, meets the four: its source, names, locals and string tags
+-- The archive copy is what Lua's own dumper (`luaU_dump`, specs/LdumpFunctions.antt) writes of what was read, where four things do not part the two, and behind it the trailing bytes.
+--     AsLua fs p           the function p, among the functions fs, meets the four: its source, string tags, local names, upvalue names
 --     copy-as-dumped       where every function does, the copy is what `luaU_dump` writes, and the trailing bytes
+--     copy-as-stripped     where there is no debug information and main has no source, it is what `luaU_dump` writes with strip
 -- The smallest chunks that part the two are in `proofs/LdumpCase.antt`. Numbers from 2^31 on, which Lua does not load, are written alike too (`dumpInt`).
 -- Assumes nothing.
 use mathlib.Core.Path.{_≡_, refl, sym, _∙_, ap, ap₂}
@@ -36,8 +37,8 @@ sourceOf (f ∷ fs) (suc k) = sourceOf fs k
 pub record AsLua (fs : List Prototype) (p : Prototype) : Type 0 where
   -- its source is its parent's (main is its own parent): then C writes none, as the copy does in every nested function
   pub source : sameSource (p .source-name) (sourceOf fs (p .parent)) ≡ true
-  -- what else is written of it is alike: string tags, local names, upvalue names
-  pub alike : Alike p
+  -- and so is what is written behind it: string tags go by length, no local name is absent, upvalues and names are as many
+  pub alike : Alike false p
 
 -- ## Sources that are one object: an equality
 abbrev key : Option LuaString → List ℕ
@@ -110,46 +111,78 @@ map-drop f zero xs = refl
 map-drop f (suc n) [] = refl
 map-drop f (suc n) (x ∷ xs) = map-drop f n xs
 
--- where a function is the same as its parent's, no source is written
-none-written : (s t : Option LuaString) → key s ≡ key t → dumpSource s t ≡ optionBytes none
-none-written s t e = rw (of-key s t e) (dumped 0 (lit< tt))
+-- each, with any source that may be its parent's, writes what the copy has, if with such it writes no source of its own
+module _ (strip : Bool) (May : Option LuaString → Type 0) where
+  abbrev Absent : Prototype → Type 0
+  Absent p = May (p .source-name) × ((psource : Option LuaString) → May psource → dumpSource strip (p .source-name) psource ≡ optionBytes none)
 
--- each, with any source that is main's, writes what the copy has
-nested-as-dumped : (main : List ℕ) (ps : List Prototype) → All FunctionFits ps → All Alike ps → All (λ p. key (p .source-name) ≡ main) ps
-    → (psource : Option LuaString) → key psource ≡ main → map (λ (dump : Dump). dump psource) (foldr dumpNested [] ps) ≡ foldr nest [] ps
-nested-as-dumped main [] fits alike same psource e = refl
-nested-as-dumped main (p ∷ ps) fits alike same psource e =
-    let later = foldr dumpNested [] ps in
-    let inner = nested-as-dumped main ps (fits .1) (alike .1) (same .1) (p .source-name) (same .0) in
-    let others = nested-as-dumped main ps (fits .1) (alike .1) (same .1) psource e in
-    ap₂ _∷_
-    (copied-as-dumped p (take (p .protos) later) psource (fits .0) (alike .0)
-    ∙ rw (none-written (p .source-name) psource (same .0 ∙ sym e), map-take (λ (dump : Dump). dump (p .source-name)) (p .protos) later, inner) refl)
-    (map-drop (λ (dump : Dump). dump psource) (p .protos) later ∙ ap (drop (p .protos)) others)
+  nested-as-dumped : (ps : List Prototype) → All FunctionFits ps → All (Alike strip) ps → All Absent ps → (psource : Option LuaString) → May psource
+      → map (λ (dump : Dump). dump psource) (foldr (dumpNested strip) [] ps) ≡ foldr nest [] ps
+  nested-as-dumped [] fits alike absent psource may = refl
+  nested-as-dumped (p ∷ ps) fits alike absent psource may =
+      let later = foldr (dumpNested strip) [] ps in
+      let inner = nested-as-dumped ps (fits .1) (alike .1) (absent .1) (p .source-name) (absent .0 .0) in
+      let others = nested-as-dumped ps (fits .1) (alike .1) (absent .1) psource may in
+      ap₂ _∷_
+      (copied-as-dumped strip p (take (p .protos) later) psource (fits .0) (alike .0)
+      ∙ rw (absent .0 .1 psource may, map-take (λ (dump : Dump). dump (p .source-name)) (p .protos) later, inner) refl)
+      (map-drop (λ (dump : Dump). dump psource) (p .protos) later ∙ ap (drop (p .protos)) others)
 
--- ## Main, and the whole
-source-written : (s : Option LuaString) → StringFits s → dumpSource s none ≡ optionBytes s
-source-written none h = string-is none h
-source-written (some t) h = string-is (some t) h
-
-all-alike : (fs ps : List Prototype) → All (AsLua fs) ps → All Alike ps
-all-alike fs [] a = tt
-all-alike fs (p ∷ ps) a = (a .0 .alike, all-alike fs ps (a .1))
+  -- ## Main, and the whole
+  functions-as-dumped : (main : Prototype) (nested : List Prototype) → All FunctionFits (main ∷ nested) → All (Alike strip) (main ∷ nested) → All Absent nested → May (main .source-name)
+      → dumpSource strip (main .source-name) none ≡ optionBytes (main .source-name)
+      → «luaU_dump» strip (main ∷ nested) ≡ headerBytes 0 ++ (fieldBytes 1 (length (main .upvalues)) ++ functionsBytes (main ∷ nested))
+  unfolding «luaU_dump»
+  functions-as-dumped main nested fits alike absent may source =
+      let inner = nested-as-dumped nested (fits .1) (alike .1) absent (main .source-name) may in
+      ap (λ b. headerBytes 0 ++ (fieldBytes 1 (length (main .upvalues)) ++ b))
+      (copied-as-dumped strip main (foldr (dumpNested strip) [] nested) none (fits .0) (alike .0) ∙ rw (source, inner) refl)
 
 header-is : dumpHeader ≡ headerBytes 0
 header-is = refl
 
-functions-as-dumped : (fs : List Prototype) → There fs → Known 0 fs → All (AsLua fs) fs → «luaU_dump» fs ≡ headerBytes 0 ++ (fieldBytes 1 (upvaluesOfMain fs) ++ functionsBytes fs)
-unfolding «luaU_dump»
-functions-as-dumped (main ∷ nested) there known a =
-    let fits = known .fit in
-    let same = mains (main ∷ nested) (main ∷ nested) 0 (λ k. rw zero-add refl) (known .behind) a (λ k h. absurd (omega arith)) in
-    let inner = nested-as-dumped (key (main .source-name)) nested (fits .1) (all-alike (main ∷ nested) nested (a .1)) (same .1) (main .source-name) refl in
-    ap (λ b. headerBytes 0 ++ (fieldBytes 1 (length (main .upvalues)) ++ b))
-    (copied-as-dumped main (foldr dumpNested [] nested) none (fits .0) (a .0 .alike) ∙ rw (source-written (main .source-name) (fits .0 .source-name), inner) refl)
+-- ## Not stripped: every source is main's, and main's is written
+none-written : (s t : Option LuaString) → key s ≡ key t → dumpSource false s t ≡ optionBytes none
+none-written s t e = rw (of-key s t e) (dumped 0 (lit< tt))
 
-pub copy-as-dumped : (L : ResourceLimits) (chunk : Bytes) (r : Reading) → Chunk L chunk r → All (AsLua (r .functions)) (r .functions) → copy r ≡ «luaU_dump» (r .functions) ++ r .trailing
+source-written : (s : Option LuaString) → StringFits s → dumpSource false s none ≡ optionBytes s
+source-written none h = string-is none h
+source-written (some t) h = string-is (some t) h
+
+all-alike : (fs ps : List Prototype) → All (AsLua fs) ps → All (Alike false) ps
+all-alike fs [] a = tt
+all-alike fs (p ∷ ps) a = (a .0 .alike, all-alike fs ps (a .1))
+
+all-absent : (main : List ℕ) (ps : List Prototype) → All (λ p. key (p .source-name) ≡ main) ps → All (Absent false (λ s. key s ≡ main)) ps
+all-absent main [] same = tt
+all-absent main (p ∷ ps) same = ((same .0, λ psource may. none-written (p .source-name) psource (same .0 ∙ sym may)), all-absent main ps (same .1))
+
+unstripped : (fs : List Prototype) → There fs → Known 0 fs → All (AsLua fs) fs → «luaU_dump» false fs ≡ headerBytes 0 ++ (fieldBytes 1 (upvaluesOfMain fs) ++ functionsBytes fs)
+unstripped (main ∷ nested) there known a =
+    let fs = main ∷ nested in
+    let same = mains fs fs 0 (λ k. rw zero-add refl) (known .behind) a (λ k h. absurd (omega arith)) in
+    functions-as-dumped false (λ s. key s ≡ key (main .source-name)) main nested (known .fit) (all-alike fs fs a) (all-absent (key (main .source-name)) nested (same .1)) refl
+    (source-written (main .source-name) (known .fit .0 .source-name))
+
+pub copy-as-dumped : (L : ResourceLimits) (chunk : Bytes) (r : Reading) → Chunk L chunk r → All (AsLua (r .functions)) (r .functions)
+    → copy r ≡ «luaU_dump» false (r .functions) ++ r .trailing
 unfolding copy
 copy-as-dumped L chunk r c a =
     let (there, known) = functions-known L chunk r c in
-    rw (functions-as-dumped (r .functions) there known a) (simp append-assoc)
+    rw (unstripped (r .functions) there known a) (simp append-assoc)
+
+-- ## Stripped: no source is written, and main has none
+no-sources : (ps : List Prototype) → All (Absent true (λ s. Unit {0})) ps
+no-sources [] = tt
+no-sources (p ∷ ps) = ((tt, λ psource may. dumped 0 (lit< tt)), no-sources ps)
+
+stripped : (fs : List Prototype) → There fs → Known 0 fs → sourceOf fs 0 ≡ none → All (Alike true) fs → «luaU_dump» true fs ≡ headerBytes 0 ++ (fieldBytes 1 (upvaluesOfMain fs) ++ functionsBytes fs)
+stripped (main ∷ nested) there known source a =
+    functions-as-dumped true (λ s. Unit {0}) main nested (known .fit) a (no-sources nested) tt (rw source (dumped 0 (lit< tt)))
+
+pub copy-as-stripped : (L : ResourceLimits) (chunk : Bytes) (r : Reading) → Chunk L chunk r → sourceOf (r .functions) 0 ≡ none → All (Alike true) (r .functions)
+    → copy r ≡ «luaU_dump» true (r .functions) ++ r .trailing
+unfolding copy
+copy-as-stripped L chunk r c source a =
+    let (there, known) = functions-known L chunk r c in
+    rw (stripped (r .functions) there known source a) (simp append-assoc)

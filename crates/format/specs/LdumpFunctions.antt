@@ -1,9 +1,9 @@
--- From ldump.c (Lua 5.4.4), close to the text: what `luaU_dump` writes of a function that Lua loaded, each part under the name of its C function. `strip` is 0.
+-- From ldump.c (Lua 5.4.4), close to the text: what `luaU_dump` writes of a function that Lua loaded, each part under the name of its C function.
 -- A Proto is shown as our `Prototype`, and a tree of them as the list of its functions, each before those that nest in it; what Lua holds and our reading does not show is
--- said at `ttypetag`, `sameSource` and `varname`. These names are ours: object, sameSource (a test of two pointers), Dump, dumpNested (how the list is gone through), dumpEach (a count and a
+-- said at `ttypetag`, `sameSource` and `varname`. These names are ours: unlessStripped, object, sameSource (a test of two pointers), Dump, dumpNested (how the list is gone through), dumpEach (a count and a
 -- loop), varname, upvalueNames (two fields), and, for one turn of a loop, dumpConstant, dumpUpvalue, dumpAbsLineInfo, dumpLocVar.
--- `proofs/LdumpWhole.antt` shows that the archive copy is this, where each function meets four conditions; `proofs/LdumpCase.antt` has worked cases.
-use mathlib.Core.Bool.{Bool, true, false, _&&_}
+-- `proofs/LdumpWhole.antt` shows that the archive copy is this, under four conditions, and stripped, where nothing is left to strip; `proofs/LdumpCase.antt` has worked cases.
+use mathlib.Core.Bool.{Bool, true, false, _&&_, _||_}
 use mathlib.Core.List.{List, [], _∷_, _++_, map, foldr, flatten}
 use mathlib.Core.Option.{Option, none, some}
 use Prim.Native.Nat.{ℕ, zero, suc, _+_, _*_}
@@ -96,10 +96,17 @@ upvalueNames zero names = []
 upvalueNames (suc n) [] = none ∷ upvalueNames n []
 upvalueNames (suc n) (name ∷ names) = name ∷ upvalueNames n names
 
-abbrev pub dumpDebug : Prototype → Bytes
-dumpDebug f =
-    dumpInt (length (f .line-info)) ++ (f .line-info
-    ++ (dumpEach dumpAbsLineInfo (f .abs-line-info) ++ (dumpEach dumpLocVar (f .loc-vars) ++ dumpEach dumpString (upvalueNames (length (f .upvalues)) (f .upvalue-names)))))
+-- n = (D->strip) ? 0 : ..: the items that are dumped
+abbrev pub unlessStripped : {A : Type 0} → Bool → List A → List A
+unlessStripped strip xs = pick strip [] xs
+
+abbrev pub dumpDebug : Bool → Prototype → Bytes
+dumpDebug strip f =
+    dumpInt (length (unlessStripped strip (f .line-info)))
+    ++ (unlessStripped strip (f .line-info)
+    ++ (dumpEach dumpAbsLineInfo (unlessStripped strip (f .abs-line-info))
+    ++ (dumpEach dumpLocVar (unlessStripped strip (f .loc-vars))
+    ++ dumpEach dumpString (unlessStripped strip (upvalueNames (length (f .upvalues)) (f .upvalue-names))))))
 
 -- Strings of equal bytes are one object where they are short (`luaS_newlstr`), and where they are long and were once in the file (`luaS_createlngstrobj`): there, at the same place
 abbrev pub object : LuaString → ℕ
@@ -113,13 +120,13 @@ sameSource (some s) none = false
 sameSource (some s) (some t) = sameBytes (s .bytes) (t .bytes) && eqb (object s) (object t)
 
 -- if (D->strip || f->source == psource) dumpString(D, NULL); else dumpString(D, f->source)
-abbrev pub dumpSource : Option LuaString → Option LuaString → Bytes
-dumpSource source psource = pick (sameSource source psource) (dumpString none) (dumpString source)
+abbrev pub dumpSource : Bool → Option LuaString → Option LuaString → Bytes
+dumpSource strip source psource = pick (strip || sameSource source psource) (dumpString none) (dumpString source)
 
 -- f, and what is nested in it, f->p
-unfoldable pub dumpFunction : Prototype → List Dump → Dump
-dumpFunction f p psource =
-    dumpSource (f .source-name) psource
+unfoldable pub dumpFunction : Bool → Prototype → List Dump → Dump
+dumpFunction strip f p psource =
+    dumpSource strip (f .source-name) psource
     ++ (dumpInt (f .line-defined)
     ++ (dumpInt (f .last-line-defined)
     ++ (dumpByte (f .numparams)
@@ -129,11 +136,11 @@ dumpFunction f p psource =
     ++ (dumpConstants f
     ++ (dumpUpvalues f
     ++ (dumpProtos f p
-    ++ dumpDebug f)))))))))
+    ++ dumpDebug strip f)))))))))
 
 -- The list of functions is gone through from the last to the first: the f->p of each are as many of those behind it as nest in it.
-abbrev pub dumpNested : Prototype → List Dump → List Dump
-dumpNested f later = dumpFunction f (take (f .protos) later) ∷ drop (f .protos) later
+abbrev pub dumpNested : Bool → Prototype → List Dump → List Dump
+dumpNested strip f later = dumpFunction strip f (take (f .protos) later) ∷ drop (f .protos) later
 
 -- LUA_SIGNATURE, LUAC_VERSION, LUAC_FORMAT, LUAC_DATA, sizeof(Instruction), sizeof(lua_Integer), sizeof(lua_Number), LUAC_INT, LUAC_NUM (370.5)
 abbrev pub dumpHeader : Bytes
@@ -149,6 +156,6 @@ dumpHeader =
     ++ dumpNumber 0x4077280000000000)))))))
 
 -- dumpHeader(&D); dumpByte(&D, f->sizeupvalues); dumpFunction(&D, f, NULL): of main and all functions nested in it. (There is a main in every chunk)
-unfoldable pub «luaU_dump» : List Prototype → Bytes
-«luaU_dump» [] = []
-«luaU_dump» (f ∷ nested) = dumpHeader ++ (dumpByte (length (f .upvalues)) ++ dumpFunction f (foldr dumpNested [] nested) none)
+unfoldable pub «luaU_dump» : Bool → List Prototype → Bytes
+«luaU_dump» strip [] = []
+«luaU_dump» strip (f ∷ nested) = dumpHeader ++ (dumpByte (length (f .upvalues)) ++ dumpFunction strip f (foldr (dumpNested strip) [] nested) none)
