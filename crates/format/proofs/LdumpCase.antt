@@ -4,12 +4,13 @@
 --     alike-meets          a chunk of two functions, with constants, an upvalue, a local and a trailing byte, meets all that is asked there,
 --     alike-copied         and so its copy is what `luaU_dump` writes
 --     bare-meets           and a chunk with nothing to strip meets what is asked there of such
--- So a dumper that writes every source, none, or not main's, that goes by the tag that was read, or leaves out the byte behind the header, is none of these.
+-- So this refuses a dumper that writes every source, or no nested one, that compares sources by their bytes or by their places alone, that writes the tags, the local names or the upvalue names as they
+-- were read, or that keeps the byte behind the header.
 -- Assumes nothing.
 use mathlib.Core.Path.{_≡_, refl, ap}
 use mathlib.Core.Bool.{Bool, true, false}
 use mathlib.Core.List.{List, [], _∷_, _++_, map}
-use mathlib.Core.Option as option
+use mathlib.Core.Option.{none}
 use lib.ListN.{replicate}
 use Rattle.format.specs.Form.{Bytes}
 use Rattle.format.specs.Limits.{ceilings}
@@ -30,22 +31,23 @@ use Rattle.format.proofs.LuaChunks.{header, full}
 fn : Bytes → Bytes → Bytes → Bytes → Bytes → Bytes → Bytes
 fn source constants upvalues protos locals names = source ++ 0x81 ∷ 0x82 ∷ 0 ∷ 0 ∷ 2 ∷ 0x80 ∷ constants ++ upvalues ++ protos ++ 0x80 ∷ 0x80 ∷ locals ++ names
 
-none : Bytes
-none = 0x80 ∷ []
+-- an absent string, or a list of nothing
+empty : Bytes
+empty = 0x80 ∷ []
 
 -- with a source, and with one function in it
 leaf : Bytes → Bytes
-unfolding fn none
-leaf source = fn source none none none none none
+unfolding fn empty
+leaf source = fn source empty empty empty empty empty
 
 around : Bytes → Bytes → Bytes
-unfolding fn none
-around source nested = header ++ 0 ∷ fn source none none (0x81 ∷ nested) none none
+unfolding fn empty
+around source nested = header ++ 0 ∷ fn source empty empty (0x81 ∷ nested) empty empty
 
 -- main alone: its constants, its locals
 holding : Bytes → Bytes → Bytes
-unfolding fn none
-holding constants locals = header ++ 0 ∷ fn none constants none none locals none
+unfolding fn empty
+holding constants locals = header ++ 0 ∷ fn empty constants empty empty locals empty
 
 -- a string of so many bytes
 a40 : Bytes
@@ -55,14 +57,14 @@ a41 : Bytes
 a41 = 0xaa ∷ replicate 41 0x61
 
 alike : Bytes
-unfolding fn leaf none a41
+unfolding fn leaf empty a41
 alike =
-    header ++ 1 ∷ fn (0x83 ∷ 0x40 ∷ 0x6d ∷ []) (0x82 ∷ 4 ∷ 0x82 ∷ 0x78 ∷ 20 ∷ a41) (0x81 ∷ 1 ∷ 0 ∷ 0 ∷ []) (0x81 ∷ leaf none) (0x81 ∷ 0x82 ∷ 0x69 ∷ 0x80 ∷ 0x81 ∷ []) (0x81 ∷ 0x82 ∷ 0x75 ∷ [])
+    header ++ 1 ∷ fn (0x83 ∷ 0x40 ∷ 0x6d ∷ []) (0x82 ∷ 4 ∷ 0x82 ∷ 0x78 ∷ 20 ∷ a41) (0x81 ∷ 1 ∷ 0 ∷ 0 ∷ []) (0x81 ∷ leaf empty) (0x81 ∷ 0x82 ∷ 0x69 ∷ 0x80 ∷ 0x81 ∷ []) (0x81 ∷ 0x82 ∷ 0x75 ∷ [])
 
 -- an upvalue without a name, and a nested function
 bare : Bytes
-unfolding fn leaf none
-bare = header ++ 1 ∷ fn none none (0x81 ∷ 1 ∷ 0 ∷ 0 ∷ []) (0x81 ∷ leaf none) none none
+unfolding fn leaf empty
+bare = header ++ 1 ∷ fn empty empty (0x81 ∷ 1 ∷ 0 ∷ 0 ∷ []) (0x81 ∷ leaf empty) empty empty
 
 full-stripped : Bytes
 full-stripped =
@@ -80,9 +82,9 @@ record Case : Type 0 where
   copied : Bool
 
 cases : List Case
-unfolding fn none leaf around holding a40 a41 alike bare full-stripped
+unfolding fn empty leaf around holding a40 a41 alike bare full-stripped
 cases =
-    -- a main that alone meets all conditions, and byte 31 and the padding are not kept
+    -- all conditions are met; and byte 31 and padding are not kept
     record { strip = false; chunk = alike; dump = alike; copied = true }
     ∷ record {
       strip = false;
@@ -92,17 +94,17 @@ cases =
     }
     -- a nested source: another; the same, short; the same, long; a long one that is inherited; one where main has none
     ∷ record { strip = false; chunk = around (0x82 ∷ 0x6d ∷ []) (leaf (0x82 ∷ 0x6e ∷ [])); dump = around (0x82 ∷ 0x6d ∷ []) (leaf (0x82 ∷ 0x6e ∷ [])); copied = false }
-    ∷ record { strip = false; chunk = around a40 (leaf a40); dump = around a40 (leaf none); copied = true }
+    ∷ record { strip = false; chunk = around a40 (leaf a40); dump = around a40 (leaf empty); copied = true }
     ∷ record { strip = false; chunk = around a41 (leaf a41); dump = around a41 (leaf a41); copied = false }
-    ∷ record { strip = false; chunk = around a41 (leaf none); dump = around a41 (leaf none); copied = true }
-    ∷ record { strip = false; chunk = around none (leaf (0x82 ∷ 0x6e ∷ [])); dump = around none (leaf (0x82 ∷ 0x6e ∷ [])); copied = false }
+    ∷ record { strip = false; chunk = around a41 (leaf empty); dump = around a41 (leaf empty); copied = true }
+    ∷ record { strip = false; chunk = around empty (leaf (0x82 ∷ 0x6e ∷ [])); dump = around empty (leaf (0x82 ∷ 0x6e ∷ [])); copied = false }
     -- an absent local name
-    ∷ record { strip = false; chunk = holding none (0x81 ∷ 0x80 ∷ 0x80 ∷ 0x81 ∷ []); dump = holding none (0x81 ∷ 0x80 ∷ 0x80 ∷ 0x81 ∷ []); copied = false }
+    ∷ record { strip = false; chunk = holding empty (0x81 ∷ 0x80 ∷ 0x80 ∷ 0x81 ∷ []); dump = holding empty (0x81 ∷ 0x80 ∷ 0x80 ∷ 0x81 ∷ []); copied = false }
     -- an upvalue without a name
-    ∷ record { strip = false; chunk = header ++ 1 ∷ fn none none (0x81 ∷ 1 ∷ 0 ∷ 0 ∷ []) none none none; dump = header ++ 1 ∷ fn none none (0x81 ∷ 1 ∷ 0 ∷ 0 ∷ []) none none (0x81 ∷ 0x80 ∷ []); copied = false }
+    ∷ record { strip = false; chunk = header ++ 1 ∷ fn empty empty (0x81 ∷ 1 ∷ 0 ∷ 0 ∷ []) empty empty empty; dump = header ++ 1 ∷ fn empty empty (0x81 ∷ 1 ∷ 0 ∷ 0 ∷ []) empty empty (0x81 ∷ 0x80 ∷ []); copied = false }
     -- a long tag on a short string, a short one on a long string
-    ∷ record { strip = false; chunk = holding (0x81 ∷ 20 ∷ 0x82 ∷ 0x78 ∷ []) none; dump = holding (0x81 ∷ 4 ∷ 0x82 ∷ 0x78 ∷ []) none; copied = false }
-    ∷ record { strip = false; chunk = holding (0x81 ∷ 4 ∷ a41) none; dump = holding (0x81 ∷ 20 ∷ a41) none; copied = false }
+    ∷ record { strip = false; chunk = holding (0x81 ∷ 20 ∷ 0x82 ∷ 0x78 ∷ []) empty; dump = holding (0x81 ∷ 4 ∷ 0x82 ∷ 0x78 ∷ []) empty; copied = false }
+    ∷ record { strip = false; chunk = holding (0x81 ∷ 4 ∷ a41) empty; dump = holding (0x81 ∷ 20 ∷ a41) empty; copied = false }
     -- all at once
     ∷ record { strip = false; chunk = full; dump = full; copied = false }
     -- stripped: what has nothing to strip, and `full`
@@ -123,16 +125,16 @@ unfolding functionsOf
 dumped c = «luaU_dump» (c .strip) (functionsOf (read ceilings (c .chunk)))
 
 dumps-hold : map dumped cases ≡ map (λ (c : Case). c .dump) cases
-unfolding cases dumped functionsOf read body function «luaU_dump» dumpFunction dumpSize mathlib.Core.List.flatten fn none leaf around holding a40 a41 alike bare full-stripped
+unfolding cases dumped functionsOf read body function «luaU_dump» dumpFunction dumpSize mathlib.Core.List.flatten fn empty leaf around holding a40 a41 alike bare full-stripped
 dumps-hold = refl
 
 copies-part : map (λ (c : Case). sameBytes (copyOf (read ceilings (c .chunk))) (dumped c)) cases ≡ map (λ (c : Case). c .copied) cases
-unfolding cases dumped functionsOf copyOf read body function copy behindSource listBytes shortest «luaU_dump» dumpFunction dumpSize mathlib.Core.List.flatten fn none leaf around holding a40 a41 alike bare full-stripped
+unfolding cases dumped functionsOf copyOf read body function copy behindSource listBytes shortest «luaU_dump» dumpFunction dumpSize mathlib.Core.List.flatten fn empty leaf around holding a40 a41 alike bare full-stripped
 copies-part = refl
 
 -- ## What is asked can be met
 trailed : Bytes
-unfolding alike fn leaf none a41
+unfolding alike fn leaf empty a41
 trailed = alike ++ 9 ∷ []
 
 functions : List Prototype
@@ -140,7 +142,7 @@ unfolding functionsOf
 functions = functionsOf (read ceilings trailed)
 
 alike-meets : All (AsLua functions) functions
-unfolding functions functionsOf trailed read body function fn none leaf a41 alike
+unfolding functions functionsOf trailed read body function fn empty leaf a41 alike
 alike-meets = (
   record { source = refl; alike = record { tags = (refl, (refl, tt)); debug = record { locals = (refl, tt); names = refl } } },
   (
@@ -159,8 +161,8 @@ bare-functions : List Prototype
 unfolding functionsOf
 bare-functions = functionsOf (read ceilings bare)
 
-bare-meets : (sourceOf bare-functions 0 ≡ option.none) × All (Alike true) bare-functions
-unfolding bare-functions functionsOf bare read body function fn none leaf
+bare-meets : (sourceOf bare-functions 0 ≡ none) × All (Alike true) bare-functions
+unfolding bare-functions functionsOf bare read body function fn empty leaf
 bare-meets = (
   refl,
   (
