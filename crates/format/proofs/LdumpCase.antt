@@ -23,8 +23,7 @@ use Rattle.format.specs.Ldump.{dumpSize}
 use Rattle.format.specs.LdumpFunctions.{dumpFunction, «luaU_dump»}
 use Rattle.format.proofs.Every.{All}
 use Rattle.format.proofs.ReadChunkLaws.{read-sound}
-use Rattle.format.proofs.LdumpChunk.{Alike}
-use Rattle.format.proofs.LdumpWhole.{sourceOf, AsLua, copy-as-dumped}
+use Rattle.format.proofs.LdumpWhole.{sourceOf, AsLua, AsStripped, copy-as-dumped}
 use Rattle.format.proofs.LuaChunks.{header, full}
 
 -- a function of lines 1 and 2, no words, and two registers: its source, constants, upvalues, nested functions, no deltas and no anchors, its locals and upvalue names
@@ -144,9 +143,9 @@ functions = functionsOf (read ceilings trailed)
 alike-meets : All (AsLua functions) functions
 unfolding functions functionsOf trailed read body function fn empty leaf a41 alike
 alike-meets = (
-  record { source = refl; alike = record { tags = (refl, (refl, tt)); debug = record { locals = (refl, tt); names = refl } } },
+  record { source = refl; tags = (refl, (refl, tt)); locals = (refl, tt); names = refl },
   (
-    record { source = refl; alike = record { tags = tt; debug = record { locals = tt; names = refl } } },
+    record { source = refl; tags = tt; locals = tt; names = refl },
     tt,
   ),
 )
@@ -161,14 +160,14 @@ bare-functions : List Prototype
 unfolding functionsOf
 bare-functions = functionsOf (read ceilings bare)
 
-bare-meets : (sourceOf bare-functions 0 ≡ none) × All (Alike true) bare-functions
+bare-meets : (sourceOf bare-functions 0 ≡ none) × All AsStripped bare-functions
 unfolding bare-functions functionsOf bare read body function fn empty leaf
 bare-meets = (
   refl,
   (
-    record { tags = tt; debug = record { line-info = refl; abs-line-info = refl; loc-vars = refl; upvalue-names = refl } },
+    record { tags = tt; line-info = refl; abs-line-info = refl; loc-vars = refl; upvalue-names = refl },
     (
-      record { tags = tt; debug = record { line-info = refl; abs-line-info = refl; loc-vars = refl; upvalue-names = refl } },
+      record { tags = tt; line-info = refl; abs-line-info = refl; loc-vars = refl; upvalue-names = refl },
       tt,
     ),
   ),

@@ -1,12 +1,13 @@
 -- The archive copy is what Lua's own dumper (`luaU_dump`, specs/LdumpFunctions.antt) writes of what was read, where four things do not part the two, and behind it the trailing bytes.
 --     AsLua fs p           the function p, among the functions fs, meets the four: its source, string tags, local names, upvalue names
 --     copy-as-dumped       where every function does, the copy is what `luaU_dump` writes, and the trailing bytes
---     copy-as-stripped     where there is no debug information and main has no source, it is what `luaU_dump` writes with strip
+--     AsStripped p         p has no debug information, and its string tags go by length
+--     copy-as-stripped     where every function is so and main has no source, the copy is what `luaU_dump` writes with strip
 -- The smallest chunks that part the two are in `proofs/LdumpCase.antt`. Numbers from 2^31 on, which Lua does not load, are written alike too (`dumpInt`).
 -- Assumes nothing.
 use mathlib.Core.Path.{_≡_, refl, sym, _∙_, ap, ap₂}
-use mathlib.Core.Bool.{Bool, true, false, _&&_}
-use mathlib.Core.List.{List, [], _∷_, _++_, append-assoc, map, foldr, flatten}
+use mathlib.Core.Bool.{Bool, true, false}
+use mathlib.Core.List.{List, [], _∷_, _++_, append-assoc, map, foldr}
 use mathlib.Core.Option.{Option, none, some}
 use Prim.Native.Nat.{ℕ, zero, suc, _+_, _-_, _≤_, _<_}
 use native.Mathlib.Omega.{arith}
@@ -15,18 +16,18 @@ use lib.Dec.{T, lit<, ltb, eqb, eqb→eq, eqb-refl}
 use borrow.Author.Tests.{ltb-true, ltb-false}
 use lib.ListN.{length, take, drop}
 use Rattle.format.specs.declared.limits.ResourceLimits.{ResourceLimits}
-use Rattle.format.specs.Pick.{pick}
 use Rattle.format.specs.Form.{Bytes}
 use Rattle.format.specs.GrammarFields.{LuaString}
 use Rattle.format.specs.Reading.{Prototype, Reading}
 use Rattle.format.specs.GrammarChunk.{Chunk}
 use Rattle.format.specs.ReadHeader.{sameBytes}
-use Rattle.format.specs.Copy.{fieldBytes, optionBytes, behindSource, nest, functionsBytes, headerBytes, upvaluesOfMain, copy}
-use Rattle.format.specs.LdumpFunctions.{object, Dump, sameSource, dumpSource, dumpFunction, dumpNested, dumpHeader, «luaU_dump»}
+use Rattle.format.specs.Copy.{fieldBytes, optionBytes, nest, functionsBytes, headerBytes, upvaluesOfMain, copy}
+use Rattle.format.specs.LdumpFunctions.{object, Dump, sameSource, dumpSource, dumpNested, dumpHeader, «luaU_dump»}
 use Rattle.format.proofs.Every.{All}
 use Rattle.format.proofs.ExactHeader.{both, both-of, same-eq, same-refl}
 use Rattle.format.proofs.LdumpLaws.{dumped}
-use Rattle.format.proofs.LdumpChunk.{StringFits, FunctionFits, Alike, string-is, copied-as-dumped, BehindParents, Known, There, functions-known}
+use Rattle.format.proofs.LdumpChunk.{StringFits, FunctionFits, TaggedByLength, Named, Alike, string-is, copied-as-dumped}
+use Rattle.format.proofs.LdumpKnown.{BehindParents, Known, There, functions-known}
 
 -- the source of the function with this number
 abbrev pub sourceOf : List Prototype → ℕ → Option LuaString
@@ -37,8 +38,21 @@ sourceOf (f ∷ fs) (suc k) = sourceOf fs k
 pub record AsLua (fs : List Prototype) (p : Prototype) : Type 0 where
   -- its source is its parent's (main is its own parent): then C writes none, as the copy does in every nested function
   pub source : sameSource (p .source-name) (sourceOf fs (p .parent)) ≡ true
-  -- and so is what is written behind it: string tags go by length, no local name is absent, upvalues and names are as many
-  pub alike : Alike false p
+  -- a string's tag goes by its length: C writes that one, the copy the tag that was read
+  pub tags : All TaggedByLength (p .constants)
+  -- no local name is absent, and shown as `?`: C writes an absent one as absent, the copy as `?`
+  pub locals : All Named (p .loc-vars)
+  -- upvalues and names are as many: C writes a name for each upvalue, absent where none was read, the copy the names that were read
+  pub names : length (p .upvalues) ≡ length (p .upvalue-names)
+
+pub record AsStripped (p : Prototype) : Type 0 where
+  -- as above
+  pub tags : All TaggedByLength (p .constants)
+  -- there is no debug information: C writes none, the copy what was read
+  pub line-info : p .line-info ≡ []
+  pub abs-line-info : p .abs-line-info ≡ []
+  pub loc-vars : p .loc-vars ≡ []
+  pub upvalue-names : p .upvalue-names ≡ []
 
 -- ## Sources that are one object: an equality
 abbrev key : Option LuaString → List ℕ
@@ -151,7 +165,7 @@ source-written (some t) h = string-is (some t) h
 
 all-alike : (fs ps : List Prototype) → All (AsLua fs) ps → All (Alike false) ps
 all-alike fs [] a = tt
-all-alike fs (p ∷ ps) a = (a .0 .alike, all-alike fs ps (a .1))
+all-alike fs (p ∷ ps) a = (record { tags = a .0 .tags; debug = (a .0 .locals, a .0 .names) }, all-alike fs ps (a .1))
 
 all-absent : (main : List ℕ) (ps : List Prototype) → All (λ p. key (p .source-name) ≡ main) ps → All (Absent false (λ s. key s ≡ main)) ps
 all-absent main [] same = tt
@@ -176,11 +190,15 @@ no-sources : (ps : List Prototype) → All (Absent true (λ s. Unit {0})) ps
 no-sources [] = tt
 no-sources (p ∷ ps) = ((tt, λ psource may. dumped 0 (lit< tt)), no-sources ps)
 
-stripped : (fs : List Prototype) → There fs → Known 0 fs → sourceOf fs 0 ≡ none → All (Alike true) fs → «luaU_dump» true fs ≡ headerBytes 0 ++ (fieldBytes 1 (upvaluesOfMain fs) ++ functionsBytes fs)
-stripped (main ∷ nested) there known source a =
-    functions-as-dumped true (λ s. Unit {0}) main nested (known .fit) a (no-sources nested) tt (rw source (dumped 0 (lit< tt)))
+all-stripped : (ps : List Prototype) → All AsStripped ps → All (Alike true) ps
+all-stripped [] a = tt
+all-stripped (p ∷ ps) a = (record { tags = a .0 .tags; debug = (a .0 .line-info, a .0 .abs-line-info, a .0 .loc-vars, a .0 .upvalue-names) }, all-stripped ps (a .1))
 
-pub copy-as-stripped : (L : ResourceLimits) (chunk : Bytes) (r : Reading) → Chunk L chunk r → sourceOf (r .functions) 0 ≡ none → All (Alike true) (r .functions)
+stripped : (fs : List Prototype) → There fs → Known 0 fs → sourceOf fs 0 ≡ none → All AsStripped fs → «luaU_dump» true fs ≡ headerBytes 0 ++ (fieldBytes 1 (upvaluesOfMain fs) ++ functionsBytes fs)
+stripped (main ∷ nested) there known source a =
+    functions-as-dumped true (λ s. Unit {0}) main nested (known .fit) (all-stripped (main ∷ nested) a) (no-sources nested) tt (rw source (dumped 0 (lit< tt)))
+
+pub copy-as-stripped : (L : ResourceLimits) (chunk : Bytes) (r : Reading) → Chunk L chunk r → sourceOf (r .functions) 0 ≡ none → All AsStripped (r .functions)
     → copy r ≡ «luaU_dump» true (r .functions) ++ r .trailing
 unfolding copy
 copy-as-stripped L chunk r c source a =

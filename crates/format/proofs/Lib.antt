@@ -11,6 +11,7 @@ pub mod Steps
 pub mod ShortestLaws
 pub mod LdumpLaws
 pub mod LdumpChunk
+pub mod LdumpKnown
 pub mod LdumpWhole
 pub mod LundumpLaws
 pub mod LundumpParts
