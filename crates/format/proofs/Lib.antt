@@ -17,6 +17,7 @@ pub mod LundumpLaws
 pub mod LundumpParts
 pub mod LundumpChunk
 pub mod LundumpRead
+pub mod LundumpBack
 pub mod LuaChunks
 pub mod LundumpCase
 pub mod LdumpCase

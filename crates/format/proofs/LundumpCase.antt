@@ -21,6 +21,7 @@ use Rattle.format.specs.LundumpFunctions.{LoadFunction, Undump}
 use Rattle.format.specs.ReadChunk.{shown, read}
 use Rattle.format.proofs.Every.{All}
 use Rattle.format.proofs.LundumpChunk.{FunctionsWithin, loaded-is-read}
+use Rattle.format.proofs.LundumpBack.{Loadable}
 use Rattle.format.proofs.LundumpRead.{take-function, loads, loads-exactly, never-loads}
 use Rattle.format.proofs.LuaChunks.{header, small, full, small-function, full-functions, loaded}
 
@@ -38,6 +39,10 @@ within-limits = record { each = (omega arith, (omega arith, (omega arith, (omega
 
 pub full-read : read ceilings full ≡ shown (reading ceilings (loaded full-functions) 208 [])
 full-read = loaded-is-read ceilings 3 full [] (loaded full-functions) full-loaded within-limits refl (omega arith)
+
+-- each string constant of `full` has bytes, and each int is small: `proofs/LundumpBack.antt` speaks of it too
+pub full-loadable : All Loadable full-functions
+full-loadable = (omega arith, (omega arith, (omega arith, (omega arith, tt))))
 
 -- ## Not loaded
 -- 2^31 - 128, and one less

@@ -130,7 +130,7 @@ bytes-are [] h = tt
 bytes-are (x ∷ xs) h = both-of (ltb x 256) (bytesOnly xs) (lt→ltb x 256 (h .0)) (bytes-are xs (h .1))
 
 -- a number's bytes, read to the last
-ours-of : {at v : ℕ} {b : Bytes} → Number at b v → Ours 0 at b v []
+pub ours-of : {at v : ℕ} {b : Bytes} → Number at b v → Ours 0 at b v []
 ours-of {at} {v} {b} d = record { to = at + length b; is = rw append-nil at (exact-number .complete {at = at} [] d) }
 
 abbrev pub size : Reader ℕ
