@@ -28,6 +28,7 @@ pub mod Build
 pub mod FieldBytes
 pub mod Wider
 pub mod WiderIf
+pub mod WiderBytes
 pub mod WiderChunk
 pub mod Copies
 pub mod CopyEntries

@@ -6,21 +6,19 @@
 --     as-loaded            with `undumped`: where it is such and within the limits, exactly that
 --     read-is-loaded       a chunk that is read, and is such, is loaded as what is read, from the bytes before the trailing ones
 -- (An empty string constant of size 1 is loaded too: a case of `proofs/LundumpCase.antt`. From the reading it cannot be told from one of size 0.)
--- The laws go as those of `proofs/WiderIf.antt`. That bytes are below 256 is handed from each form to its parts: AsBytes.
+-- The laws go by the steps of `proofs/WiderBytes.antt`.
 -- Assumes nothing.
-use mathlib.Core.Path.{_≡_, refl, sym, _∙_, ap}
+use mathlib.Core.Path.{_≡_, sym, _∙_, ap}
 use mathlib.Core.Logic.{_↔_}
-use mathlib.Core.Bool.{Bool, true, false}
 use mathlib.Core.List.{List, [], _∷_, _++_}
 use mathlib.Core.Option.{Option, none, some}
 use Prim.Native.Nat.{ℕ, zero, suc, _-_, _^_, _≤_, _<_}
 use native.Mathlib.Omega.{arith}
-use native.Mathlib.Nat.{add-zero}
 use lib.Dec.{eqb}
 use lib.ListN.{length}
 use Rattle.format.specs.declared.limits.ResourceLimits.{ResourceLimits}
 use Rattle.format.specs.declared.entry.AbsLineInfo.{AbsLineInfo}
-use Rattle.format.specs.Form.{Bytes, Below, Form, Then, Is, Here, Given, When, Spelt, Many}
+use Rattle.format.specs.Form.{Bytes, Below, Form, Then, Is, Here, Spelt}
 use Rattle.format.specs.GrammarFields.{Byte, Number, LuaString, String}
 use Rattle.format.specs.GrammarFields as ours
 use Rattle.format.specs.GrammarHeader.{Headed, Header, headerOf, formatWarnings}
@@ -28,84 +26,14 @@ use Rattle.format.specs.Reading.{ConstantValue, nil, boolean, integer, f
 use Rattle.format.specs.GrammarChunk.{orElse, Counted, CountedUpTo, Always, Constant, Anchor, Local, inherit, Where, after, within, Forest, Body, Function, Loaded, outermost, Main, Chunk}
 use Rattle.format.specs.LundumpFunctions.{LoadSize, LoadInt, Content, LoadStringN, NotNull, LoadString, LoadCounted, LoadConstant, LoadAbsLineInfo, LoadVarName, LoadLocVar, LoadProtos, LoadFunction, CheckHeader, Undump}
 use Rattle.format.proofs.Below.{below-split}
-use Rattle.format.proofs.Build.{skip}
 use Rattle.format.proofs.Copies.{parts}
-use Rattle.format.proofs.Every.{Every, Any, any, every-run, every-many, All, all-any, all-split}
-use Rattle.format.proofs.Wider.{Wider, opened, grouped, known}
-use Rattle.format.proofs.WiderIf.{WiderIf, seen-as, learnt, unasked, none-if, ends, learns, tested, knows, untested}
+use Rattle.format.proofs.Every.{Any, any, every-run, every-many, All, all-any, all-split}
+use Rattle.format.proofs.Wider.{opened, grouped}
+use Rattle.format.proofs.WiderIf.{WiderIf, seen-as, learnt, unasked, none-if}
+use Rattle.format.proofs.WiderBytes.{AsBytes, plain, inside, asks, asks-known, keeps, keeps-known, closes, untests, unplaced, tests, regrouped, ended, many-back}
 use Rattle.format.proofs.LundumpLaws.{size-exactly, int-exactly}
 use Rattle.format.proofs.LundumpChunk.{FunctionsWithin, undumped}
 use Rattle.format.proofs.LundumpRead.{ours-of}
-
--- ## A form of bytes: numbers below 256
-abbrev AsBytes : {A : Type 0} → Form A → Form A
-AsBytes F at b x = Below 256 b × F at b x
-
-plain : {A : Type 0} {F : Form A} → Wider (AsBytes F) F
-plain = record { widens = λ d. d .1 }
-
-inside : {A : Type 0} {F G : Form A} → Wider F G → Wider (AsBytes F) (AsBytes G)
-inside w = record { widens = λ d. (d .0, w .widens (d .1)) }
-
-every-plain : {A : Type 0} {F : Form A} {K : A → Type 0} → Every F K → Every (AsBytes F) K
-every-plain e = record { holds = λ at b x d. e .holds at b x (d .1) }
-
-module _ {A B : Type 0} {F : Form A} {G : A → Form B} where
-  apart : Wider (AsBytes (Then F G)) (Then (AsBytes F) (λ x. AsBytes (G x)))
-  apart = record {
-    widens = λ d.
-        let k = parts (d .1) (d .0) in
-        record { value = d .1 .value; front = d .1 .front; back = d .1 .back; whole = d .1 .whole; one = (k .0, d .1 .one); two = (k .1, d .1 .two) };
-  }
-
--- the steps of `proofs/WiderIf.antt`, from bytes
-module _ {A B : Type 0} {P : B → Type 0} {R : Type 0} {F F′ : Form A} {G G′ : A → Form B} where
-  asks : {Q : A → Type 0} → WiderIf Q (Unit {0}) (AsBytes F) F′ → ((x : A) → WiderIf P (Q x × R) (AsBytes (G x)) (G′ x)) → WiderIf P R (AsBytes (Then F G)) (Then F′ G′)
-  asks one two = seen-as apart (tested one two)
-
-  asks-known : {K Q : A → Type 0} → Every F K → WiderIf Q (Unit {0}) (AsBytes F) F′ → ((x : A) → K x → WiderIf P (Q x × R) (AsBytes (G x)) (G′ x))
-      → WiderIf P R (AsBytes (Then F G)) (Then F′ G′)
-  asks-known every one two = seen-as apart (learns (every-plain every) one two)
-
-module _ {A B : Type 0} {P : B → Type 0} {R : Type 0} {F : Form A} {G G′ : A → Form B} where
-  -- a part that is the same
-  keeps : ((x : A) → WiderIf P R (AsBytes (G x)) (G′ x)) → WiderIf P R (AsBytes (Then F G)) (Then F G′)
-  keeps two = seen-as apart (untested plain two)
-
-  -- and something is known of it
-  keeps-known : {K : A → Type 0} → Every F K → ((x : A) → K x → WiderIf P R (AsBytes (G x)) (G′ x)) → WiderIf P R (AsBytes (Then F G)) (Then F G′)
-  keeps-known every two = seen-as apart (knows (every-plain every) plain two)
-
-closes : {A : Type 0} {P : A → Type 0} {R : Type 0} {x : A} → (P x → R) → WiderIf P R (AsBytes (Is x)) (Is x)
-closes learn = seen-as plain (ends learn)
-
--- a part without bytes, a test or a place, that the other form leaves out
-module _ {A B : Type 0} {P : B → Type 0} {R : Type 0} {F : Form A} {G : A → Form B} {G′ : Form B} where
-  skips : ((at : ℕ) (b : Bytes) (x : A) → F at b x → b ≡ []) → ((x : A) → WiderIf P R (AsBytes (G x)) G′) → WiderIf P R (AsBytes (Then F G)) G′
-  skips empty rest = record {
-    widens = λ at b y p (h, d).
-        let none = empty at (d .front) (d .value) (d .one) in
-        let all : b ≡ d .back = d .whole ∙ ap (λ b. b ++ d .back) none in
-        let behind : G (d .value) at b y = rw all (rw (none, add-zero) at (d .two)) in
-        rest (d .value) .widens at b y p (h, behind);
-  }
-
-untests : {A : Type 0} {P : A → Type 0} {R Q : Type 0} {G G′ : Form A} → WiderIf P R (AsBytes G) G′ → WiderIf P R (AsBytes (Then (Given Q) (λ _. G))) G′
-untests rest = skips (λ at b x d. d .0) λ _. rest
-
-unplaced : {A : Type 0} {P : A → Type 0} {R : Type 0} {G : ℕ → Form A} {G′ : Form A} → ((place : ℕ) → WiderIf P R (AsBytes (G place)) G′) → WiderIf P R (AsBytes (Then Here G)) G′
-unplaced rest = skips (λ at b x d. d .0) rest
-
-tests : {A : Type 0} {P : A → Type 0} {R : Type 0} {F G F′ G′ : Form A} (t : Bool) → WiderIf P R (AsBytes F) F′ → WiderIf P R (AsBytes G) G′ → WiderIf P R (AsBytes (When t F G)) (When t F′ G′)
-tests true one two = one
-tests false one two = two
-
--- the other form in groups
-regrouped : {A : Type 0} {P : A → Type 0} {R : Type 0} {F G G′ : Form A} → Wider G G′ → WiderIf P R F G → WiderIf P R F G′
-regrouped w one = record { widens = λ at b x p d. let r = one .widens at b x p d in (w .widens (r .0), r .1) }
-
-ended : {A B : Type 0} {x : A} {H : A → Form B} → Wider (H x) (Then (Is x) H)
-ended {x} = record { widens = λ d. skip x (refl, refl) d }
 
 -- ## Numbers
 abbrev pub IsInt : ℕ → Type 0
@@ -118,10 +46,6 @@ size-back : {P : ℕ → Type 0} → WiderIf P (Unit {0}) (AsBytes Number) LoadS
 size-back = record { widens = λ at b v p (h, d). ((h, size-exactly at b v [] h .1 (ours-of {at = at} d)), tt) }
 
 -- ## Lists
-many-back : {A : Type 0} {P : A → Type 0} {F G : Form A} (n : ℕ) → WiderIf P (Unit {0}) (AsBytes F) G → WiderIf (All P) (Unit {0}) (AsBytes (Many n F)) (Many n G)
-many-back zero one = closes λ p. tt
-many-back (suc n) one = asks one λ x. asks (many-back n one) λ xs. closes λ p. (p .1, (p .0, tt))
-
 abbrev pub ListIs : {A : Type 0} → (A → Type 0) → List A → Type 0
 ListIs P xs = IsInt (length xs) × All P xs
 
