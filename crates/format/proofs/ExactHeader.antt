@@ -13,7 +13,7 @@ use Rattle.format.specs.ReadHeader.{sameBytes, expect, beforeFormat, beh
 use Rattle.format.proofs.Exact.{Exact, exact-give, exact-here, exact-then, exact-place, exact-as, exact-test, exact-run}
 use Rattle.format.proofs.ExactFields.{exact-field}
 
-both : (b c : Bool) → T (b && c) → T b × T c
+pub both : (b c : Bool) → T (b && c) → T b × T c
 both true c t = (tt, t)
 
 pub same-eq : (xs ys : Bytes) → T (sameBytes xs ys) → xs ≡ ys
@@ -22,7 +22,7 @@ same-eq (x ∷ xs) (y ∷ ys) t =
     let h = both (eqb x y) (sameBytes xs ys) t in
     ap₂ _∷_ (eqb→eq x y (h .0)) (same-eq xs ys (h .1))
 
-both-of : (b c : Bool) → T b → T c → T (b && c)
+pub both-of : (b c : Bool) → T b → T c → T (b && c)
 both-of true c t u = u
 
 pub same-refl : (xs : Bytes) → T (sameBytes xs xs)

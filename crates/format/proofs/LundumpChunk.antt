@@ -5,7 +5,7 @@
 --     loaded-belongs               Lua loads m from the front of a chunk: the chunk belongs under the limits to our grammar, and its reading is what is loaded
 --     loaded-is-read               and so it is read
 -- The first argument of `Undump` bounds how deep functions nest, and is free here: C has no such bound.
--- The converse fails where 01 says so: numbers from 2^31 - 128 on, a string constant of size 0, a format byte other than 0.
+-- The converse fails where 01 says so: numbers from 2^31 - 128 on, a string constant of size 0, a format byte other than 0. Elsewhere it holds: `proofs/LundumpBack.antt`.
 -- Assumes nothing.
 use mathlib.Core.Path.{_≡_, refl, ap}
 use mathlib.Core.Bool.{true}
