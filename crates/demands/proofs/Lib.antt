@@ -1,3 +1,4 @@
+pub mod Slices
 pub mod Calls
 pub mod Written
 pub mod InOrder
