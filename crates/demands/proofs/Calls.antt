@@ -1,24 +1,31 @@
 -- What the exported calls show of a chunk that belongs to the grammar: each shows its part of the reading. The calls' contracts (README, The calls) say that
---     chunk_summary       answers    shownSummary (read L s)
---     trailing_bytes      shows      trailingOf (read L s)
---     string_bytes        shows      take len (drop place s)
---     function_fields     answers    shownFields (functionOf f (read L s))
---     instruction ..      answer     shownWord, .. (entryOf (λ p. p .instructions) f i (read L s)), and so for the other lists
---     local               answers    shownLocal space (entryOf (λ p. p .loc-vars) f i (read L s)), and leaves nameWritten old of the same
---     function_index      answers    shownIndex space (read L s), and leaves indexWritten old (read L s)
---     copy_length         answers    shownLength (read L s)
---     encode_chunk_lua54  answers    shownCopy space (read L s), and leaves copyWritten old (read L s)
--- and the theorems below say what these are.
+--     chunk_summary           answers    shownSummary (read L s)
+--     trailing_bytes          shows      trailingOf (read L s)
+--     string_bytes            shows      take len (drop place s)
+--     function_fields         answers    shownFields (functionOf f (read L s))
+--     instruction ..          answer     shownWord, .. (entryOf (λ p. p .instructions) f i (read L s)), and so for the other lists
+--     local                   answers    shownLocal space (entryOf (λ p. p .loc-vars) f i (read L s)), and leaves nameWritten old of the same
+--     get_line_for_pc         answers    shownLine pc (functionOf f (read L s))
+--     function_index          answers    shownIndex space (read L s), and leaves indexWritten old (read L s)
+--     chunk_verdict           answers    shownVerdict (read L s)
+--     finding_count           answers    shownCount (read L s)
+--     validate_chunk_lua54    answers    shownFindings space (read L s), and leaves findingsWritten old (read L s); chunk_findings does so with a list of its own
+--     copy_length             answers    shownLength (read L s)
+--     encode_chunk_lua54      answers    shownCopy space (read L s), and leaves copyWritten old (read L s)
+-- and the theorems below say what these are: `shows` where the chunk is read, `refuses` where it is refused.
 -- Assumes nothing.
-use mathlib.Core.Path.{_≡_, _∙_, ap}
+use mathlib.Core.Path.{_≡_, refl, _∙_, ap}
+use mathlib.Core.Bool.{Bool, true, false}
 use mathlib.Core.List.{List, [], _++_}
 use mathlib.Core.Option.{Option, none, some}
 use Prim.Native.Nat.{ℕ, _≤_, _<_}
 use borrow.Author.Tests.{le-leb, lt-leb}
-use lib.ListN.{length, drop}
+use lib.Dec.{leb}
+use lib.ListN.{length, drop, length-replicate}
 use Rattle.format.specs.declared.limits.ResourceLimits.{ResourceLimits}
 use Rattle.format.specs.declared.refusal.Refusal.{Refusal}
 use Rattle.format.specs.declared.refusal.Refusal.the-variants.{NoFunction, NoEntry, LentSpace}
+use Rattle.format.specs.Pick.{pick}
 use Rattle.format.specs.Form.{Bytes}
 use Rattle.format.specs.GrammarFields.{LuaString}
 use Rattle.format.specs.Reading.{Reading, Prototype, ConstantValue, LocalVar}
@@ -29,6 +36,18 @@ use Rattle.format.proofs.Located.{Located, StandsIf}
 use Rattle.entries.specs.Nth.{nth}
 use Rattle.entries.proofs.Items.{many-nth}
 use Rattle.entries.proofs.Strings.{ConstantStands, constant-stands, name-stands}
+use Rattle.rules.specs.declared.finding.Finding.{Finding}
+use Rattle.rules.specs.declared.finding.Rule.the-variants.{Register}
+use Rattle.rules.specs.Findings.{chunkFindings, verdict}
+use Rattle.validator.specs.declared.verdict.VerdictAnswer.the-variants as verdict-answer
+use Rattle.validator.specs.declared.verdict.CountAnswer.the-variants as count-answer
+use Rattle.validator.specs.Answers.{shownVerdict, shownCount}
+use Rattle.validator.proofs.Few.{findings-few}
+use Rattle.finding_plan.specs.declared.FindingsAnswer.the-variants as findings-answer
+use Rattle.finding_plan.specs.Listed.{shownFindings, findingsWritten}
+use Rattle.finding_array.specs.Blank.{LONGEST, blankList}
+use Rattle.lines.specs.declared.line.LineAnswer.the-variants as line-answer
+use Rattle.lines.specs.Lines.{answerOf, shownLine}
 use Rattle.index.specs.Index.{index, shownIndex, indexWritten}
 use Rattle.index.specs.declared.IndexAnswer.the-variants as index-answer
 use Rattle.copy.specs.Copied.{shownLength, shownCopy, copyWritten}
@@ -39,6 +58,13 @@ use Rattle.show_local.specs.declared.LocalAnswer.the-variants as local-answer
 use Rattle.access.specs.Asked.{found, refused, orRefuse, functionOf, entryOf, entryIn}
 use Rattle.show_chunk.specs.Summaries.{summaryOf, shownSummary, trailingOf}
 use Rattle.show_chunk.specs.Fields.{fieldsOf, shownFields}
+use Rattle.show_entry.specs.declared.WordAnswer.the-variants as word-answer
+use Rattle.show_entry.specs.declared.ConstantAnswer.the-variants as constant-answer
+use Rattle.show_entry.specs.declared.UpvalueAnswer.the-variants as upvalue-answer
+use Rattle.show_entry.specs.declared.DeltaAnswer.the-variants as delta-answer
+use Rattle.show_entry.specs.declared.AnchorAnswer.the-variants as anchor-answer
+use Rattle.show_entry.specs.declared.NameAnswer.the-variants as name-answer
+use Rattle.show_entry.specs.Entries.{shownWord, shownConstant, shownUpvalue, shownDelta, shownAnchor, shownName}
 use Rattle.show_local.specs.Locals.{shownLocal, nameWritten}
 use Rattle.access.proofs.Whole.{all-nth, whole}
 
@@ -46,36 +72,57 @@ use Rattle.access.proofs.Whole.{all-nth, whole}
 pub record ShowsFunction (L : ResourceLimits) (s : Bytes) (f : ℕ) (p : Prototype) : Type 0 where
   pub fields : shownFields (functionOf f (read L s)) ≡ fields-answer.Ok (fieldsOf p)
   -- an entry by its number, or refusal 24
-  pub instruction : (i : ℕ) → entryOf (λ p. p .instructions) f i (read L s) ≡ orRefuse NoEntry (nth i (p .instructions))
-  pub constant : (i : ℕ) → entryOf (λ p. p .constants) f i (read L s) ≡ orRefuse NoEntry (nth i (p .constants))
-  pub upvalue : (i : ℕ) → entryOf (λ p. p .upvalues) f i (read L s) ≡ orRefuse NoEntry (nth i (p .upvalues))
-  pub delta : (i : ℕ) → entryOf (λ p. p .line-info) f i (read L s) ≡ orRefuse NoEntry (nth i (p .line-info))
-  pub anchor : (i : ℕ) → entryOf (λ p. p .abs-line-info) f i (read L s) ≡ orRefuse NoEntry (nth i (p .abs-line-info))
-  pub local : (i : ℕ) → entryOf (λ p. p .loc-vars) f i (read L s) ≡ orRefuse NoEntry (nth i (p .loc-vars))
-  pub upvalue-name : (i : ℕ) → entryOf (λ p. p .upvalue-names) f i (read L s) ≡ orRefuse NoEntry (nth i (p .upvalue-names))
-  -- a local variable's name is written into lent space that has room for it
-  pub local-name : (i : ℕ) (l : LocalVar) → nth i (p .loc-vars) ≡ some l → (old : Bytes) → length (l .name .bytes) ≤ length old
+  pub instruction : (i : ℕ) → shownWord (entryOf (λ p. p .instructions) f i (read L s)) ≡ shownWord (orRefuse NoEntry (nth i (p .instructions)))
+  pub constant : (i : ℕ) → shownConstant (entryOf (λ p. p .constants) f i (read L s)) ≡ shownConstant (orRefuse NoEntry (nth i (p .constants)))
+  pub upvalue : (i : ℕ) → shownUpvalue (entryOf (λ p. p .upvalues) f i (read L s)) ≡ shownUpvalue (orRefuse NoEntry (nth i (p .upvalues)))
+  pub delta : (i : ℕ) → shownDelta (entryOf (λ p. p .line-info) f i (read L s)) ≡ shownDelta (orRefuse NoEntry (nth i (p .line-info)))
+  pub anchor : (i : ℕ) → shownAnchor (entryOf (λ p. p .abs-line-info) f i (read L s)) ≡ shownAnchor (orRefuse NoEntry (nth i (p .abs-line-info)))
+  pub upvalue-name : (i : ℕ) → shownName (entryOf (λ p. p .upvalue-names) f i (read L s)) ≡ shownName (orRefuse NoEntry (nth i (p .upvalue-names)))
+  -- a local variable's name is written into lent space that has room for it, and what stood behind it stays; else 26, and all that stood there stays
+  pub local : (i : ℕ) (l : LocalVar) → nth i (p .loc-vars) ≡ some l → (old : Bytes) → length (l .name .bytes) ≤ length old
       → (shownLocal (length old) (entryOf (λ p. p .loc-vars) f i (read L s)) ≡ local-answer.Ok (length (l .name .bytes)) (l .startpc) (l .endpc))
       × (nameWritten old (entryOf (λ p. p .loc-vars) f i (read L s)) ≡ l .name .bytes ++ drop (length (l .name .bytes)) old)
+  pub local-too-long : (i : ℕ) (l : LocalVar) → nth i (p .loc-vars) ≡ some l → (old : Bytes) → length old < length (l .name .bytes)
+      → (shownLocal (length old) (entryOf (λ p. p .loc-vars) f i (read L s)) ≡ local-answer.Err LentSpace) × (nameWritten old (entryOf (λ p. p .loc-vars) f i (read L s)) ≡ old)
+  pub no-local : (i : ℕ) → nth i (p .loc-vars) ≡ none → (old : Bytes)
+      → (shownLocal (length old) (entryOf (λ p. p .loc-vars) f i (read L s)) ≡ local-answer.Err NoEntry) × (nameWritten old (entryOf (λ p. p .loc-vars) f i (read L s)) ≡ old)
   -- strings: what `string_bytes` shows by the place and length that are shown are their bytes
   pub source-bytes : StandsIf s (p .source-name)
   pub constant-bytes : (i : ℕ) (k : ConstantValue) → nth i (p .constants) ≡ some k → ConstantStands s k
   pub upvalue-name-bytes : (i : ℕ) (t : Option LuaString) → nth i (p .upvalue-names) ≡ some t → StandsIf s t
+  -- the line of any pc, by 01's rules
+  pub line : (pc : ℕ) → shownLine pc (functionOf f (read L s)) ≡ answerOf (length (p .instructions)) (p .line-defined) (p .line-info) (p .abs-line-info) pc
 
 -- ## What is shown of a chunk
 pub record Shows (L : ResourceLimits) (s : Bytes) (r : Reading) : Type 0 where
   pub summary : shownSummary (read L s) ≡ summary-answer.Ok (summaryOf r)
   pub trailing : trailingOf (read L s) ≡ r .trailing
   pub function : (f : ℕ) (p : Prototype) → nth f (r .functions) ≡ some p → ShowsFunction L s f p
-  -- refusal 23
+  -- refusal 23, of fields, every entry and every line
   pub no-function : (f : ℕ) → nth f (r .functions) ≡ none → functionOf f (read L s) ≡ refused NoFunction
-  -- the index is written into lent space that has room for it
+  -- the index is written into lent space that has room for it, and what stood behind it stays; else 26, and all that stood there stays
   pub index-rows : (old : List ℕ) → length (index (r .functions)) ≤ length old
       → (shownIndex (length old) (read L s) ≡ index-answer.Ok (length (r .functions))) × (indexWritten old (read L s) ≡ index (r .functions) ++ drop (length (index (r .functions))) old)
+  pub index-too-long : (old : List ℕ) → length old < length (index (r .functions)) → (shownIndex (length old) (read L s) ≡ index-answer.Err LentSpace) × (indexWritten old (read L s) ≡ old)
+  -- validation: the verdict, the number of findings, and the findings in a list that has room for them
+  pub chunk-verdict : shownVerdict (read L s) ≡ verdict-answer.Ok (verdict (chunkFindings r))
+  pub finding-count : shownCount (read L s) ≡ count-answer.Ok (length (chunkFindings r .findings))
+  pub findings : (old : List Finding) → length (chunkFindings r .findings) ≤ length old
+      → (shownFindings (length old) (read L s) ≡ findings-answer.Ok (verdict (chunkFindings r)) (length (chunkFindings r .findings)))
+      × (findingsWritten old (read L s) ≡ chunkFindings r .findings ++ drop (length (chunkFindings r .findings)) old)
+  pub findings-too-many : (old : List Finding) → length old < length (chunkFindings r .findings) → (shownFindings (length old) (read L s) ≡ findings-answer.Err LentSpace) × (findingsWritten old (read L s) ≡ old)
+  -- the array by value always has room
+  pub finding-array : (shownFindings LONGEST (read L s) ≡ findings-answer.Ok (verdict (chunkFindings r)) (length (chunkFindings r .findings)))
+      × (findingsWritten blankList (read L s) ≡ chunkFindings r .findings ++ drop (length (chunkFindings r .findings)) blankList)
   pub copy-length : shownLength (read L s) ≡ copy-answer.Ok (length (copy r))
   -- the copy is written into lent space that has room for it, and what stood behind it stays; else 26, and all that stood there stays
   pub copied : (old : Bytes) → length (copy r) ≤ length old → (shownCopy (length old) (read L s) ≡ copy-answer.Ok (length (copy r))) × (copyWritten old (read L s) ≡ copy r ++ drop (length (copy r)) old)
   pub copy-too-long : (old : Bytes) → length old < length (copy r) → (shownCopy (length old) (read L s) ≡ copy-answer.Err LentSpace) × (copyWritten old (read L s) ≡ old)
+
+-- the array of `chunk_findings` is as long as there can be findings
+array-length : length blankList ≡ LONGEST
+unfolding blankList
+array-length = length-replicate {A = Finding} LONGEST (record { function = 0; pc = 0; rule = Register 0 })
 
 module _ (L : ResourceLimits) (s : Bytes) (r : Reading) (is : read L s ≡ shown r) where
   module _ (f : ℕ) (p : Prototype) (there : nth f (r .functions) ≡ some p) where
@@ -85,13 +132,12 @@ module _ (L : ResourceLimits) (s : Bytes) (r : Reading) (is : read L s ≡ shown
     entry : {A : Type 0} (list : Prototype → List A) (i : ℕ) → entryOf list f i (read L s) ≡ orRefuse NoEntry (nth i (list p))
     entry list i = ap (entryIn list i) here
 
-    name : (i : ℕ) (l : LocalVar) → nth i (p .loc-vars) ≡ some l → (old : Bytes) → length (l .name .bytes) ≤ length old
-        → (shownLocal (length old) (entryOf (λ p. p .loc-vars) f i (read L s)) ≡ local-answer.Ok (length (l .name .bytes)) (l .startpc) (l .endpc))
-        × (nameWritten old (entryOf (λ p. p .loc-vars) f i (read L s)) ≡ l .name .bytes ++ drop (length (l .name .bytes)) old)
-    name i l e old room =
-        let fits = le-leb (length (l .name .bytes)) (length old) room in
+    name : (i : ℕ) (l : LocalVar) → nth i (p .loc-vars) ≡ some l → (old : Bytes) (b : Bool) → leb (length (l .name .bytes)) (length old) ≡ b
+        → (shownLocal (length old) (entryOf (λ p. p .loc-vars) f i (read L s)) ≡ pick b (local-answer.Ok (length (l .name .bytes)) (l .startpc) (l .endpc)) (local-answer.Err LentSpace))
+        × (nameWritten old (entryOf (λ p. p .loc-vars) f i (read L s)) ≡ pick b (l .name .bytes ++ drop (length (l .name .bytes)) old) old)
+    name i l e old b test =
         let one = entry (λ p. p .loc-vars) i ∙ ap (orRefuse NoEntry) e in
-        (ap (shownLocal (length old)) one ∙ rw fits, ap (nameWritten old) one ∙ rw fits)
+        (ap (shownLocal (length old)) one ∙ rw test, ap (nameWritten old) one ∙ rw test)
 
     located : Located L s p
     located = all-nth (Located L s) (r .functions) (whole L s r is .located) f there
@@ -99,18 +145,26 @@ module _ (L : ResourceLimits) (s : Bytes) (r : Reading) (is : read L s ≡ shown
     function-shown : ShowsFunction L s f p
     function-shown = record {
       fields = ap shownFields here;
-      instruction = entry (λ p. p .instructions);
-      constant = entry (λ p. p .constants);
-      upvalue = entry (λ p. p .upvalues);
-      delta = entry (λ p. p .line-info);
-      anchor = entry (λ p. p .abs-line-info);
-      local = entry (λ p. p .loc-vars);
-      upvalue-name = entry (λ p. p .upvalue-names);
-      local-name = name;
+      instruction = λ i. ap shownWord (entry (λ p. p .instructions) i);
+      constant = λ i. ap shownConstant (entry (λ p. p .constants) i);
+      upvalue = λ i. ap shownUpvalue (entry (λ p. p .upvalues) i);
+      delta = λ i. ap shownDelta (entry (λ p. p .line-info) i);
+      anchor = λ i. ap shownAnchor (entry (λ p. p .abs-line-info) i);
+      upvalue-name = λ i. ap shownName (entry (λ p. p .upvalue-names) i);
+      local = λ i l e old room. name i l e old true (le-leb (length (l .name .bytes)) (length old) room);
+      local-too-long = λ i l e old short. name i l e old false (lt-leb (length (l .name .bytes)) (length old) short);
+      no-local = λ i e old. let one = entry (λ p. p .loc-vars) i ∙ ap (orRefuse NoEntry) e in (ap (shownLocal (length old)) one, ap (nameWritten old) one);
       source-bytes = located .source-name;
       constant-bytes = λ i k e. constant-stands s (L .«max_string_bytes») i (many-nth (constant (L .«max_string_bytes»)) (length (p .constants)) (located .constants) i e);
       upvalue-name-bytes = λ i t e. name-stands s (L .«max_string_bytes») i (many-nth (string (L .«max_string_bytes»)) (length (p .upvalue-names)) (located .upvalue-names) i e);
+      line = λ pc. ap (shownLine pc) here;
     }
+
+  -- the findings in a list of that length
+  listed : (space : ℕ) (old : List Finding) → length old ≡ space → (b : Bool) → leb (length (chunkFindings r .findings)) space ≡ b
+      → (shownFindings space (read L s) ≡ pick b (findings-answer.Ok (verdict (chunkFindings r)) (length (chunkFindings r .findings))) (findings-answer.Err LentSpace))
+      × (findingsWritten old (read L s) ≡ pick b (chunkFindings r .findings ++ drop (length (chunkFindings r .findings)) old) old)
+  listed space old size b test = (ap (shownFindings space) is ∙ rw test, ap (findingsWritten old) is ∙ rw (size, test))
 
   pub shows : Shows L s r
   shows = record {
@@ -118,9 +172,15 @@ module _ (L : ResourceLimits) (s : Bytes) (r : Reading) (is : read L s ≡ shown
     trailing = ap trailingOf is;
     function = function-shown;
     no-function = λ f e. ap (functionOf f) is ∙ ap (orRefuse NoFunction) e;
-    index-rows = λ old room. let fits = le-leb (length (index (r .functions))) (length old) room in (ap (shownIndex (length old)) is ∙ rw fits, ap (indexWritten old) is ∙ rw fits);
+    index-rows = λ old room. let test = le-leb (length (index (r .functions))) (length old) room in (ap (shownIndex (length old)) is ∙ rw test, ap (indexWritten old) is ∙ rw test);
+    index-too-long = λ old short. let test = lt-leb (length (index (r .functions))) (length old) short in (ap (shownIndex (length old)) is ∙ rw test, ap (indexWritten old) is ∙ rw test);
+    chunk-verdict = ap shownVerdict is;
+    finding-count = ap shownCount is;
+    findings = λ old room. listed (length old) old refl true (le-leb (length (chunkFindings r .findings)) (length old) room);
+    findings-too-many = λ old short. listed (length old) old refl false (lt-leb (length (chunkFindings r .findings)) (length old) short);
+    finding-array = listed LONGEST blankList array-length true (le-leb (length (chunkFindings r .findings)) LONGEST (findings-few r));
     copy-length = ap shownLength is;
-    copied = λ old room. let fits = le-leb (length (copy r)) (length old) room in (ap (shownCopy (length old)) is ∙ rw fits, ap (copyWritten old) is ∙ rw fits);
+    copied = λ old room. let test = le-leb (length (copy r)) (length old) room in (ap (shownCopy (length old)) is ∙ rw test, ap (copyWritten old) is ∙ rw test);
     copy-too-long = λ old short. let test = lt-leb (length (copy r)) (length old) short in (ap (shownCopy (length old)) is ∙ rw test, ap (copyWritten old) is ∙ rw test);
   }
 
@@ -128,10 +188,20 @@ module _ (L : ResourceLimits) (s : Bytes) (r : Reading) (is : read L s ≡ shown
 pub record Refuses (L : ResourceLimits) (s : Bytes) (q : Refusal) : Type 0 where
   pub summary : shownSummary (read L s) ≡ summary-answer.Err q
   pub trailing : trailingOf (read L s) ≡ []
-  -- and so every field and every entry
-  pub function : (f : ℕ) → functionOf f (read L s) ≡ refused q
-  pub local-name : (f i : ℕ) (old : Bytes) → nameWritten old (entryOf (λ p. p .loc-vars) f i (read L s)) ≡ old
+  pub fields : (f : ℕ) → shownFields (functionOf f (read L s)) ≡ fields-answer.Err q
+  pub instruction : (f i : ℕ) → shownWord (entryOf (λ p. p .instructions) f i (read L s)) ≡ word-answer.Err q
+  pub constant : (f i : ℕ) → shownConstant (entryOf (λ p. p .constants) f i (read L s)) ≡ constant-answer.Err q
+  pub upvalue : (f i : ℕ) → shownUpvalue (entryOf (λ p. p .upvalues) f i (read L s)) ≡ upvalue-answer.Err q
+  pub delta : (f i : ℕ) → shownDelta (entryOf (λ p. p .line-info) f i (read L s)) ≡ delta-answer.Err q
+  pub anchor : (f i : ℕ) → shownAnchor (entryOf (λ p. p .abs-line-info) f i (read L s)) ≡ anchor-answer.Err q
+  pub upvalue-name : (f i : ℕ) → shownName (entryOf (λ p. p .upvalue-names) f i (read L s)) ≡ name-answer.Err q
+  pub local : (f i : ℕ) (old : Bytes) → (shownLocal (length old) (entryOf (λ p. p .loc-vars) f i (read L s)) ≡ local-answer.Err q) × (nameWritten old (entryOf (λ p. p .loc-vars) f i (read L s)) ≡ old)
+  pub line : (f pc : ℕ) → shownLine pc (functionOf f (read L s)) ≡ line-answer.Err q
   pub index-rows : (old : List ℕ) → (shownIndex (length old) (read L s) ≡ index-answer.Err q) × (indexWritten old (read L s) ≡ old)
+  pub chunk-verdict : shownVerdict (read L s) ≡ verdict-answer.Err q
+  pub finding-count : shownCount (read L s) ≡ count-answer.Err q
+  pub findings : (old : List Finding) → (shownFindings (length old) (read L s) ≡ findings-answer.Err q) × (findingsWritten old (read L s) ≡ old)
+  pub finding-array : (shownFindings LONGEST (read L s) ≡ findings-answer.Err q) × (findingsWritten blankList (read L s) ≡ blankList)
   pub copy-length : shownLength (read L s) ≡ copy-answer.Err q
   pub copied : (old : Bytes) → (shownCopy (length old) (read L s) ≡ copy-answer.Err q) × (copyWritten old (read L s) ≡ old)
 
@@ -139,9 +209,20 @@ pub refuses : (L : ResourceLimits) (s : Bytes) (q : Refusal) → read L s ≡ re
 refuses L s q is = record {
   summary = ap shownSummary is;
   trailing = ap trailingOf is;
-  function = λ f. ap (functionOf f) is;
-  local-name = λ f i old. ap (λ o. nameWritten old (entryOf (λ p. p .loc-vars) f i o)) is;
+  fields = λ f. ap (λ o. shownFields (functionOf f o)) is;
+  instruction = λ f i. ap (λ o. shownWord (entryOf (λ p. p .instructions) f i o)) is;
+  constant = λ f i. ap (λ o. shownConstant (entryOf (λ p. p .constants) f i o)) is;
+  upvalue = λ f i. ap (λ o. shownUpvalue (entryOf (λ p. p .upvalues) f i o)) is;
+  delta = λ f i. ap (λ o. shownDelta (entryOf (λ p. p .line-info) f i o)) is;
+  anchor = λ f i. ap (λ o. shownAnchor (entryOf (λ p. p .abs-line-info) f i o)) is;
+  upvalue-name = λ f i. ap (λ o. shownName (entryOf (λ p. p .upvalue-names) f i o)) is;
+  local = λ f i old. (ap (λ o. shownLocal (length old) (entryOf (λ p. p .loc-vars) f i o)) is, ap (λ o. nameWritten old (entryOf (λ p. p .loc-vars) f i o)) is);
+  line = λ f pc. ap (λ o. shownLine pc (functionOf f o)) is;
   index-rows = λ old. (ap (shownIndex (length old)) is, ap (indexWritten old) is);
+  chunk-verdict = ap shownVerdict is;
+  finding-count = ap shownCount is;
+  findings = λ old. (ap (shownFindings (length old)) is, ap (findingsWritten old) is);
+  finding-array = (ap (shownFindings LONGEST) is, ap (findingsWritten blankList) is);
   copy-length = ap shownLength is;
   copied = λ old. (ap (shownCopy (length old)) is, ap (copyWritten old) is);
 }
