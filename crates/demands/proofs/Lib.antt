@@ -1,4 +1,5 @@
 pub mod Slices
+pub mod Same
 pub mod Calls
 pub mod Written
 pub mod InOrder

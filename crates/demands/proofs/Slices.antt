@@ -24,6 +24,8 @@ use denote.Ref.{RefT}
 use denote.Signature.{Signature, Slot, plain, typesAt}
 use denote.Slice.{ShrSlice, slice-vals, room}
 use denote.Triple.Bound.{passed}
+use denote.Triple.Clauses.{Clauses, Ended, Lasts, AtExit, atExit, lasts, ensured, closing}
+use denote.Triple.End.{Kepts}
 use denote.Triple.Entry.{Args, Res}
 use denote.Triple.Spec.{Spec, Back, tripleOf, Meets}
 use denote.Triple.Table.{run-framed, run-enters}
@@ -55,12 +57,9 @@ module _ {M : Type 1} (𝓤 : URA M) (H : Heap 𝓤) (A : Atoms 𝓤) (W : Given
 
 module _ {M : Type 1} (𝓤 : URA M) (H : Heap 𝓤) (𝓜 : Model 𝓤 H) (𝓖 : GhostRules 𝓤 H) (𝓡 : Running 𝓤 H 𝓜) (ρ : Routine)
     (n : ℕ) (os : List (Outlives (suc n))) (ps : List (Slot (suc n))) (res : Slot (suc n)) where
+  -- the signatures of calls on a chunk
   abbrev S : Signature
   S = record { lifetimes = suc n; outlives = os; params = builtin.SliceRefOf (0 ∷ []) tt (plain (λ κs. builtin.u8)) (λ κs. tt) ∷ ps; result = res }
-
-  -- c with E for its `ensures`
-  abbrev ensuring : (c : Spec 𝓤 S) → ((κs : Lfts (suc n)) (a : Args S κs) → c κs a .ghost → Res S κs → SProp 𝓤) → Spec 𝓤 S
-  ensuring c E κs a = record { ghost = c κs a .ghost; requires = c κs a .requires; ensures = E κs a }
 
   module _ (c : Spec 𝓤 S) (y : tripleOf 𝓤 H (𝓖 .A) S c .Ghost) where
     abbrev pre : SProp 𝓤
@@ -69,6 +68,7 @@ module _ {M : Type 1} (𝓤 : URA M) (H : Heap 𝓤) (𝓜 : Model 𝓤 H) (𝓖
     abbrev chunk : RefT Bytes
     chunk = y .0 .3 .0
 
+    -- what there is when a call is entered says so
     pre-known : ent 𝓤 pre (H .⇛ (guard 𝓤 (Below 256 (chunk .now)) pre))
     pre-known =
         let W = givenOf 𝓤 H 𝓜 𝓖 in
@@ -83,21 +83,35 @@ module _ {M : Type 1} (𝓤 : URA M) (H : Heap 𝓤) (𝓜 : Model 𝓤 H) (𝓖
         use2 W (later (given (Below 256 (chunk .now)) (‵ own ⊛ ‵ token))) (owned-known 𝓤 H (𝓖 .A) W (κs .0) (y .0 .1 .0) chunk (y .0 .4 .0)) $ await ! tt $ learn ! (λ b.
         split ! $ move ! (0 ∷ 2 ∷ []) $ fjoin ! $ move ! (1 ∷ 2 ∷ []) $ join ! $ join ! $ join ! $ now ! $ check ! b $ done !))
 
-  pub bytes-known : (c : Spec 𝓤 S) (E : (κs : Lfts (suc n)) (a : Args S κs) → c κs a .ghost → Res S κs → SProp 𝓤)
-      → ((κs : Lfts (suc n)) (a : Args S κs) (g : c κs a .ghost) (r : Res S κs) → Below 256 (a .0 .now) → ent 𝓤 (c κs a .ensures g r) (E κs a g r))
-      → Meets 𝓤 H (𝓖 .A) S (𝓡 .run ρ) c → Meets 𝓤 H (𝓖 .A) S (𝓡 .run ρ) (ensuring c E)
-  bytes-known c E follows meets y =
-      let W = givenOf 𝓤 H 𝓜 𝓖 in
-      let κs = y .0 .0 in
-      let a = y .0 .3 in
-      let args = passed 𝓤 H (𝓖 .A) S (y .0) in
-      let post = tripleOf 𝓤 H (𝓖 .A) S c .post y in
-      let post′ = tripleOf 𝓤 H (𝓖 .A) S (ensuring c E) .post y in
-      via 𝓤 (H .⇛ (guard 𝓤 (Below 256 (chunk c y .now)) (pre c y))) (pre-known c y)
-      (via 𝓤 (H .⇛ (𝓡 .run ρ args post′))
-      (W .laws .⇛-mono _ _ (guardE 𝓤 (Below 256 (chunk c y .now)) (pre c y) (λ b.
-      via 𝓤 (𝓡 .run ρ args post) (meets y)
-      (fm→mono 𝓤 (𝓡 .run ρ args) (run-framed 𝓤 H 𝓜 𝓡 ρ args) post post′ (λ v.
-      W .laws .⇛-mono _ _ (exE 𝓤 _ (λ r. via 𝓤 (sep 𝓤 (Back 𝓤 H (𝓖 .A) S (y .0) v r) (E κs a (y .1) r)) (monoR 𝓤 (Back 𝓤 H (𝓖 .A) S (y .0) v r) (follows κs a (y .1) r b))
-      (exI 𝓤 (λ (r′ : Res S κs). sep 𝓤 (Back 𝓤 H (𝓖 .A) S (y .0) v r′) (E κs a (y .1) r′)) r))))))))
-      (run-enters 𝓤 H 𝓜 𝓡 ρ args post′))
+  module _ (ks : Kepts (S .params)) where
+    abbrev T : Ended
+    T = record { signature = S; kept = ks }
+
+    module _ (c : Clauses 𝓤 T) (E : (κs : Lfts (suc n)) (a : Args S κs) → c κs a .ghost → Res S κs → AtExit T κs → SProp 𝓤)
+        (follows : (κs : Lfts (suc n)) (a : Args S κs) (g : c κs a .ghost) (r : Res S κs) (end : AtExit T κs) → Below 256 (a .0 .now) → ent 𝓤 (c κs a .ensures g r end) (E κs a g r end)) where
+      -- c with E for its `ensures`
+      abbrev c′ : Clauses 𝓤 T
+      c′ κs a = record { ghost = c κs a .ghost; requires = c κs a .requires; ensures = E κs a }
+
+      exits-known : (κs : Lfts (suc n)) (a : Args S κs) (g : c κs a .ghost) (r : Res S κs) → Below 256 (a .0 .now) → ent 𝓤 (ensured 𝓤 H (𝓖 .A) T c κs a g r) (ensured 𝓤 H (𝓖 .A) T c′ κs a g r)
+      exits-known κs a g r b =
+          let said : Lasts T κs a → SProp 𝓤 = λ ws. sep 𝓤 (sem 𝓤 H (𝓖 .A) (lasts T κs a ws)) (E κs a g r (atExit T κs a ws)) in
+          exE 𝓤 _ (λ ws. via 𝓤 (said ws) (monoR 𝓤 (sem 𝓤 H (𝓖 .A) (lasts T κs a ws)) (follows κs a g r (atExit T κs a ws) b)) (exI 𝓤 said ws))
+
+      pub bytes-known : Meets 𝓤 H (𝓖 .A) S (𝓡 .run ρ) (closing 𝓤 H (𝓖 .A) T c) → Meets 𝓤 H (𝓖 .A) S (𝓡 .run ρ) (closing 𝓤 H (𝓖 .A) T c′)
+      bytes-known meets y =
+          let W = givenOf 𝓤 H 𝓜 𝓖 in
+          let κs = y .0 .0 in
+          let a = y .0 .3 in
+          let before = closing 𝓤 H (𝓖 .A) T c in
+          let args = passed 𝓤 H (𝓖 .A) S (y .0) in
+          let post = tripleOf 𝓤 H (𝓖 .A) S before .post y in
+          let post′ = tripleOf 𝓤 H (𝓖 .A) S (closing 𝓤 H (𝓖 .A) T c′) .post y in
+          via 𝓤 (H .⇛ (guard 𝓤 (Below 256 (chunk before y .now)) (pre before y))) (pre-known before y)
+          (via 𝓤 (H .⇛ (𝓡 .run ρ args post′))
+          (W .laws .⇛-mono _ _ (guardE 𝓤 (Below 256 (chunk before y .now)) (pre before y) (λ b.
+          via 𝓤 (𝓡 .run ρ args post) (meets y)
+          (fm→mono 𝓤 (𝓡 .run ρ args) (run-framed 𝓤 H 𝓜 𝓡 ρ args) post post′ (λ v.
+          W .laws .⇛-mono _ _ (exE 𝓤 _ (λ r. via 𝓤 (sep 𝓤 (Back 𝓤 H (𝓖 .A) S (y .0) v r) (ensured 𝓤 H (𝓖 .A) T c′ κs a (y .1) r)) (monoR 𝓤 (Back 𝓤 H (𝓖 .A) S (y .0) v r) (exits-known κs a (y .1) r b))
+          (exI 𝓤 (λ (r′ : Res S κs). sep 𝓤 (Back 𝓤 H (𝓖 .A) S (y .0) v r′) (ensured 𝓤 H (𝓖 .A) T c′ κs a (y .1) r′)) r))))))))
+          (run-enters 𝓤 H 𝓜 𝓡 ρ args post′))
