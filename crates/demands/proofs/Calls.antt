@@ -126,38 +126,38 @@ array-length = length-replicate {A = Finding} LONGEST (record { function = 0; pc
 
 module _ (L : ResourceLimits) (s : Bytes) (r : Reading) (is : read L s ≡ shown r) where
   module _ (f : ℕ) (p : Prototype) (there : nth f (r .functions) ≡ some p) where
-    here : functionOf f (read L s) ≡ found p
-    here = ap (functionOf f) is ∙ ap (orRefuse NoFunction) there
+    pub function-is : functionOf f (read L s) ≡ found p
+    function-is = ap (functionOf f) is ∙ ap (orRefuse NoFunction) there
 
-    entry : {A : Type 0} (list : Prototype → List A) (i : ℕ) → entryOf list f i (read L s) ≡ orRefuse NoEntry (nth i (list p))
-    entry list i = ap (entryIn list i) here
+    pub entry-is : {A : Type 0} (list : Prototype → List A) (i : ℕ) → entryOf list f i (read L s) ≡ orRefuse NoEntry (nth i (list p))
+    entry-is list i = ap (entryIn list i) function-is
 
     name : (i : ℕ) (l : LocalVar) → nth i (p .loc-vars) ≡ some l → (old : Bytes) (b : Bool) → leb (length (l .name .bytes)) (length old) ≡ b
         → (shownLocal (length old) (entryOf (λ p. p .loc-vars) f i (read L s)) ≡ pick b (local-answer.Ok (length (l .name .bytes)) (l .startpc) (l .endpc)) (local-answer.Err LentSpace))
         × (nameWritten old (entryOf (λ p. p .loc-vars) f i (read L s)) ≡ pick b (l .name .bytes ++ drop (length (l .name .bytes)) old) old)
     name i l e old b test =
-        let one = entry (λ p. p .loc-vars) i ∙ ap (orRefuse NoEntry) e in
+        let one = entry-is (λ p. p .loc-vars) i ∙ ap (orRefuse NoEntry) e in
         (ap (shownLocal (length old)) one ∙ rw test, ap (nameWritten old) one ∙ rw test)
 
-    located : Located L s p
+    pub located : Located L s p
     located = all-nth (Located L s) (r .functions) (whole L s r is .located) f there
 
     function-shown : ShowsFunction L s f p
     function-shown = record {
-      fields = ap shownFields here;
-      instruction = λ i. ap shownWord (entry (λ p. p .instructions) i);
-      constant = λ i. ap shownConstant (entry (λ p. p .constants) i);
-      upvalue = λ i. ap shownUpvalue (entry (λ p. p .upvalues) i);
-      delta = λ i. ap shownDelta (entry (λ p. p .line-info) i);
-      anchor = λ i. ap shownAnchor (entry (λ p. p .abs-line-info) i);
-      upvalue-name = λ i. ap shownName (entry (λ p. p .upvalue-names) i);
+      fields = ap shownFields function-is;
+      instruction = λ i. ap shownWord (entry-is (λ p. p .instructions) i);
+      constant = λ i. ap shownConstant (entry-is (λ p. p .constants) i);
+      upvalue = λ i. ap shownUpvalue (entry-is (λ p. p .upvalues) i);
+      delta = λ i. ap shownDelta (entry-is (λ p. p .line-info) i);
+      anchor = λ i. ap shownAnchor (entry-is (λ p. p .abs-line-info) i);
+      upvalue-name = λ i. ap shownName (entry-is (λ p. p .upvalue-names) i);
       local = λ i l e old room. name i l e old true (le-leb (length (l .name .bytes)) (length old) room);
       local-too-long = λ i l e old short. name i l e old false (lt-leb (length (l .name .bytes)) (length old) short);
-      no-local = λ i e old. let one = entry (λ p. p .loc-vars) i ∙ ap (orRefuse NoEntry) e in (ap (shownLocal (length old)) one, ap (nameWritten old) one);
+      no-local = λ i e old. let one = entry-is (λ p. p .loc-vars) i ∙ ap (orRefuse NoEntry) e in (ap (shownLocal (length old)) one, ap (nameWritten old) one);
       source-bytes = located .source-name;
       constant-bytes = λ i k e. constant-stands s (L .«max_string_bytes») i (many-nth (constant (L .«max_string_bytes»)) (length (p .constants)) (located .constants) i e);
       upvalue-name-bytes = λ i t e. name-stands s (L .«max_string_bytes») i (many-nth (string (L .«max_string_bytes»)) (length (p .upvalue-names)) (located .upvalue-names) i e);
-      line = λ pc. ap (shownLine pc) here;
+      line = λ pc. ap (shownLine pc) function-is;
     }
 
   -- the findings in a list of that length

@@ -1,5 +1,7 @@
 pub mod Slices
 pub mod Same
+pub mod Fits
+pub mod Together
 pub mod Calls
 pub mod Written
 pub mod InOrder
