@@ -271,6 +271,78 @@ few-warnings L s r c =
     rw (← ap (λ x. x .warnings) (c .shows))
     (two-at-most (L .«max_diagnostics») (c .value .headed .warnings) (trailingWarnings (length (c .front)) (c .trailing)) (every-main L .holds 0 (c .front) (c .value) (c .main)) (last (length (c .front)) (c .trailing)))
 
+-- ## What is shown of what is equal
+pairs-length : {A : Type 0} (R : A → A → Type 0) (xs ys : List A) → Pairwise R xs ys → length xs ≡ length ys
+pairs-length R [] [] h = refl
+pairs-length R [] (y ∷ ys) h = absurd h
+pairs-length R (x ∷ xs) [] h = absurd h
+pairs-length R (x ∷ xs) (y ∷ ys) h = ap suc (pairs-length R xs ys (h .1))
+
+same-summaries : (r q : Reading) → EqualAsShown r q → summaryOf r ≡ summaryOf q
+same-summaries r q e = rw (e .header, e .warnings, pairs-length EqualFunction (r .functions) (q .functions) (e .functions), e .trailing-at, e .trailing)
+
+fields-equal : (p q : Prototype) → EqualFunction p q → fieldsOf p ≡ fieldsOf q
+fields-equal p q e =
+    rw (e .depth, e .parent, e .source-name, e .line-defined, e .last-line-defined, e .numparams, e .is-vararg, e .maxstacksize, e .instructions, e .constants, e .upvalues, e .protos, e .line-info, e .abs-line-info,
+    pairs-length SameLocal (p .loc-vars) (q .loc-vars) (e .loc-vars), e .upvalue-names)
+
+-- the bytes of a string that stands in the chunk
+optionOf : Option LuaString → Bytes
+optionOf none = []
+optionOf (some t) = t .bytes
+
+option-shown : (s : Bytes) (t : Option LuaString) → StandsIf s t → optionShown s (optionString t) ≡ optionOf t
+unfolding optionOf
+option-shown s none h = refl
+option-shown s (some t) h = h .there
+
+constantOf : reading.ConstantValue → Bytes
+constantOf reading.nil = []
+constantOf (reading.boolean b) = []
+constantOf (reading.integer n) = []
+constantOf (reading.float n) = []
+constantOf (reading.short-string t) = t .bytes
+constantOf (reading.long-string t) = t .bytes
+
+constant-shown : (s : Bytes) (k : reading.ConstantValue) → ConstantStands s k → valueShown s (constantValue k) ≡ constantOf k
+unfolding constantOf
+constant-shown s reading.nil h = refl
+constant-shown s (reading.boolean b) h = refl
+constant-shown s (reading.integer n) h = refl
+constant-shown s (reading.float n) h = refl
+constant-shown s (reading.short-string t) h = h .there
+constant-shown s (reading.long-string t) h = h .there
+
+valueOf : Option reading.ConstantValue → Bytes
+valueOf none = []
+valueOf (some k) = constantOf k
+
+value-shown : (s : Bytes) (a : Option reading.ConstantValue) → ((k : reading.ConstantValue) → a ≡ some k → ConstantStands s k) → constantShown s (shownConstant (orRefuse NoEntry a)) ≡ valueOf a
+unfolding valueOf
+value-shown s none h = refl
+value-shown s (some k) h = constant-shown s k (h k refl)
+
+nameOf : Option (Option LuaString) → Bytes
+nameOf none = []
+nameOf (some t) = optionOf t
+
+name-shown : (s : Bytes) (a : Option (Option LuaString)) → ((t : Option LuaString) → a ≡ some t → StandsIf s t) → nameShown s (shownName (orRefuse NoEntry a)) ≡ nameOf a
+unfolding nameOf
+name-shown s none h = refl
+name-shown s (some t) h = option-shown s t (h t refl)
+
+locals-shown : (space : ℕ) (a b : Option LocalVar) → Related SameLocal a b → shownLocal space (orRefuse NoEntry a) ≡ shownLocal space (orRefuse NoEntry b)
+locals-shown space none none h = refl
+locals-shown space none (some m) h = absurd h
+locals-shown space (some l) none h = absurd h
+locals-shown space (some l) (some m) h = rw (h .name, h .startpc, h .endpc)
+
+locals-written : (old : Bytes) (a b : Option LocalVar) → Related SameLocal a b → nameWritten old (orRefuse NoEntry a) ≡ nameWritten old (orRefuse NoEntry b)
+locals-written old none none h = refl
+locals-written old none (some m) h = absurd h
+locals-written old (some l) none h = absurd h
+locals-written old (some l) (some m) h = rw (h .name)
+
 -- ## Alike, so equal
 module _ (L M : ResourceLimits) (s t : Bytes) (below : Below 256 s) (below′ : Below 256 t) (r q : Reading) (is : read L s ≡ shown r) (is′ : read M t ≡ shown q) where
   module _ (alike : AnswerAlike L s M t) where
@@ -336,3 +408,42 @@ module _ (L M : ResourceLimits) (s t : Bytes) (below : Below 256 s) (below′ : 
       trailing-at = ap (λ x. x .«trailing_at») same-summary;
       trailing = sym (ap trailingOf is) ∙ alike .trailing ∙ ap trailingOf is′;
     }
+
+  -- ## Equal, so alike
+  module _ (equal : EqualAsShown r q) where
+    -- what is said of a function on each side, by what the two have in common
+    by-function : {B : Type 0} (g h : Asked Prototype → B) → g (refused NoFunction) ≡ h (refused NoFunction)
+        → ((f : ℕ) (p p′ : Prototype) → nth f (r .functions) ≡ some p → nth f (q .functions) ≡ some p′ → EqualFunction p p′ → g (found p) ≡ h (found p′)) → (f : ℕ) → g (functionOf f (read L s)) ≡ h (functionOf f (read M t))
+    by-function g h none-there one f = ap (λ o. g (functionOf f o)) is ∙ go (nth f (r .functions)) (nth f (q .functions)) refl refl (entries-of EqualFunction (r .functions) (q .functions) (equal .functions) f) ∙ sym (ap (λ o. h (functionOf f o)) is′)
+      where
+        go : (a b : Option Prototype) → nth f (r .functions) ≡ a → nth f (q .functions) ≡ b → Related EqualFunction a b → g (orRefuse NoFunction a) ≡ h (orRefuse NoFunction b)
+        go none none e e′ k = none-there
+        go none (some p′) e e′ k = absurd k
+        go (some p) none e e′ k = absurd k
+        go (some p) (some p′) e e′ k = one f p p′ e e′ k
+
+    equal-alike : AnswerAlike L s M t
+    equal-alike = record {
+      summary = ap shownSummary is ∙ ap summary-answer.Ok (same-summaries r q equal) ∙ sym (ap shownSummary is′);
+      trailing = ap trailingOf is ∙ equal .trailing ∙ sym (ap trailingOf is′);
+      fields = by-function shownFields shownFields refl (λ f p p′ _ _ k. ap fields-answer.Ok (fields-equal p p′ k));
+      source-bytes = by-function (λ a. sourceShown s (shownFields a)) (λ a. sourceShown t (shownFields a)) refl
+          (λ f p p′ e e′ k. option-shown s (p .source-name) (shows L s r is .function f p e .source-bytes) ∙ ap optionOf (k .source-name) ∙ sym (option-shown t (p′ .source-name) (shows M t q is′ .function f p′ e′ .source-bytes)));
+      instruction = λ f i. by-function (λ a. shownWord (entryIn (λ p. p .instructions) i a)) (λ a. shownWord (entryIn (λ p. p .instructions) i a)) refl (λ f p p′ _ _ k. ap (λ l. shownWord (orRefuse NoEntry (nth i l))) (k .instructions)) f;
+      constant = λ f i. by-function (λ a. shownConstant (entryIn (λ p. p .constants) i a)) (λ a. shownConstant (entryIn (λ p. p .constants) i a)) refl (λ f p p′ _ _ k. ap (λ l. shownConstant (orRefuse NoEntry (nth i l))) (k .constants)) f;
+      constant-bytes = λ f i. by-function (λ a. constantShown s (shownConstant (entryIn (λ p. p .constants) i a))) (λ a. constantShown t (shownConstant (entryIn (λ p. p .constants) i a))) refl
+          (λ f p p′ e e′ k. value-shown s (nth i (p .constants)) (shows L s r is .function f p e .constant-bytes i) ∙ ap (λ l. valueOf (nth i l)) (k .constants) ∙ sym (value-shown t (nth i (p′ .constants)) (shows M t q is′ .function f p′ e′ .constant-bytes i))) f;
+      upvalue = λ f i. by-function (λ a. shownUpvalue (entryIn (λ p. p .upvalues) i a)) (λ a. shownUpvalue (entryIn (λ p. p .upvalues) i a)) refl (λ f p p′ _ _ k. ap (λ l. shownUpvalue (orRefuse NoEntry (nth i l))) (k .upvalues)) f;
+      delta = λ f i. by-function (λ a. shownDelta (entryIn (λ p. p .line-info) i a)) (λ a. shownDelta (entryIn (λ p. p .line-info) i a)) refl (λ f p p′ _ _ k. ap (λ l. shownDelta (orRefuse NoEntry (nth i l))) (k .line-info)) f;
+      anchor = λ f i. by-function (λ a. shownAnchor (entryIn (λ p. p .abs-line-info) i a)) (λ a. shownAnchor (entryIn (λ p. p .abs-line-info) i a)) refl (λ f p p′ _ _ k. ap (λ l. shownAnchor (orRefuse NoEntry (nth i l))) (k .abs-line-info)) f;
+      upvalue-name = λ f i. by-function (λ a. shownName (entryIn (λ p. p .upvalue-names) i a)) (λ a. shownName (entryIn (λ p. p .upvalue-names) i a)) refl (λ f p p′ _ _ k. ap (λ l. shownName (orRefuse NoEntry (nth i l))) (k .upvalue-names)) f;
+      upvalue-name-bytes = λ f i. by-function (λ a. nameShown s (shownName (entryIn (λ p. p .upvalue-names) i a))) (λ a. nameShown t (shownName (entryIn (λ p. p .upvalue-names) i a))) refl
+          (λ f p p′ e e′ k. name-shown s (nth i (p .upvalue-names)) (shows L s r is .function f p e .upvalue-name-bytes i) ∙ ap (λ l. nameOf (nth i l)) (k .upvalue-names) ∙ sym (name-shown t (nth i (p′ .upvalue-names)) (shows M t q is′ .function f p′ e′ .upvalue-name-bytes i))) f;
+      local = λ f i old. by-function (λ a. shownLocal (length old) (entryIn (λ p. p .loc-vars) i a)) (λ a. shownLocal (length old) (entryIn (λ p. p .loc-vars) i a)) refl
+          (λ f p p′ _ _ k. locals-shown (length old) (nth i (p .loc-vars)) (nth i (p′ .loc-vars)) (entries-of SameLocal (p .loc-vars) (p′ .loc-vars) (k .loc-vars) i)) f;
+      local-name = λ f i old. by-function (λ a. nameWritten old (entryIn (λ p. p .loc-vars) i a)) (λ a. nameWritten old (entryIn (λ p. p .loc-vars) i a)) refl
+          (λ f p p′ _ _ k. locals-written old (nth i (p .loc-vars)) (nth i (p′ .loc-vars)) (entries-of SameLocal (p .loc-vars) (p′ .loc-vars) (k .loc-vars) i)) f;
+    }
+
+  pub alike-exactly : AnswerAlike L s M t ↔ EqualAsShown r q
+  alike-exactly = (alike-equal, equal-alike)
