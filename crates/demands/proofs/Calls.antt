@@ -93,13 +93,38 @@ pub record ShowsFunction (L : ResourceLimits) (s : Bytes) (f : ℕ) (p : Prototy
   -- the line of any pc, by 01's rules
   pub line : (pc : ℕ) → shownLine pc (functionOf f (read L s)) ≡ answerOf (length (p .instructions)) (p .line-defined) (p .line-info) (p .abs-line-info) pc
 
+-- ## A function that is not shown: every call on it answers with the same refusal, and lent memory stays as it was
+pub record RefusesFunction (L : ResourceLimits) (s : Bytes) (f : ℕ) (q : Refusal) : Type 0 where
+  pub fields : shownFields (functionOf f (read L s)) ≡ fields-answer.Err q
+  pub instruction : (i : ℕ) → shownWord (entryOf (λ p. p .instructions) f i (read L s)) ≡ word-answer.Err q
+  pub constant : (i : ℕ) → shownConstant (entryOf (λ p. p .constants) f i (read L s)) ≡ constant-answer.Err q
+  pub upvalue : (i : ℕ) → shownUpvalue (entryOf (λ p. p .upvalues) f i (read L s)) ≡ upvalue-answer.Err q
+  pub delta : (i : ℕ) → shownDelta (entryOf (λ p. p .line-info) f i (read L s)) ≡ delta-answer.Err q
+  pub anchor : (i : ℕ) → shownAnchor (entryOf (λ p. p .abs-line-info) f i (read L s)) ≡ anchor-answer.Err q
+  pub upvalue-name : (i : ℕ) → shownName (entryOf (λ p. p .upvalue-names) f i (read L s)) ≡ name-answer.Err q
+  pub local : (i : ℕ) (old : Bytes) → (shownLocal (length old) (entryOf (λ p. p .loc-vars) f i (read L s)) ≡ local-answer.Err q) × (nameWritten old (entryOf (λ p. p .loc-vars) f i (read L s)) ≡ old)
+  pub line : (pc : ℕ) → shownLine pc (functionOf f (read L s)) ≡ line-answer.Err q
+
+refuses-function : (L : ResourceLimits) (s : Bytes) (f : ℕ) (q : Refusal) → functionOf f (read L s) ≡ refused q → RefusesFunction L s f q
+refuses-function L s f q is = record {
+  fields = ap shownFields is;
+  instruction = λ i. ap (λ a. shownWord (entryIn (λ p. p .instructions) i a)) is;
+  constant = λ i. ap (λ a. shownConstant (entryIn (λ p. p .constants) i a)) is;
+  upvalue = λ i. ap (λ a. shownUpvalue (entryIn (λ p. p .upvalues) i a)) is;
+  delta = λ i. ap (λ a. shownDelta (entryIn (λ p. p .line-info) i a)) is;
+  anchor = λ i. ap (λ a. shownAnchor (entryIn (λ p. p .abs-line-info) i a)) is;
+  upvalue-name = λ i. ap (λ a. shownName (entryIn (λ p. p .upvalue-names) i a)) is;
+  local = λ i old. (ap (λ a. shownLocal (length old) (entryIn (λ p. p .loc-vars) i a)) is, ap (λ a. nameWritten old (entryIn (λ p. p .loc-vars) i a)) is);
+  line = λ pc. ap (shownLine pc) is;
+}
+
 -- ## What is shown of a chunk
 pub record Shows (L : ResourceLimits) (s : Bytes) (r : Reading) : Type 0 where
   pub summary : shownSummary (read L s) ≡ summary-answer.Ok (summaryOf r)
   pub trailing : trailingOf (read L s) ≡ r .trailing
   pub function : (f : ℕ) (p : Prototype) → nth f (r .functions) ≡ some p → ShowsFunction L s f p
-  -- refusal 23, of fields, every entry and every line
-  pub no-function : (f : ℕ) → nth f (r .functions) ≡ none → functionOf f (read L s) ≡ refused NoFunction
+  -- refusal 23
+  pub no-function : (f : ℕ) → nth f (r .functions) ≡ none → RefusesFunction L s f NoFunction
   -- the index is written into lent space that has room for it, and what stood behind it stays; else 26, and all that stood there stays
   pub index-rows : (old : List ℕ) → length (index (r .functions)) ≤ length old
       → (shownIndex (length old) (read L s) ≡ index-answer.Ok (length (r .functions))) × (indexWritten old (read L s) ≡ index (r .functions) ++ drop (length (index (r .functions))) old)
@@ -171,7 +196,7 @@ module _ (L : ResourceLimits) (s : Bytes) (r : Reading) (is : read L s ≡ shown
     summary = ap shownSummary is;
     trailing = ap trailingOf is;
     function = function-shown;
-    no-function = λ f e. ap (functionOf f) is ∙ ap (orRefuse NoFunction) e;
+    no-function = λ f e. refuses-function L s f NoFunction (ap (functionOf f) is ∙ ap (orRefuse NoFunction) e);
     index-rows = λ old room. let test = le-leb (length (index (r .functions))) (length old) room in (ap (shownIndex (length old)) is ∙ rw test, ap (indexWritten old) is ∙ rw test);
     index-too-long = λ old short. let test = lt-leb (length (index (r .functions))) (length old) short in (ap (shownIndex (length old)) is ∙ rw test, ap (indexWritten old) is ∙ rw test);
     chunk-verdict = ap shownVerdict is;
@@ -188,15 +213,7 @@ module _ (L : ResourceLimits) (s : Bytes) (r : Reading) (is : read L s ≡ shown
 pub record Refuses (L : ResourceLimits) (s : Bytes) (q : Refusal) : Type 0 where
   pub summary : shownSummary (read L s) ≡ summary-answer.Err q
   pub trailing : trailingOf (read L s) ≡ []
-  pub fields : (f : ℕ) → shownFields (functionOf f (read L s)) ≡ fields-answer.Err q
-  pub instruction : (f i : ℕ) → shownWord (entryOf (λ p. p .instructions) f i (read L s)) ≡ word-answer.Err q
-  pub constant : (f i : ℕ) → shownConstant (entryOf (λ p. p .constants) f i (read L s)) ≡ constant-answer.Err q
-  pub upvalue : (f i : ℕ) → shownUpvalue (entryOf (λ p. p .upvalues) f i (read L s)) ≡ upvalue-answer.Err q
-  pub delta : (f i : ℕ) → shownDelta (entryOf (λ p. p .line-info) f i (read L s)) ≡ delta-answer.Err q
-  pub anchor : (f i : ℕ) → shownAnchor (entryOf (λ p. p .abs-line-info) f i (read L s)) ≡ anchor-answer.Err q
-  pub upvalue-name : (f i : ℕ) → shownName (entryOf (λ p. p .upvalue-names) f i (read L s)) ≡ name-answer.Err q
-  pub local : (f i : ℕ) (old : Bytes) → (shownLocal (length old) (entryOf (λ p. p .loc-vars) f i (read L s)) ≡ local-answer.Err q) × (nameWritten old (entryOf (λ p. p .loc-vars) f i (read L s)) ≡ old)
-  pub line : (f pc : ℕ) → shownLine pc (functionOf f (read L s)) ≡ line-answer.Err q
+  pub function : (f : ℕ) → RefusesFunction L s f q
   pub index-rows : (old : List ℕ) → (shownIndex (length old) (read L s) ≡ index-answer.Err q) × (indexWritten old (read L s) ≡ old)
   pub chunk-verdict : shownVerdict (read L s) ≡ verdict-answer.Err q
   pub finding-count : shownCount (read L s) ≡ count-answer.Err q
@@ -209,15 +226,7 @@ pub refuses : (L : ResourceLimits) (s : Bytes) (q : Refusal) → read L s ≡ re
 refuses L s q is = record {
   summary = ap shownSummary is;
   trailing = ap trailingOf is;
-  fields = λ f. ap (λ o. shownFields (functionOf f o)) is;
-  instruction = λ f i. ap (λ o. shownWord (entryOf (λ p. p .instructions) f i o)) is;
-  constant = λ f i. ap (λ o. shownConstant (entryOf (λ p. p .constants) f i o)) is;
-  upvalue = λ f i. ap (λ o. shownUpvalue (entryOf (λ p. p .upvalues) f i o)) is;
-  delta = λ f i. ap (λ o. shownDelta (entryOf (λ p. p .line-info) f i o)) is;
-  anchor = λ f i. ap (λ o. shownAnchor (entryOf (λ p. p .abs-line-info) f i o)) is;
-  upvalue-name = λ f i. ap (λ o. shownName (entryOf (λ p. p .upvalue-names) f i o)) is;
-  local = λ f i old. (ap (λ o. shownLocal (length old) (entryOf (λ p. p .loc-vars) f i o)) is, ap (λ o. nameWritten old (entryOf (λ p. p .loc-vars) f i o)) is);
-  line = λ f pc. ap (λ o. shownLine pc (functionOf f o)) is;
+  function = λ f. refuses-function L s f q (ap (functionOf f) is);
   index-rows = λ old. (ap (shownIndex (length old)) is, ap (indexWritten old) is);
   chunk-verdict = ap shownVerdict is;
   finding-count = ap shownCount is;
