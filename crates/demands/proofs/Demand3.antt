@@ -8,6 +8,7 @@
 --     2  shown-is-the-reading     where it belongs, what every call shows is its part of that reading (`Shows`, `Calls.antt`)
 --        together                 and the summary, the fields and the entries together show the whole of it, but for parts that are named (`Together.antt`)
 --     3  reading-unique           and it has no other
+--        under-any-limits         nor under other limits, but for the warnings that these drop
 --     4  written-is-read          what `encode_chunk_lua54` writes (`Writes`, `Written.antt`) belongs, with the same reading but for what the demand sets aside (`SameButFor`, `Same.antt`)
 --        shortest-spelling        no spelling of a number is shorter than the copy's
 --     5  written-again            on what it wrote, it writes the same
@@ -28,11 +29,12 @@ use Rattle.format.specs.Form.{Bytes, Below}
 use Rattle.format.specs.GrammarFields.{Number}
 use Rattle.format.specs.Limits.{withinCeilings}
 use Rattle.format.specs.Reading.{Reading}
-use Rattle.format.specs.GrammarChunk.{Chunk}
+use Rattle.format.specs.GrammarChunk.{reading, Chunk}
 use Rattle.format.specs.ReadChunk.{Outcome, shown, refusal, read}
 use Rattle.format.specs.Shortest.{shortest}
 use Rattle.format.specs.Copy.{copy}
 use Rattle.format.proofs.ShortestLaws.{shortest-least}
+use Rattle.format.proofs.WiderChunk.{main-wider, above, above-left, above-right}
 use Rattle.format.proofs.CopyChunk.{copy-belongs, copy-same, copy-below}
 use Rattle.format.proofs.CopyChunk as copies
 use Rattle.format.proofs.ReadChunkLaws.{read-sound, read-within, read-complete, chunk-unique}
@@ -42,6 +44,7 @@ use Rattle.show_chunk.specs.Summaries.{shownSummary}
 use Rattle.demands.proofs.Calls.{Shows, shows, Refuses, refuses}
 use Rattle.demands.proofs.Written.{Writes, by-reading, writes}
 use Rattle.demands.proofs.Same.{SameButFor, same-exactly}
+use Rattle.demands.proofs.Together.{AnswerAlike, EqualAsShown, alike-exactly}
 
 -- ## 1. Read exactly when it belongs
 -- the limits are within their ceilings, the chunk is no longer than the input limit, and it belongs under the limits to the grammar
@@ -101,9 +104,38 @@ refused-exactly L chunk = (λ f b. never (f .by-all .summary) (ap shownSummary (
 pub shown-is-the-reading : (L : ResourceLimits) (chunk : Bytes) (b : Belongs L chunk) → Shows L chunk (b .reading)
 shown-is-the-reading L chunk b = shows L chunk (b .reading) (given b)
 
+-- Together the summary, the fields and the entries show the reading: of two chunks, whatever limits each is read under, these calls answer alike exactly where the readings are equal, but for what none of them shows
+-- (`Together.antt`; crates/format/specs/Reading.antt). The bytes of what is handed to a call are below 256 (`Summarised`).
+pub together : (L M : ResourceLimits) (s t : Bytes) (b : Belongs L s) (d : Belongs M t) → Below 256 s → Below 256 t → AnswerAlike L s M t ↔ EqualAsShown (b .reading) (d .reading)
+together L M s t b d below below′ = alike-exactly L M s t below below′ (b .reading) (d .reading) (given b) (given d)
+
+-- and then both are read, or none
+pub together-read : (L M : ResourceLimits) (s t : Bytes) → AnswerAlike L s M t → Belongs L s → Belongs M t
+together-read L M s t alike b = summary-exactly M t .0 (record { summary = _; answers = sym (alike .summary) ∙ ap shownSummary (given b) })
+
 -- ## 3. Any two readings that the grammar allows the bytes are equal.
 pub reading-unique : (L : ResourceLimits) (chunk : Bytes) (r q : Reading) → Chunk L chunk r → Chunk L chunk q → r ≡ q
 reading-unique = chunk-unique
+
+-- Under other limits the same bytes have the same reading, but for the warnings, of which the diagnostics limit may drop some.
+pub record SameButWarnings (r q : Reading) : Type 0 where
+  pub header : r .header ≡ q .header
+  pub functions : r .functions ≡ q .functions
+  pub trailing-at : r .trailing-at ≡ q .trailing-at
+  pub trailing : r .trailing ≡ q .trailing
+
+pub under-any-limits : (L M : ResourceLimits) (chunk : Bytes) (r q : Reading) → Chunk L chunk r → Chunk M chunk q → SameButWarnings r q
+under-any-limits L M chunk r q c d =
+    let N = above L M in
+    let one : Chunk N chunk (reading N (c .value) (length (c .front)) (c .trailing)) = record { front = c .front; trailing = c .trailing; whole = c .whole; value = c .value; main = main-wider (above-left L M) .widens (c .main); shows = refl } in
+    let two : Chunk N chunk (reading N (d .value) (length (d .front)) (d .trailing)) = record { front = d .front; trailing = d .trailing; whole = d .whole; value = d .value; main = main-wider (above-right L M) .widens (d .main); shows = refl } in
+    let same = chunk-unique N chunk _ _ one two in
+    record {
+      header = sym (ap (λ x. x .header) (c .shows)) ∙ ap (λ x. x .header) same ∙ ap (λ x. x .header) (d .shows);
+      functions = sym (ap (λ x. x .functions) (c .shows)) ∙ ap (λ x. x .functions) same ∙ ap (λ x. x .functions) (d .shows);
+      trailing-at = sym (ap (λ x. x .trailing-at) (c .shows)) ∙ ap (λ x. x .trailing-at) same ∙ ap (λ x. x .trailing-at) (d .shows);
+      trailing = sym (ap (λ x. x .trailing) (c .shows)) ∙ ap (λ x. x .trailing) same ∙ ap (λ x. x .trailing) (d .shows);
+    }
 
 -- ## 4. The copy is read again
 -- bytes that belong, with a reading that is the same as r but for what the demand sets aside; and it is this reading of them that every call shows
