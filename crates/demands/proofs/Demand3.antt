@@ -44,7 +44,8 @@ use Rattle.show_chunk.specs.Summaries.{shownSummary}
 use Rattle.demands.proofs.Calls.{Shows, shows, Refuses, refuses}
 use Rattle.demands.proofs.Written.{Writes, by-reading, writes}
 use Rattle.demands.proofs.Same.{SameButFor, same-exactly}
-use Rattle.demands.proofs.Together.{AnswerAlike, EqualAsShown, alike-exactly}
+use Rattle.demands.proofs.Alike.{AnswerAlike, EqualAsShown}
+use Rattle.demands.proofs.Together.{alike-exactly}
 
 -- ## 1. Read exactly when it belongs
 -- the limits are within their ceilings, the chunk is no longer than the input limit, and it belongs under the limits to the grammar

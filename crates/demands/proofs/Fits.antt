@@ -3,9 +3,9 @@
 --     integers-fit     the constants of a function that is located in a chunk
 --     deltas-fit       its deltas
 -- A chunk's bytes are below 256 (`Slices.antt`). Assumes nothing.
-use mathlib.Core.Path.{_≡_, sym, ap}
+use mathlib.Core.Path.{_≡_}
 use mathlib.Core.Bool.{Bool, true, false}
-use mathlib.Core.List.{List, [], _∷_, _++_}
+use mathlib.Core.List.{List, [], _∷_}
 use mathlib.Core.Option.{some}
 use Prim.Native.Nat.{ℕ, zero, suc, _+_, _*_, _^_, _<_}
 use native.Mathlib.Nat.{pow-suc}
@@ -18,7 +18,7 @@ use Rattle.format.specs.Pick.{pick}
 use Rattle.format.specs.Form.{Bytes, Below}
 use Rattle.format.specs.GrammarFields.{little}
 use Rattle.format.specs.Reading.{ConstantValue, nil, boolean, integer, float, short-string, long-string, Prototype}
-use Rattle.format.specs.Read.{Reader, run, many}
+use Rattle.format.specs.Read.{Reader, run}
 use Rattle.format.specs.ReadFields.{field}
 use Rattle.format.specs.ReadChunk.{tagged, constant}
 use Rattle.format.proofs.Below.{below-split}

@@ -1,6 +1,9 @@
 pub mod Slices
 pub mod Same
 pub mod Fits
+pub mod Alike
+pub mod ReadBack
+pub mod ShownEqual
 pub mod Together
 pub mod Calls
 pub mod Written

@@ -6,20 +6,19 @@
 --     same-exactly                             of what belongs, readings are equal in what is kept exactly when they are the same but for these
 -- Refused: a `kept` that drops a field, as the vararg byte, or main's source (left to right); one that keeps a place, a warning or a nested source (right to left).
 -- Assumes nothing.
-use mathlib.Core.Path.{_≡_, refl, sym, _∙_, ap}
+use mathlib.Core.Path.{_≡_, refl, ap}
 use mathlib.Core.Logic.{_↔_}
 use mathlib.Core.List.{List, [], _∷_, map}
 use mathlib.Core.Option.{Option, none, some}
-use Prim.Native.Nat.{ℕ, zero, suc, _≤_}
+use Prim.Native.Nat.{ℕ}
 use native.Mathlib.Omega.{arith}
-use lib.ListN.{length}
 use Rattle.format.specs.declared.limits.ResourceLimits.{ResourceLimits}
 use Rattle.format.specs.declared.header.Header as declared
 use Rattle.format.specs.Form.{Bytes}
 use Rattle.format.specs.GrammarFields.{LuaString}
-use Rattle.format.specs.GrammarHeader.{headerOf, Headed, Header}
+use Rattle.format.specs.GrammarHeader.{headerOf, Header}
 use Rattle.format.specs.Reading.{ConstantValue, nil, boolean, integer, float, short-string, long-string, LocalVar, Prototype, Reading}
-use Rattle.format.specs.GrammarChunk.{Loaded, Main, Chunk}
+use Rattle.format.specs.GrammarChunk.{Main, Chunk}
 use Rattle.format.specs.Copy.{keptOption, keptConstant, keptLocal, keptFunction, keptNested, keptFunctions, kept}
 use Rattle.format.proofs.Every.{Every, any, every-then, every-is}
 
