@@ -9,7 +9,8 @@
 --        together                 and the summary, the fields and the entries together show the whole of it, but for parts that are named (`Together.antt`)
 --     3  reading-unique           and it has no other
 --        under-any-limits         nor under other limits, but for the warnings that these drop
---     4  written-is-read          what `encode_chunk_lua54` writes (`Writes`, `Written.antt`) belongs, with the same reading but for what the demand sets aside (`SameButFor`, `Same.antt`)
+--     4  copy-is-written          `encode_chunk_lua54` writes (`Writes`, `Written.antt`) the copy of a chunk that belongs wherever there is room
+--        written-is-read          what it writes belongs, with the same reading but for what the demand sets aside (`SameButFor`, `Same.antt`)
 --        shortest-spelling        no spelling of a number is shorter than the copy's
 --     5  written-again            on what it wrote, it writes the same
 --        written-once-more        and it does write, wherever it is lent as much space
@@ -39,13 +40,15 @@ use Rattle.format.proofs.CopyChunk.{copy-belongs, copy-same, copy-below}
 use Rattle.format.proofs.CopyChunk as copies
 use Rattle.format.proofs.ReadChunkLaws.{read-sound, read-within, read-complete, chunk-unique}
 use Rattle.decode.specs.declared.summary.Summary.{Summary}
+use Rattle.show_chunk.specs.declared.summary.SummaryAnswer.{SummaryAnswer}
 use Rattle.show_chunk.specs.declared.summary.SummaryAnswer.the-variants as summary-answer
 use Rattle.show_chunk.specs.Summaries.{shownSummary}
 use Rattle.demands.proofs.Calls.{Shows, shows, Refuses, refuses}
-use Rattle.demands.proofs.Written.{Writes, by-reading, writes}
+use Rattle.copy.specs.declared.whole.CopyAnswer.{CopyAnswer}
+use Rattle.demands.proofs.Written.{Copying, Writes, by-reading, writes}
 use Rattle.demands.proofs.Same.{SameButFor, same-exactly}
 use Rattle.demands.proofs.Alike.{AnswerAlike, EqualAsShown}
-use Rattle.demands.proofs.Together.{alike-exactly}
+use Rattle.demands.proofs.Together.{Summarised, alike-exactly}
 
 -- ## 1. Read exactly when it belongs
 -- the limits are within their ceilings, the chunk is no longer than the input limit, and it belongs under the limits to the grammar
@@ -106,9 +109,9 @@ pub shown-is-the-reading : (L : ResourceLimits) (chunk : Bytes) (b : Belongs L c
 shown-is-the-reading L chunk b = shows L chunk (b .reading) (given b)
 
 -- Together the summary, the fields and the entries show the reading: of two chunks, whatever limits each is read under, these calls answer alike exactly where the readings are equal, but for what none of them shows
--- (`Together.antt`; crates/format/specs/Reading.antt). The bytes of what is handed to a call are below 256 (`Summarised`).
-pub together : (L M : ResourceLimits) (s t : Bytes) (b : Belongs L s) (d : Belongs M t) → Below 256 s → Below 256 t → AnswerAlike L s M t ↔ EqualAsShown (b .reading) (d .reading)
-together L M s t b d below below′ = alike-exactly L M s t below below′ (b .reading) (d .reading) (given b) (given d)
+-- (`Alike.antt`; crates/format/specs/Reading.antt). `Summarised` is what holds after a call of `chunk_summary` (`Together.antt`): with its answer it has that the chunk is bytes.
+pub together : (L M : ResourceLimits) (s t : Bytes) (x y : SummaryAnswer) → Summarised L s x → Summarised M t y → (b : Belongs L s) (d : Belongs M t) → AnswerAlike L s M t ↔ EqualAsShown (b .reading) (d .reading)
+together L M s t x y one two b d = alike-exactly L M s t (one .below) (two .below) (b .reading) (d .reading) (given b) (given d)
 
 -- and then both are read, or none
 pub together-read : (L M : ResourceLimits) (s t : Bytes) → AnswerAlike L s M t → Belongs L s → Belongs M t
@@ -162,6 +165,10 @@ written-is-copy L chunk old written b w =
     let k = by-reading L chunk old written w in
     let same : k .reading ≡ b .reading = (let both = sym (k .is) ∙ given b in cc) in
     k .bytes ∙ ap copy same
+
+-- after a call on a chunk that belongs, the copy is written wherever there is room
+pub copy-is-written : (L : ResourceLimits) (chunk old : Bytes) (r : CopyAnswer) (new : Bytes) → Copying L chunk old r new → (b : Belongs L chunk) → length (copy (b .reading)) ≤ length old → Writes L chunk old (copy (b .reading))
+copy-is-written L chunk old r new k b room = writes L chunk old (b .reading) (k .below) (given b) room
 
 -- and it writes of no other
 pub written-belongs : (L : ResourceLimits) (chunk old written : Bytes) → Writes L chunk old written → Belongs L chunk
