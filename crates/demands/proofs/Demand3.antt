@@ -6,6 +6,7 @@
 --     1  summary-exactly          `chunk_summary` answers with a summary exactly where the chunk belongs
 --        refused-exactly          and exactly where it does not, every call refuses it, all with one refusal, and lent memory stays as it was (`Refuses`, `Calls.antt`)
 --     2  shown-is-the-reading     where it belongs, what every call shows is its part of that reading (`Shows`, `Calls.antt`)
+--        (`Complete.antt`: `Shows` and `Refuses` leave no call out: where they are the same, every call answers alike)
 --        together                 and the summary, the fields and the entries together show the whole of it, but for parts that are named (`Together.antt`)
 --     3  reading-unique           and it has no other
 --        under-any-limits         nor under other limits, but for the warnings that these drop

@@ -5,6 +5,7 @@ pub mod Alike
 pub mod ReadBack
 pub mod ShownEqual
 pub mod Together
+pub mod Complete
 pub mod Calls
 pub mod Written
 pub mod InOrder
