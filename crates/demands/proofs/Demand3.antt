@@ -2,19 +2,24 @@
 -- Its archive copy is read again with the same reading (format byte, warnings, nested source names and places aside), copying the copy gives the same bytes,
 -- and two scripts have equal copies exactly when their readings are equal so.
 --
--- The grammar is `Chunk` (crates/format/specs/GrammarChunk.antt, which names no reader), the reader `read` (specs/ReadChunk.antt), the copy `copy` and what it keeps
--- `kept` (specs/Copy.antt). Each part is stated of these definitions and of what the exported calls do, whose contracts are equations with `read`:
---     1  read-exactly                     summary-exactly: `chunk_summary` answers with a summary
---     2  shown-is-the-reading             of the calls: the summary, the fields, every entry, the index and the copy are the reading's (`Shows`, `Calls.antt`)
---        refused-by-all                   of the calls: where one refuses the chunk, all do, and lent memory stays as it was (`Refuses`)
---     3  reading-unique
---     4  copy-is-read                     written-is-read: what `encode_chunk_lua54` writes (`Writes`, `Written.antt`) is read again
---        shortest-spelling                no spelling of a number is shorter than the copy's
---     5  copy-of-copy                     written-again, written-once-more: on what it wrote, it writes the same
---     6  equal-copies                     equal-written: what it writes of two scripts
--- `Below 256` says of a list that its numbers are bytes. Every slice's are; lists of the definitions may hold any number.
+-- `Belongs L chunk` is that its bytes belong under the limits L to the grammar `Chunk` (crates/format/specs/GrammarChunk.antt, which names no reader), with their reading. Of the calls it is shown:
+--     1  summary-exactly          `chunk_summary` answers with a summary exactly where the chunk belongs
+--        refused-exactly          and exactly where it does not, every call refuses it, all with one refusal, and lent memory stays as it was (`Refuses`, `Calls.antt`)
+--     2  shown-is-the-reading     where it belongs, what every call shows is its part of that reading (`Shows`, `Calls.antt`)
+--        (`Complete.antt`: `Shows` and `Refuses` leave no call out: where they are the same, every call answers alike)
+--        together                 and the summary, the fields and the entries together show the whole of it, but for parts that are named (`Together.antt`)
+--     3  reading-unique           and it has no other
+--        under-any-limits         nor under other limits, but for the warnings that these drop
+--     4  copy-is-written          `encode_chunk_lua54` writes (`Writes`, `Written.antt`) the copy of a chunk that belongs wherever there is room
+--        written-is-read          what it writes belongs, with the same reading but for what the demand sets aside (`SameButFor`, `Same.antt`)
+--        shortest-spelling        no spelling of a number is shorter than the copy's
+--     5  written-again            on what it wrote, it writes the same
+--        written-once-more        and it does write, wherever it is lent as much space
+--     6  equal-written            what it writes of two scripts is equal exactly when their readings are the same but for what the demand sets aside
+-- The same of the definitions (the reader `read` of specs/ReadChunk.antt, the copy `copy` of specs/Copy.antt): read-exactly, copy-is-read, copy-of-copy, equal-copies. There `Below 256` says of a list that its numbers are
+-- bytes, since lists of the definitions may hold any number. Of the calls it is not asked: a slice's are bytes (`Slices.antt`), and `Writes` has it from there.
 -- Assumes nothing.
-use mathlib.Core.Path.{_≡_, refl, sym, _∙_, ap}
+use mathlib.Core.Path.{_≡_, refl, sym, _∙_, ap, subst}
 use mathlib.Core.Logic.{_↔_}
 use mathlib.Core.Bool.{true}
 use Prim.Native.Nat.{ℕ, _≤_}
@@ -26,32 +31,38 @@ use Rattle.format.specs.Form.{Bytes, Below}
 use Rattle.format.specs.GrammarFields.{Number}
 use Rattle.format.specs.Limits.{withinCeilings}
 use Rattle.format.specs.Reading.{Reading}
-use Rattle.format.specs.GrammarChunk.{Chunk}
+use Rattle.format.specs.GrammarChunk.{reading, Chunk}
 use Rattle.format.specs.ReadChunk.{Outcome, shown, refusal, read}
 use Rattle.format.specs.Shortest.{shortest}
-use Rattle.format.specs.Copy.{copy, kept}
+use Rattle.format.specs.Copy.{copy}
 use Rattle.format.proofs.ShortestLaws.{shortest-least}
-use Rattle.format.proofs.CopyChunk.{copy-belongs, copy-same}
+use Rattle.format.proofs.WiderChunk.{main-wider, above, above-left, above-right}
+use Rattle.format.proofs.CopyChunk.{copy-belongs, copy-same, copy-below}
 use Rattle.format.proofs.CopyChunk as copies
 use Rattle.format.proofs.ReadChunkLaws.{read-sound, read-within, read-complete, chunk-unique}
 use Rattle.decode.specs.declared.summary.Summary.{Summary}
+use Rattle.show_chunk.specs.declared.summary.SummaryAnswer.{SummaryAnswer}
 use Rattle.show_chunk.specs.declared.summary.SummaryAnswer.the-variants as summary-answer
 use Rattle.show_chunk.specs.Summaries.{shownSummary}
 use Rattle.demands.proofs.Calls.{Shows, shows, Refuses, refuses}
-use Rattle.demands.proofs.Written.{Writes, by-reading, writes}
+use Rattle.copy.specs.declared.whole.CopyAnswer.{CopyAnswer}
+use Rattle.demands.proofs.Written.{Copying, Writes, by-reading, writes}
+use Rattle.demands.proofs.Same.{SameButFor, same-exactly}
+use Rattle.demands.proofs.Alike.{AnswerAlike, EqualAsShown}
+use Rattle.demands.proofs.Together.{Summarised, alike-exactly}
 
 -- ## 1. Read exactly when it belongs
--- the reader gives a reading of the chunk
-pub record IsRead (L : ResourceLimits) (chunk : Bytes) : Type 0 where
-  pub reading : Reading
-  pub is : read L chunk ≡ shown reading
-
 -- the limits are within their ceilings, the chunk is no longer than the input limit, and it belongs under the limits to the grammar
 pub record Belongs (L : ResourceLimits) (chunk : Bytes) : Type 0 where
   pub ceilings : withinCeilings L ≡ true
   pub input : length chunk ≤ L .«max_input_bytes»
   pub reading : Reading
   pub is : Chunk L chunk reading
+
+-- the reader gives a reading of the chunk
+pub record IsRead (L : ResourceLimits) (chunk : Bytes) : Type 0 where
+  pub reading : Reading
+  pub is : read L chunk ≡ shown reading
 
 -- For any bytes and any limits: the reader gives a reading exactly when the bytes belong.
 pub read-exactly : (L : ResourceLimits) (chunk : Bytes) → IsRead L chunk ↔ Belongs L chunk
@@ -60,6 +71,10 @@ read-exactly L chunk = (
   λ b. record { reading = b .reading; is = read-complete L chunk (b .reading) (b .ceilings) (b .input) (b .is) },
 )
 
+-- what the reader gives of a chunk that belongs
+given : {L : ResourceLimits} {chunk : Bytes} (b : Belongs L chunk) → read L chunk ≡ shown (b .reading)
+given {L} {chunk} b = read-complete L chunk (b .reading) (b .ceilings) (b .input) (b .is)
+
 -- `chunk_summary` answers with a summary, so meets no refusal
 pub record SummaryGiven (L : ResourceLimits) (chunk : Bytes) : Type 0 where
   pub summary : Summary
@@ -67,94 +82,143 @@ pub record SummaryGiven (L : ResourceLimits) (chunk : Bytes) : Type 0 where
 
 -- And so does the call.
 pub summary-exactly : (L : ResourceLimits) (chunk : Bytes) → SummaryGiven L chunk ↔ Belongs L chunk
-summary-exactly L chunk = (λ g. read-exactly L chunk .0 (from (read L chunk) refl (g .summary) (g .answers)), λ b. let r = read-exactly L chunk .1 b in record { summary = _; answers = ap shownSummary (r .is) })
+summary-exactly L chunk = (λ g. read-exactly L chunk .0 (from (read L chunk) refl (g .summary) (g .answers)), λ b. record { summary = _; answers = ap shownSummary (given b) })
   where
     from : (o : Outcome) → read L chunk ≡ o → (x : Summary) → shownSummary o ≡ summary-answer.Ok x → IsRead L chunk
     from (shown r) is x e = record { reading = r; is = is }
     from (refusal q) is x e = absurd (let z : _≡_ {A = ℕ} 0 1 = cc in omega arith)
 
--- ## 2. What is shown is the reading
--- What the reader gives is a reading of the chunk by the grammar, and what each exported call shows is its part of that reading (`Calls.antt`: the summary, the trailing bytes, the fields and every entry
--- of every function, strings' bytes, the index, the copy).
-pub shown-is-the-reading : (L : ResourceLimits) (chunk : Bytes) (r : Reading) → read L chunk ≡ shown r → Chunk L chunk r × Shows L chunk r
-shown-is-the-reading L chunk r e = (read-sound L chunk r e, shows L chunk r e)
+-- every call refuses the chunk, all with one refusal
+pub record RefusedByAll (L : ResourceLimits) (chunk : Bytes) : Type 0 where
+  pub reason : Refusal
+  pub by-all : Refuses L chunk reason
 
--- and where the reader refuses, every call does, with the same refusal
-pub refused-by-all : (L : ResourceLimits) (chunk : Bytes) (q : Refusal) → read L chunk ≡ refusal q → Refuses L chunk q
-refused-by-all = refuses
+pub refused-exactly : (L : ResourceLimits) (chunk : Bytes) → RefusedByAll L chunk ↔ ¬ Belongs L chunk
+refused-exactly L chunk = (λ f b. never (f .by-all .summary) (ap shownSummary (given b)), λ out. from (read L chunk) refl out)
+  where
+    never : {q : Refusal} {x : Summary} → shownSummary (read L chunk) ≡ summary-answer.Err q → shownSummary (read L chunk) ≡ summary-answer.Ok x → ⊥
+    never e f = let z : _≡_ {A = ℕ} 0 1 = cc in omega arith
+
+    from : (o : Outcome) → read L chunk ≡ o → ¬ Belongs L chunk → RefusedByAll L chunk
+    from (shown r) is out = absurd (out (read-exactly L chunk .0 (record { reading = r; is = is })))
+    from (refusal q) is out = record { reason = q; by-all = refuses L chunk q is }
+
+-- ## 2. What is shown is the reading
+-- What every exported call shows of a chunk that belongs is its part of that reading (`Calls.antt`: the summary, the trailing bytes, the fields, every entry and every line of every function, strings' bytes, the index,
+-- verdict and findings, the copy).
+pub shown-is-the-reading : (L : ResourceLimits) (chunk : Bytes) (b : Belongs L chunk) → Shows L chunk (b .reading)
+shown-is-the-reading L chunk b = shows L chunk (b .reading) (given b)
+
+-- Together the summary, the fields and the entries show the reading: of two chunks, whatever limits each is read under, these calls answer alike exactly where the readings are equal, but for what none of them shows
+-- (`Alike.antt`; crates/format/specs/Reading.antt). `Summarised` is what holds after a call of `chunk_summary` (`Together.antt`): with its answer it has that the chunk is bytes.
+pub together : (L M : ResourceLimits) (s t : Bytes) (x y : SummaryAnswer) → Summarised L s x → Summarised M t y → (b : Belongs L s) (d : Belongs M t) → AnswerAlike L s M t ↔ EqualAsShown (b .reading) (d .reading)
+together L M s t x y one two b d = alike-exactly L M s t (one .below) (two .below) (b .reading) (d .reading) (given b) (given d)
+
+-- and then both are read, or none
+pub together-read : (L M : ResourceLimits) (s t : Bytes) → AnswerAlike L s M t → Belongs L s → Belongs M t
+together-read L M s t alike b = summary-exactly M t .0 (record { summary = _; answers = sym (alike .summary) ∙ ap shownSummary (given b) })
 
 -- ## 3. Any two readings that the grammar allows the bytes are equal.
 pub reading-unique : (L : ResourceLimits) (chunk : Bytes) (r q : Reading) → Chunk L chunk r → Chunk L chunk q → r ≡ q
 reading-unique = chunk-unique
 
--- ## 4. The copy is read again
--- the copy of a reading is read, and both readings keep the same
-pub record CopyIsRead (L : ResourceLimits) (r : Reading) : Type 0 where
-  pub reading : Reading
-  pub is : read L (copy r) ≡ shown reading
-  pub keeps : kept reading ≡ kept r
+-- Under other limits the same bytes have the same reading, but for the warnings, of which the diagnostics limit may drop some.
+pub record SameButWarnings (r q : Reading) : Type 0 where
+  pub header : r .header ≡ q .header
+  pub functions : r .functions ≡ q .functions
+  pub trailing-at : r .trailing-at ≡ q .trailing-at
+  pub trailing : r .trailing ≡ q .trailing
 
--- Under the two premises (a string limit of at least 1, since an absent local name is written as `?`; the copy within the input limit) the copy of what was read is
--- read under the same limits, with the same reading but for what `kept` sets aside.
-pub copy-is-read : (L : ResourceLimits) (chunk : Bytes) (r : Reading) → Below 256 chunk → read L chunk ≡ shown r → 1 ≤ L .«max_string_bytes» → length (copy r) ≤ L .«max_input_bytes» → CopyIsRead L r
-copy-is-read L chunk r bytes e string input =
-    let c = copy-belongs L chunk r (read-sound L chunk r e) bytes string in
-    record { reading = c .0; is = read-complete L (copy r) (c .0) (read-within L chunk r e .0) input (c .1); keeps = c .2 }
+pub under-any-limits : (L M : ResourceLimits) (chunk : Bytes) (r q : Reading) → Chunk L chunk r → Chunk M chunk q → SameButWarnings r q
+under-any-limits L M chunk r q c d =
+    let N = above L M in
+    let one : Chunk N chunk (reading N (c .value) (length (c .front)) (c .trailing)) = record { front = c .front; trailing = c .trailing; whole = c .whole; value = c .value; main = main-wider (above-left L M) .widens (c .main); shows = refl } in
+    let two : Chunk N chunk (reading N (d .value) (length (d .front)) (d .trailing)) = record { front = d .front; trailing = d .trailing; whole = d .whole; value = d .value; main = main-wider (above-right L M) .widens (d .main); shows = refl } in
+    let same = chunk-unique N chunk _ _ one two in
+    record {
+      header = sym (ap (λ x. x .header) (c .shows)) ∙ ap (λ x. x .header) same ∙ ap (λ x. x .header) (d .shows);
+      functions = sym (ap (λ x. x .functions) (c .shows)) ∙ ap (λ x. x .functions) same ∙ ap (λ x. x .functions) (d .shows);
+      trailing-at = sym (ap (λ x. x .trailing-at) (c .shows)) ∙ ap (λ x. x .trailing-at) same ∙ ap (λ x. x .trailing-at) (d .shows);
+      trailing = sym (ap (λ x. x .trailing) (c .shows)) ∙ ap (λ x. x .trailing) same ∙ ap (λ x. x .trailing) (d .shows);
+    }
+
+-- ## 4. The copy is read again
+-- bytes that belong, with a reading that is the same as r but for what the demand sets aside; and it is this reading of them that every call shows
+pub record ReadAgain (L : ResourceLimits) (r : Reading) (bytes : Bytes) : Type 0 where
+  pub belongs : Belongs L bytes
+  pub same : SameButFor (belongs .reading) r
+  pub shows-again : Shows L bytes (belongs .reading)
+
+-- Under the two premises (a string limit of at least 1, since an absent local name is written as `?`; the copy within the input limit) the copy is read under the same limits.
+pub copy-is-read : (L : ResourceLimits) (chunk : Bytes) (b : Belongs L chunk) → Below 256 chunk → 1 ≤ L .«max_string_bytes» → length (copy (b .reading)) ≤ L .«max_input_bytes» → ReadAgain L (b .reading) (copy (b .reading))
+copy-is-read L chunk b below string input =
+    let c = copy-belongs L chunk (b .reading) (b .is) below string in
+    let again : Belongs L (copy (b .reading)) = record { ceilings = b .ceilings; input = input; reading = c .0; is = c .1 } in
+    record { belongs = again; same = same-exactly L L (copy (b .reading)) chunk (c .0) (b .reading) (c .1) (b .is) .0 (c .2); shows-again = shown-is-the-reading L (copy (b .reading)) again }
 
 -- The copy spells each number by `shortest`, and no spelling that the grammar allows is shorter.
 pub shortest-spelling : (at n : ℕ) (bytes : Bytes) → Number at bytes n → length (shortest n) ≤ length bytes
 shortest-spelling = shortest-least
 
--- the chunk was read, and so are the bytes that were written; both readings keep the same; and it is this reading of them that every call shows
-pub record ReadAgain (L : ResourceLimits) (chunk written : Bytes) : Type 0 where
-  pub first : Reading
-  pub was : read L chunk ≡ shown first
-  pub again : Reading
-  pub is : read L written ≡ shown again
-  pub keeps : kept again ≡ kept first
-  pub shows-again : Shows L written again
-
--- The same of what the call writes, whatever stood in the space that it was lent.
-pub written-is-read : (L : ResourceLimits) (chunk old written : Bytes) → Below 256 chunk → Writes L chunk old written → 1 ≤ L .«max_string_bytes» → length written ≤ L .«max_input_bytes» → ReadAgain L chunk written
-written-is-read L chunk old written bytes w string input =
+-- what the call writes of a chunk that belongs is the copy of its reading
+written-is-copy : (L : ResourceLimits) (chunk old written : Bytes) (b : Belongs L chunk) → Writes L chunk old written → written ≡ copy (b .reading)
+written-is-copy L chunk old written b w =
     let k = by-reading L chunk old written w in
-    let c = copy-is-read L chunk (k .reading) bytes (k .is) string (rw (← k .bytes) input) in
-    let is : read L written ≡ shown (c .reading) = ap (read L) (k .bytes) ∙ c .is in
-    record { first = k .reading; was = k .is; again = c .reading; is = is; keeps = c .keeps; shows-again = shows L written (c .reading) is }
+    let same : k .reading ≡ b .reading = (let both = sym (k .is) ∙ given b in cc) in
+    k .bytes ∙ ap copy same
+
+-- after a call on a chunk that belongs, the copy is written wherever there is room
+pub copy-is-written : (L : ResourceLimits) (chunk old : Bytes) (r : CopyAnswer) (new : Bytes) → Copying L chunk old r new → (b : Belongs L chunk) → length (copy (b .reading)) ≤ length old → Writes L chunk old (copy (b .reading))
+copy-is-written L chunk old r new k b room = writes L chunk old (b .reading) (k .below) (given b) room
+
+-- and it writes of no other
+pub written-belongs : (L : ResourceLimits) (chunk old written : Bytes) → Writes L chunk old written → Belongs L chunk
+written-belongs L chunk old written w = let k = by-reading L chunk old written w in read-exactly L chunk .0 (record { reading = k .reading; is = k .is })
+
+-- What the call writes is read again, whatever stood in the space that it was lent.
+pub written-is-read : (L : ResourceLimits) (chunk old written : Bytes) (b : Belongs L chunk) → Writes L chunk old written → 1 ≤ L .«max_string_bytes» → length written ≤ L .«max_input_bytes» → ReadAgain L (b .reading) written
+written-is-read L chunk old written b w string input =
+    let is = written-is-copy L chunk old written b w in
+    rw is (copy-is-read L chunk b (w .call .below) string (rw (← is) input))
 
 -- ## 5. Copying the copy gives the same bytes
 -- under whatever limits the copy is read
-pub copy-of-copy : (L M : ResourceLimits) (chunk : Bytes) (r q : Reading) → Below 256 chunk → read L chunk ≡ shown r → read M (copy r) ≡ shown q → copy q ≡ copy r
-copy-of-copy L M chunk r q bytes e f = copy-same L M chunk r q (read-sound L chunk r e) bytes (read-sound M (copy r) q f)
+pub copy-of-copy : (L M : ResourceLimits) (chunk : Bytes) (b : Belongs L chunk) → Below 256 chunk → (again : Belongs M (copy (b .reading))) → copy (again .reading) ≡ copy (b .reading)
+copy-of-copy L M chunk b below again = copy-same L M chunk (b .reading) (again .reading) (b .is) below (again .is)
+
+-- bytes that are the copy have themselves for their copy
+copied-again : (L M : ResourceLimits) (chunk written : Bytes) (b : Belongs L chunk) → Below 256 chunk → written ≡ copy (b .reading) → (again : Belongs M written) → copy (again .reading) ≡ written
+copied-again L M chunk written b below is again = copy-same L M chunk (b .reading) (again .reading) (b .is) below (subst (λ (x : Bytes). Chunk M x (again .reading)) is (again .is)) ∙ sym is
 
 -- what the call writes, given what it wrote, is the same
-pub written-again : (L M : ResourceLimits) (chunk old written old′ again : Bytes) → Below 256 chunk → Writes L chunk old written → Writes M written old′ again → again ≡ written
-written-again L M chunk old written old′ again bytes w v =
-    let k = by-reading L chunk old written w in
-    let m = by-reading M written old′ again v in
-    m .bytes ∙ copy-of-copy L M chunk (k .reading) (m .reading) bytes (k .is) (ap (read M) (sym (k .bytes)) ∙ m .is) ∙ sym (k .bytes)
+pub written-again : (L M : ResourceLimits) (chunk old written old′ again : Bytes) → Writes L chunk old written → Writes M written old′ again → again ≡ written
+written-again L M chunk old written old′ again w v =
+    let b = written-belongs L chunk old written w in
+    let d = written-belongs M written old′ again v in
+    written-is-copy M written old′ again d v ∙ copied-again L M chunk written b (w .call .below) (written-is-copy L chunk old written b w) d
 
 -- and under the premises of 4 it does write it, wherever it is lent as much space
-pub written-once-more : (L : ResourceLimits) (chunk old written old′ : Bytes) → Below 256 chunk → Writes L chunk old written → 1 ≤ L .«max_string_bytes» → length written ≤ L .«max_input_bytes» → length written ≤ length old′
+pub written-once-more : (L : ResourceLimits) (chunk old written old′ : Bytes) → Writes L chunk old written → 1 ≤ L .«max_string_bytes» → length written ≤ L .«max_input_bytes» → length written ≤ length old′
     → Writes L written old′ written
-written-once-more L chunk old written old′ bytes w string input room =
-    let k = by-reading L chunk old written w in
-    let a = written-is-read L chunk old written bytes w string input in
-    let same : copy (a .again) ≡ written = copy-of-copy L L chunk (k .reading) (a .again) bytes (k .is) (ap (read L) (sym (k .bytes)) ∙ a .is) ∙ sym (k .bytes) in
-    rw same at (writes L written old′ (a .again) (a .is) (rw same room))
+written-once-more L chunk old written old′ w string input room =
+    let b = written-belongs L chunk old written w in
+    let is = written-is-copy L chunk old written b w in
+    let again = written-is-read L chunk old written b w string input .belongs in
+    let below : Below 256 written = rw is (copy-below L chunk (b .reading) (b .is) (w .call .below)) in
+    let same = copied-again L L chunk written b (w .call .below) is again in
+    rw same at (writes L written old′ (again .reading) below (given again) (rw same room))
 
--- ## 6. Two scripts, each read under any limits, have equal copies exactly when their readings are equal but for what `kept` sets aside.
-pub equal-copies : (L M : ResourceLimits) (s t : Bytes) (r q : Reading) → Below 256 s → Below 256 t → read L s ≡ shown r → read M t ≡ shown q → copy r ≡ copy q ↔ kept r ≡ kept q
-equal-copies L M s t r q bytes bytes′ e f = copies.equal-copies L M s t r q (read-sound L s r e) (read-sound M t q f) bytes bytes′
+-- ## 6. Two scripts, each read under any limits, have equal copies exactly when their readings are equal but for what the demand sets aside.
+pub equal-copies : (L M : ResourceLimits) (s t : Bytes) (b : Belongs L s) (d : Belongs M t) → Below 256 s → Below 256 t → copy (b .reading) ≡ copy (d .reading) ↔ SameButFor (b .reading) (d .reading)
+equal-copies L M s t b d below below′ =
+    let one = copies.equal-copies L M s t (b .reading) (d .reading) (b .is) (d .is) below below′ in
+    let two = same-exactly L M s t (b .reading) (d .reading) (b .is) (d .is) in
+    (λ e. two .0 (one .0 e), λ h. one .1 (two .1 h))
 
 -- what the call writes of each
-pub equal-written : (L M : ResourceLimits) (s t old old′ u v : Bytes) (r q : Reading) → Below 256 s → Below 256 t → read L s ≡ shown r → read M t ≡ shown q → Writes L s old u → Writes M t old′ v → u ≡ v ↔ kept r ≡ kept q
-equal-written L M s t old old′ u v r q bytes bytes′ e f w x =
-    let k = by-reading L s old u w in
-    let m = by-reading M t old′ v x in
-    let one : r ≡ k .reading = (let both = sym e ∙ k .is in cc) in
-    let two : q ≡ m .reading = (let both = sym f ∙ m .is in cc) in
-    let here : u ≡ copy r = k .bytes ∙ ap copy (sym one) in
-    let there : v ≡ copy q = m .bytes ∙ ap copy (sym two) in
-    let law = equal-copies L M s t r q bytes bytes′ e f in
+pub equal-written : (L M : ResourceLimits) (s t old old′ u v : Bytes) (b : Belongs L s) (d : Belongs M t) → Writes L s old u → Writes M t old′ v → u ≡ v ↔ SameButFor (b .reading) (d .reading)
+equal-written L M s t old old′ u v b d w x =
+    let here = written-is-copy L s old u b w in
+    let there = written-is-copy M t old′ v d x in
+    let law = equal-copies L M s t b d (w .call .below) (x .call .below) in
     (λ same. law .0 (sym here ∙ same ∙ there), λ same. here ∙ law .1 same ∙ sym there)

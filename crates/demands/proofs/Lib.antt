@@ -1,3 +1,11 @@
+pub mod Slices
+pub mod Same
+pub mod Fits
+pub mod Alike
+pub mod ReadBack
+pub mod ShownEqual
+pub mod Together
+pub mod Complete
 pub mod Calls
 pub mod Written
 pub mod InOrder
