@@ -4,3 +4,4 @@ pub mod RustLaws
 pub mod FewFindings
 pub mod Cases
 pub mod StopCases
+pub mod StopLaws
