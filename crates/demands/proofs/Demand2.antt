@@ -4,7 +4,7 @@
 --                                              and of each slice that is lent as `&mut`, x before the call and x′ after it. `now x` is what stands behind a reference
 -- Each line is an equation with a definition that mirrors the Rust, and antt holds it to be the contract's own clause, word for word. That the definitions are the Rust's was compared by running, since it cannot be
 -- proved: crates/vectors replays the kept answers of the unchanged Rust, oracle/findings asks it. What is compared there is said with each group.
---     as-the-rust      validation as validator.rs has it, a list and a flag: of every chunk that is read, and of what each call on it shows and writes
+--     as-the-rust      validation as validator.rs has it, a list and a flag, on every chunk that is read. CALL-as-the-rust: so the promises of the calls that validate, said by the Rust's list and flag
 --     as-lua-loads     the format against Lua's C: what Lua's own loader takes is read, and the reading is what it loads
 -- Assumes nothing.
 use mathlib.Core.Path.{_≡_, refl, ap, sym, _∙_}
@@ -211,8 +211,8 @@ pub report-warning : Promise report-warning-call.ended report-warning-call.Symbo
     ∷ [])
 report-warning _ = report-warning-call.Met.met
 
--- ## What `chunklist` prints of a file, into a buffer of which some is used: what waits there, and how much. The caller says truly how much is used, the one thing that any of these calls asks.
-pub listing : PromiseWhere listing-call.ended listing-call.Symbol.routine (λ _ a. (a .1 .1 .0 < 65536) ∷ []) (λ _ chunk out out′ used r.
+-- ## What `chunklist` prints of a file, behind what waits in a buffer already: what waits there then, and how much of the buffer is used. Its caller sees to it that the buffer is not full, the one thing that any call here asks.
+pub listing : PromiseWhere listing-call.ended listing-call.Symbol.routine (λ _ a. let used = a .1 .1 .0 in (used < 65536) ∷ []) (λ _ chunk out out′ used r.
     (r < 65536)
     ∷ (waiting (now out′) r ≡ puts (listings.listing (now chunk)) (waiting (now out) used))
     ∷ [])

@@ -3,8 +3,8 @@
 --     cases            maximum, warnings of the reading, the words of each function; then the findings, whether the search was stopped, and the verdict
 --     by-groups, by-loops      each definition gives every case's result
 --     near-the-end     at the real maximum: 10,000 after the last instruction are no stop, 10,001 are one, 10,000 with anything behind are one
--- Ruled out, with the case that does it: the stop tested with `>` (b, c), or after the instruction (b: what is behind is not looked at; e), a stop where exactly as many are found after the last instruction (a, f),
--- the last test left out (d), functions not tested (c), incomplete before invalid (d, g), an error behind the stop counted (e), the reading's warnings not counted (i, k) or listed (h), a stop that forgets what was found (b).
+-- Ruled out, with the case that does it: the stop tested with `>` (b, c) or after the instruction (a); exactly as many after the last instruction called a stop (a, f, h); the last test left out (d); functions not
+-- tested, or only those with instructions (c); incomplete before invalid (d, g); an error behind the stop found (e); the reading's warnings not counted (i, j) or listed (h); a stop that forgets what was found (b).
 -- Assumes nothing.
 use mathlib.Core.Path.{_≡_, refl}
 use mathlib.Core.Bool.{Bool, true, false}
@@ -121,7 +121,7 @@ cases =
     ∷ case 3 1 ((warns ∷ warns ∷ fine ∷ []) ∷ []) (warned 0 0 ++ warned 0 1) true Incomplete
     ∷ case 3 2 ((warns ∷ []) ∷ (fine ∷ []) ∷ []) (warned 0 0) true Incomplete
     ∷ case 3 2 ((twice ∷ []) ∷ []) (both 0 0) true Invalid
-    -- k. warnings alone reach the maximum: nothing is looked at
+    -- j. warnings alone reach the maximum: nothing is looked at
     ∷ case 2 2 ((errs ∷ []) ∷ []) [] true Incomplete
     ∷ case 2 2 ([] ∷ []) [] true Incomplete
     ∷ []
