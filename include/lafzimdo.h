@@ -16,9 +16,9 @@ extern "C" {
 #endif
 
 /* Of a refusal: its number, 1 to 28; whether it has a place; the place. (A place of 2^32 or more is left out: only a part asked for at such a place can have one.) */
-#define LAFZIMDO_NUMBER(r) ((unsigned)((r) & 31))
-#define LAFZIMDO_HAS_PLACE(r) (((r) >> 5) != 0)
-#define LAFZIMDO_PLACE(r) (((r) >> 5) - 1)
+#define LAFZIMDO_NUMBER(r) ((unsigned)((r) & 255))
+#define LAFZIMDO_HAS_PLACE(r) (((r) >> 8) != 0)
+#define LAFZIMDO_PLACE(r) (((r) >> 8) - 1)
 
 /* The limits, in this order: input bytes, nesting depth, prototypes in all, instructions of a prototype, instructions in all, constants of a prototype,
  * upvalues of a prototype, bytes of a string, diagnostics. Above a ceiling is refusal 21. */
