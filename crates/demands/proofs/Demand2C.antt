@@ -157,7 +157,7 @@ pub tail-at : Promise tail-at-call.ended tail-at-call.Symbol.routine (λ _ chunk
 tail-at _ = tail-at-call.Met.met
 
 pub word-at : Promise word-at-call.ended word-at-call.Symbol.routine (λ _ chunk limits place out out′ r.
-    Answered r out out′ (wordAt place (now chunk)))
+    Answered r out out′ (wordAt (now limits) place (now chunk)))
 word-at _ = word-at-call.Met.met
 
 pub constant-at : Promise constant-at-call.ended constant-at-call.Symbol.routine (λ _ chunk limits place out out′ r.
@@ -165,15 +165,15 @@ pub constant-at : Promise constant-at-call.ended constant-at-call.Symbol.routine
 constant-at _ = constant-at-call.Met.met
 
 pub upvalue-at : Promise upvalue-at-call.ended upvalue-at-call.Symbol.routine (λ _ chunk limits place out out′ r.
-    Answered r out out′ (upvalueAt place (now chunk)))
+    Answered r out out′ (upvalueAt (now limits) place (now chunk)))
 upvalue-at _ = upvalue-at-call.Met.met
 
 pub delta-at : Promise delta-at-call.ended delta-at-call.Symbol.routine (λ _ chunk limits place out out′ r.
-    Answered r out out′ (deltaAt place (now chunk)))
+    Answered r out out′ (deltaAt (now limits) place (now chunk)))
 delta-at _ = delta-at-call.Met.met
 
 pub anchor-at : Promise anchor-at-call.ended anchor-at-call.Symbol.routine (λ _ chunk limits place out out′ r.
-    Answered r out out′ (anchorAt place (now chunk)))
+    Answered r out out′ (anchorAt (now limits) place (now chunk)))
 anchor-at _ = anchor-at-call.Met.met
 
 pub local-at : Promise local-at-call.ended local-at-call.Symbol.routine (λ _ chunk limits place out out′ r.
