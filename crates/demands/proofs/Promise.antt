@@ -4,9 +4,9 @@
 --     ends                         what a promise gives on the machine: THE CALL ENDS
 -- `says` is handed each parameter in its order, and behind a `&mut` that parameter again, as it is when the call is over; then the result. `now x` is what stands behind the reference x.
 -- A contract joins its clauses one by one, and so do `facts`: antt holds a promise and the contract in the .rt file to be the same, word for word.
--- What `Meets` means (the kit's guides/DESIGN.md, 'A function's theorem'; its logic/Denote/Triple/Spec.antt and Adequate.antt): for every caller, with all that the parameters' types own and nothing else, the call's own run
--- on the kit's machine is SAFE (no index out of range, no sum that wraps, no cast that loses bits, no zero divisor, no access outside what is owned), ENDS, and leaves what `says` says. It is total correctness: a loop
--- without an end meets no promise. What stands in lent memory is what the lender reads when the loan is over. Outside it are the real machine's stack, and time.
+-- What `Meets` means (the kit's guides/DESIGN.md, 'A function's theorem' and 'What safe means'; its logic/Denote/Triple/Spec.antt and Adequate.antt): whatever the arguments are, and with nothing but what the parameters'
+-- types own, the call's own run on the kit's machine is SAFE (no load or store out of bounds, no sum, difference, product or cast that does not fit, no zero divisor), it ENDS, and then what `says` says holds. It is total
+-- correctness: a call that does not end meets no promise. What is said of lent memory is said of what the lender finds there when the loan is over. The machine has no stack and counts no time: of these nothing is said.
 -- Assumes nothing.
 use mathlib.Core.Path.{_≡_}
 use mathlib.Core.List.{List, [], _∷_}
