@@ -11,5 +11,7 @@ pub mod Written
 pub mod InOrder
 pub mod Refused
 pub mod Demand1
+pub mod Promise
 pub mod Demand2
+pub mod Demand2C
 pub mod Demand3

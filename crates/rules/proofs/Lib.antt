@@ -3,3 +3,5 @@ pub mod Judging
 pub mod RustLaws
 pub mod FewFindings
 pub mod Cases
+pub mod StopCases
+pub mod StopLaws
