@@ -5,3 +5,6 @@ pub mod Refused
 pub mod Demand1
 pub mod Demand2
 pub mod Demand3
+pub mod Nested
+pub mod EntriesAt
+pub mod AtPlace

@@ -1,0 +1,194 @@
+-- The calls at a place (crates/parts_at/specs/PartNumbers.antt) show a chunk that is read. For function k of its reading, p:
+--     head      at `start`, `head_at` shows p's source as it is spelt, its lines, its three bytes, and count and place of its words, constants, upvalues and nested functions
+--     source    the source as it is spelt: absent where p's is that of its parent (main, which has none before it, has its own or none)
+--     tail      behind the functions that nest in p (`lastEnd`: at the end of the last one; where there is none, where they would begin), `tail_at` shows count and place of its deltas, anchors, locals and names, and p's end
+--     words ..  from a list's place on, each entry at the place that the call before gave as the one behind (`stepped`), the call shows entry i
+-- `head_at` counts the instructions of this function alone, and holds them against the total: on a chunk that is read that test passes, as all before are counted in there.
+-- Refused by these: a head that shows the source in force where none is spelt, or absent where one is spelt; a tail that is looked for behind the first nested function; entries at a fixed distance; a place behind that
+-- is the entry's own; anchors' pc and line exchanged; a call that refuses a part of a chunk that is read (21 and 22 included).
+-- Assumes nothing.
+use mathlib.Core.Path.{_≡_, refl, sym, _∙_, ap, subst}
+use mathlib.Core.Bool.{Bool, true, false}
+use mathlib.Core.List.{List, [], _∷_}
+use mathlib.Core.Option.{Option, some}
+use Prim.Native.Nat.{ℕ, zero, suc}
+use native.Mathlib.Omega.{arith}
+use lib.Dec.{leb}
+use lib.ListN.{length, take, drop}
+use Rattle.format.specs.declared.limits.ResourceLimits.{ResourceLimits}
+use Rattle.format.specs.declared.refusal.Refusal.the-variants.{LimitAboveCeiling, InputBytes}
+use Rattle.format.specs.Pick.{pick}
+use Rattle.format.specs.Form.{Bytes}
+use Rattle.format.specs.Limits.{withinCeilings}
+use Rattle.format.specs.GrammarFields.{LuaString}
+use Rattle.format.specs.GrammarChunk.{inherit, orElse}
+use Rattle.format.specs.Reading.{Reading, Prototype, LocalVar}
+use Rattle.format.specs.Read.{Read, ok, refused, next, give}
+use Rattle.format.specs.ReadFields.{field, byte, string}
+use Rattle.format.specs.ReadChunk.{constant, upvalue, anchor, local, main, outcome, shown, refusal, read}
+use Rattle.format.proofs.Exact.{never}
+use Rattle.format.proofs.ExactFields.{exact-field, exact-string}
+use Rattle.format.proofs.ExactChunk.{exact-constant, exact-upvalue, exact-anchor, exact-local}
+use Rattle.format.proofs.Located.{Located}
+use Rattle.reader.specs.Shown.{optionString, shownU8, shownU32, shownString}
+use Rattle.lists.specs.Readers.{RawLocal, rawLocal, named}
+use Rattle.lists.specs.Shown.{constantValue, shownConstant, shownAnchor, shownLocal}
+use Rattle.lists.proofs.DebugInfo.{local-named}
+use Rattle.entries.specs.Nth.{nth}
+use Rattle.entries.specs.Shown.{shownUpvalue}
+use Rattle.prototype.specs.Parts.{head, tail}
+use Rattle.prototype.specs.PartsShown.{shownHead, shownTail}
+use Rattle.access.proofs.Whole.{all-nth, whole}
+use Rattle.boundary.specs.Status.{limitsOf, Answer, done, refuses}
+use Rattle.numbers.specs.Numbers.{presentNumber, placeNumber, lengthNumber, stringNumbers, constantNumbers}
+use Rattle.parts_at.specs.PartNumbers.{upTo, deltaNumber, ofHead, ofTail, ofWordAt, ofConstantAt, ofUpvalueAt, ofDeltaAt, ofAnchorAt, ofLocalAt, ofStringAt, admitted, headAt, tailAt, wordAt, constantAt, upvalueAt, deltaAt, anchorAt, localAt, stringAt}
+use Rattle.demands.proofs.Nested.{lastEnd, sourceAt, Parted, all-parted}
+use Rattle.demands.proofs.EntriesAt.{behind, last-of, stepped, entries-shown, run-bytes}
+
+-- ## What is shown
+-- of a function before those that nest in it, with its source as it is spelt
+abbrev pub headShown : Option LuaString → Prototype → List ℕ
+headShown spelt p =
+    presentNumber (optionString spelt)
+    ∷ placeNumber (optionString spelt)
+    ∷ lengthNumber (optionString spelt)
+    ∷ p .line-defined
+    ∷ p .last-line-defined
+    ∷ p .numparams
+    ∷ p .is-vararg
+    ∷ p .maxstacksize
+    ∷ length (p .instructions)
+    ∷ p .places .instructions
+    ∷ length (p .constants)
+    ∷ p .places .constants
+    ∷ length (p .upvalues)
+    ∷ p .places .upvalues
+    ∷ p .protos
+    ∷ p .places .protos
+    ∷ []
+
+-- and behind them
+abbrev pub tailShown : Prototype → List ℕ
+tailShown p =
+    length (p .line-info)
+    ∷ p .places .line-info
+    ∷ length (p .abs-line-info)
+    ∷ p .places .abs-line-info
+    ∷ length (p .loc-vars)
+    ∷ p .places .loc-vars
+    ∷ length (p .upvalue-names)
+    ∷ p .places .upvalue-names
+    ∷ p .end
+    ∷ []
+
+-- the numbers of an entry, and the place behind it
+abbrev pub Numbered : {A : Type 0} → (A → List ℕ) → A → Answer → Type 0
+Numbered numbers x a = a ≡ done (upTo (numbers x) (behind a))
+
+-- a local variable: whether its name is spelt, its place and length, startpc, endpc
+abbrev pub spelling : Option LuaString → ℕ → ℕ → List ℕ
+spelling name startpc endpc = presentNumber (optionString name) ∷ placeNumber (optionString name) ∷ lengthNumber (optionString name) ∷ startpc ∷ endpc ∷ []
+
+-- so, with its name as it is spelt: an absent one reads as `?`, at the place behind it
+pub record LocalNumbered (l : LocalVar) (a : Answer) : Type 0 where
+  pub spelt : Option LuaString
+  pub after-name : ℕ
+  pub name : l .name ≡ orElse spelt (record { place = after-name; bytes = 63 ∷ [] })
+  pub shows : a ≡ done (upTo (spelling spelt (l .startpc) (l .endpc)) (behind a))
+
+-- the entries of a list that begins at a place
+abbrev pub Entries : {A : Type 0} → (ℕ → Answer) → (A → Answer → Type 0) → ℕ → List A → Type 0
+Entries {A} call Shown place xs = (i : ℕ) (x : A) → nth i xs ≡ some x → Shown x (call (stepped call i place))
+
+-- the function p, the one of number k of the functions fs
+pub record ShownAt (l : List ℕ) (s : Bytes) (fs : List Prototype) (k : ℕ) (p : Prototype) : Type 0 where
+  pub spelt : Option LuaString
+  pub source : p .source-name ≡ inherit spelt (sourceAt (p .parent) (take k fs))
+  pub head : headAt l (p .start) s ≡ done (headShown spelt p)
+  pub tail : tailAt l (lastEnd k (p .places .protos) (drop (suc k) fs)) s ≡ done (tailShown p)
+  pub words : Entries (λ at. wordAt l at s) (Numbered (λ w. w ∷ [])) (p .places .instructions) (p .instructions)
+  pub constants : Entries (λ at. constantAt l at s) (Numbered (λ c. constantNumbers (constantValue c))) (p .places .constants) (p .constants)
+  pub upvalues : Entries (λ at. upvalueAt l at s) (Numbered (λ u. u .instack ∷ u .idx ∷ u .kind ∷ [])) (p .places .upvalues) (p .upvalues)
+  pub deltas : Entries (λ at. deltaAt l at s) (Numbered (λ d. deltaNumber d ∷ [])) (p .places .line-info) (p .line-info)
+  pub anchors : Entries (λ at. anchorAt l at s) (Numbered (λ a. a .pc ∷ a .line ∷ [])) (p .places .abs-line-info) (p .abs-line-info)
+  pub locals : Entries (λ at. localAt l at s) LocalNumbered (p .places .loc-vars) (p .loc-vars)
+  pub names : Entries (λ at. stringAt l at s) (Numbered (λ t. stringNumbers (optionString t))) (p .places .upvalue-names) (p .upvalue-names)
+
+-- ## 21 and 22 pass
+abbrev chosen : {A : Type 0} → Bool → Bool → A → A → A → A
+chosen within short a longer above = pick within (pick short a longer) above
+
+admits : (L : ResourceLimits) (s : Bytes) (r : Reading) → read L s ≡ shown r → (a : Answer) → admitted L s a ≡ a
+unfolding read
+admits L s r e a = go (withinCeilings L) (leb (length s) (L .«max_input_bytes»)) e
+  where
+    go : (b c : Bool) → chosen b c (outcome L (main L 0 s)) (refusal InputBytes) (refusal LimitAboveCeiling) ≡ shown r → chosen b c a (refuses InputBytes) (refuses LimitAboveCeiling) ≡ a
+    go true true e = refl
+    go true false e = absurd (let z : _≡_ {A = ℕ} 0 1 = cc in omega arith)
+    go false c e = absurd (let z : _≡_ {A = ℕ} 0 1 = cc in omega arith)
+
+-- ## The theorem
+nth-before : {A : Type 0} (k : ℕ) (xs : List A) {x : A} → nth k xs ≡ some x → length (take k xs) ≡ k
+nth-before k [] e = absurd (let z : _≡_ {A = ℕ} 0 1 = cc in omega arith)
+nth-before zero (y ∷ xs) e = refl
+nth-before (suc k) (y ∷ xs) e = ap suc (nth-before k xs e)
+
+module _ (l : List ℕ) (s : Bytes) (r : Reading) (is : read (limitsOf l) s ≡ shown r) where
+  -- an answer behind the test
+  numbered : (numbers : List ℕ) (to : ℕ) (a : Answer) → a ≡ done (upTo numbers to)
+      → (admitted (limitsOf l) s a ≡ done (upTo numbers (behind (admitted (limitsOf l) s a)))) × (behind (admitted (limitsOf l) s a) ≡ to)
+  numbered numbers to a e =
+      let all = admits (limitsOf l) s r is a ∙ e in
+      let place = ap behind all ∙ last-of numbers to in
+      (all ∙ ap (λ k. done (upTo numbers k)) (sym place), place)
+
+  raw-local : (at : ℕ) (raw : RawLocal) (to : ℕ) (rest : Bytes) → rawLocal (limitsOf l .«max_string_bytes») at (drop at s) ≡ ok raw to rest → LocalNumbered (named raw) (localAt l at s) × (behind (localAt l at s) ≡ to)
+  raw-local at raw to rest e =
+      let shows = numbered (spelling (raw .name) (raw .startpc) (raw .endpc)) to _ (ap (λ o. ofLocalAt (shownLocal o)) e) in
+      (record { spelt = raw .name; after-name = raw .behind; name = refl; shows = shows .0 }, shows .1)
+
+  a-local : (at : ℕ) (v : LocalVar) (to : ℕ) (rest : Bytes) → local (limitsOf l .«max_string_bytes») at (drop at s) ≡ ok v to rest → LocalNumbered v (localAt l at s) × (behind (localAt l at s) ≡ to)
+  a-local at v to rest e = go (rawLocal (limitsOf l .«max_string_bytes») at (drop at s)) refl (sym (local-named (limitsOf l .«max_string_bytes») at (drop at s)) ∙ e)
+    where
+      go : (o : Read RawLocal) → rawLocal (limitsOf l .«max_string_bytes») at (drop at s) ≡ o → next o (λ l. give (named l)) ≡ ok v to rest → LocalNumbered v (localAt l at s) × (behind (localAt l at s) ≡ to)
+      go (ok raw mid t) p q =
+          let same : named raw ≡ v = cc in
+          let place : mid ≡ to = cc in
+          let shows = raw-local at raw mid t p in
+          (subst (λ v. LocalNumbered v (localAt l at s)) same (shows .0), shows .1 ∙ place)
+      go (refused z) p q = absurd (never q)
+
+  module _ (k : ℕ) {p : Prototype} (there : nth k (r .functions) ≡ some p) where
+    located : Located (limitsOf l) s p
+    located = all-nth (Located (limitsOf l) s) (r .functions) (whole (limitsOf l) s r is .located) k there
+
+    parted : Parted (limitsOf l) s (take k (r .functions)) p (drop (suc k) (r .functions))
+    parted = all-parted (limitsOf l) s r is k there
+
+    head-is : headAt l (p .start) s ≡ done (headShown (parted .first .front .source) p)
+    head-is =
+        admits (limitsOf l) s r is (ofHead (shownHead (head (limitsOf l) 0 (p .start) (drop (p .start) s))))
+        ∙ ap (λ o. ofHead (shownHead o)) (parted .at-start .is)
+        ∙ ap (λ q. done (headShown (parted .first .front .source) q)) (sym (parted .is))
+
+    tail-is : tailAt l (lastEnd k (p .places .protos) (drop (suc k) (r .functions))) s ≡ done (tailShown p)
+    tail-is =
+        admits (limitsOf l) s r is _
+        ∙ ap (λ n. ofTail (shownTail (tail (limitsOf l .«max_string_bytes») (lastEnd n (p .places .protos) (drop (suc k) (r .functions))) (drop (lastEnd n (p .places .protos) (drop (suc k) (r .functions))) s)))) (sym (nth-before k (r .functions) there))
+        ∙ ap (λ o. ofTail (shownTail o)) (parted .behind-nested)
+        ∙ ap (λ q. done (tailShown q)) (sym (parted .is))
+
+    pub shown-at : ShownAt l s (r .functions) k p
+    shown-at = record {
+      spelt = parted .first .front .source;
+      source = ap (λ q. q .source-name) (parted .is) ∙ ap (inherit (parted .first .front .source)) (parted .source);
+      head = head-is;
+      tail = tail-is;
+      words = λ i x e. entries-shown s (field 4) (exact-field 4) (λ at. wordAt l at s) (Numbered (λ w. w ∷ [])) (λ at x to rest e. numbered (x ∷ []) to _ (ap (λ o. ofWordAt (shownU32 o)) e)) (length (p .instructions)) (located .instructions) i e;
+      constants = λ i x e. entries-shown s (constant (limitsOf l .«max_string_bytes»)) (exact-constant _) (λ at. constantAt l at s) (Numbered (λ c. constantNumbers (constantValue c))) (λ at x to rest e. numbered (constantNumbers (constantValue x)) to _ (ap (λ o. ofConstantAt (shownConstant o)) e)) (length (p .constants)) (located .constants) i e;
+      upvalues = λ i x e. entries-shown s upvalue exact-upvalue (λ at. upvalueAt l at s) (Numbered (λ u. u .instack ∷ u .idx ∷ u .kind ∷ [])) (λ at x to rest e. numbered (x .instack ∷ x .idx ∷ x .kind ∷ []) to _ (ap (λ o. ofUpvalueAt (shownUpvalue o)) e)) (length (p .upvalues)) (located .upvalues) i e;
+      deltas = λ i x e. entries-shown s byte (exact-field 1) (λ at. deltaAt l at s) (Numbered (λ d. deltaNumber d ∷ [])) (λ at x to rest e. numbered (deltaNumber x ∷ []) to _ (ap (λ o. ofDeltaAt (shownU8 o)) e)) (length (p .line-info)) (run-bytes (length (p .line-info)) (located .line-info)) i e;
+      anchors = λ i x e. entries-shown s anchor exact-anchor (λ at. anchorAt l at s) (Numbered (λ a. a .pc ∷ a .line ∷ [])) (λ at x to rest e. numbered (x .pc ∷ x .line ∷ []) to _ (ap (λ o. ofAnchorAt (shownAnchor o)) e)) (length (p .abs-line-info)) (located .abs-line-info) i e;
+      locals = λ i x e. entries-shown s (local (limitsOf l .«max_string_bytes»)) (exact-local _) (λ at. localAt l at s) LocalNumbered a-local (length (p .loc-vars)) (located .loc-vars) i e;
+      names = λ i x e. entries-shown s (string (limitsOf l .«max_string_bytes»)) (exact-string _) (λ at. stringAt l at s) (Numbered (λ t. stringNumbers (optionString t))) (λ at x to rest e. numbered (stringNumbers (optionString x)) to _ (ap (λ o. ofStringAt (shownString o)) e)) (length (p .upvalue-names)) (located .upvalue-names) i e;
+    }
