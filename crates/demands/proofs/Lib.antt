@@ -7,4 +7,4 @@ pub mod Demand2
 pub mod Demand3
 pub mod Nested
 pub mod EntriesAt
-pub mod AtPlace
+pub mod ShownAt

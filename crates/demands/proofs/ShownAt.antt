@@ -5,16 +5,19 @@
 --     words ..  from a list's place on, each entry at the place that the call before gave as the one behind (`stepped`), the call shows entry i
 -- `head_at` counts the instructions of this function alone, and holds them against the total: on a chunk that is read that test passes, as all before are counted in there.
 -- Refused by these: a head that shows the source in force where none is spelt, or absent where one is spelt; a tail that is looked for behind the first nested function; entries at a fixed distance; a place behind that
--- is the entry's own; anchors' pc and line exchanged; a call that refuses a part of a chunk that is read (21 and 22 included).
+-- is the entry's own; two numbers of an answer exchanged, also where definition and code agree on it; a call that refuses a part of a chunk that is read (21 and 22 included).
 -- Assumes nothing.
 use mathlib.Core.Path.{_≡_, refl, sym, _∙_, ap, subst}
 use mathlib.Core.Bool.{Bool, true, false}
-use mathlib.Core.List.{List, [], _∷_}
-use mathlib.Core.Option.{Option, some}
-use Prim.Native.Nat.{ℕ, zero, suc}
+use mathlib.Core.List.{List, [], _∷_, _++_}
+use mathlib.Core.Option.{Option, none, some}
+use Prim.Native.Nat.{ℕ, zero, suc, _<_, _^_}
 use native.Mathlib.Omega.{arith}
 use lib.Dec.{leb}
 use lib.ListN.{length, take, drop}
+use mir.Syntax.{w8, w64}
+use mir.Val.{toZ}
+use mir.Facts.{ofZ-toZ}
 use Rattle.format.specs.declared.limits.ResourceLimits.{ResourceLimits}
 use Rattle.format.specs.declared.refusal.Refusal.the-variants.{LimitAboveCeiling, InputBytes}
 use Rattle.format.specs.Pick.{pick}
@@ -22,7 +25,7 @@ use Rattle.format.specs.Form.{Bytes}
 use Rattle.format.specs.Limits.{withinCeilings}
 use Rattle.format.specs.GrammarFields.{LuaString}
 use Rattle.format.specs.GrammarChunk.{inherit, orElse}
-use Rattle.format.specs.Reading.{Reading, Prototype, LocalVar}
+use Rattle.format.specs.Reading.{ConstantValue, nil, boolean, integer, float, short-string, long-string, Reading, Prototype, LocalVar}
 use Rattle.format.specs.Read.{Read, ok, refused, next, give}
 use Rattle.format.specs.ReadFields.{field, byte, string}
 use Rattle.format.specs.ReadChunk.{constant, upvalue, anchor, local, main, outcome, shown, refusal, read}
@@ -39,20 +42,35 @@ use Rattle.entries.specs.Shown.{shownUpvalue}
 use Rattle.prototype.specs.Parts.{head, tail}
 use Rattle.prototype.specs.PartsShown.{shownHead, shownTail}
 use Rattle.access.proofs.Whole.{all-nth, whole}
-use Rattle.boundary.specs.Status.{limitsOf, Answer, done, refuses}
+use Rattle.boundary.specs.Status.{limitsOf, Answer, done, refuses, complement}
 use Rattle.numbers.specs.Numbers.{presentNumber, placeNumber, lengthNumber, stringNumbers, constantNumbers}
-use Rattle.parts_at.specs.PartNumbers.{upTo, deltaNumber, ofHead, ofTail, ofWordAt, ofConstantAt, ofUpvalueAt, ofDeltaAt, ofAnchorAt, ofLocalAt, ofStringAt, admitted, headAt, tailAt, wordAt, constantAt, upvalueAt, deltaAt, anchorAt, localAt, stringAt}
+use Rattle.parts_at.specs.PartNumbers.{upTo, localNumbersAt, ofHead, ofTail, ofWordAt, ofConstantAt, ofUpvalueAt, ofDeltaAt, ofAnchorAt, ofLocalAt, ofStringAt, admitted, headAt, tailAt, wordAt, constantAt, upvalueAt, deltaAt, anchorAt, localAt, stringAt}
 use Rattle.demands.proofs.Nested.{lastEnd, sourceAt, Parted, all-parted}
 use Rattle.demands.proofs.EntriesAt.{behind, last-of, stepped, entries-shown, run-bytes}
 
 -- ## What is shown
+-- of a string whether it is there, its place and its length
+abbrev pub stringShown : Option LuaString → List ℕ
+stringShown none = 0 ∷ 0 ∷ 0 ∷ []
+stringShown (some t) = 1 ∷ t .place ∷ length (t .bytes) ∷ []
+
+-- of a constant its tag (lobject.h), its bits or a string's place, a string's length. (An integer's bits as a signed number and back: n itself, where n is below 2^64, `bits`)
+abbrev pub constantShown : ConstantValue → List ℕ
+constantShown nil = 0 ∷ 0 ∷ 0 ∷ []
+constantShown (boolean b) = pick b 17 1 ∷ 0 ∷ 0 ∷ []
+constantShown (integer n) = 3 ∷ complement (toZ w64 n) ∷ 0 ∷ []
+constantShown (float n) = 19 ∷ n ∷ 0 ∷ []
+constantShown (short-string t) = 4 ∷ t .place ∷ length (t .bytes) ∷ []
+constantShown (long-string t) = 20 ∷ t .place ∷ length (t .bytes) ∷ []
+
+pub bits : (n : ℕ) → n < 2 ^ 64 → complement (toZ w64 n) ≡ n
+bits n h = ofZ-toZ {w = w64} (record { fits = h })
+
 -- of a function before those that nest in it, with its source as it is spelt
 abbrev pub headShown : Option LuaString → Prototype → List ℕ
 headShown spelt p =
-    presentNumber (optionString spelt)
-    ∷ placeNumber (optionString spelt)
-    ∷ lengthNumber (optionString spelt)
-    ∷ p .line-defined
+    stringShown spelt
+    ++ p .line-defined
     ∷ p .last-line-defined
     ∷ p .numparams
     ∷ p .is-vararg
@@ -85,16 +103,12 @@ tailShown p =
 abbrev pub Numbered : {A : Type 0} → (A → List ℕ) → A → Answer → Type 0
 Numbered numbers x a = a ≡ done (upTo (numbers x) (behind a))
 
--- a local variable: whether its name is spelt, its place and length, startpc, endpc
-abbrev pub spelling : Option LuaString → ℕ → ℕ → List ℕ
-spelling name startpc endpc = presentNumber (optionString name) ∷ placeNumber (optionString name) ∷ lengthNumber (optionString name) ∷ startpc ∷ endpc ∷ []
-
--- so, with its name as it is spelt: an absent one reads as `?`, at the place behind it
+-- a local variable, with its name as it is spelt: an absent one reads as `?`, at the place behind it
 pub record LocalNumbered (l : LocalVar) (a : Answer) : Type 0 where
   pub spelt : Option LuaString
   pub after-name : ℕ
   pub name : l .name ≡ orElse spelt (record { place = after-name; bytes = 63 ∷ [] })
-  pub shows : a ≡ done (upTo (spelling spelt (l .startpc) (l .endpc)) (behind a))
+  pub shows : a ≡ done (upTo (stringShown spelt ++ (l .startpc ∷ l .endpc ∷ [])) (behind a))
 
 -- the entries of a list that begins at a place
 abbrev pub Entries : {A : Type 0} → (ℕ → Answer) → (A → Answer → Type 0) → ℕ → List A → Type 0
@@ -107,12 +121,12 @@ pub record ShownAt (l : List ℕ) (s : Bytes) (fs : List Prototype) (k : ℕ) (p
   pub head : headAt l (p .start) s ≡ done (headShown spelt p)
   pub tail : tailAt l (lastEnd k (p .places .protos) (drop (suc k) fs)) s ≡ done (tailShown p)
   pub words : Entries (λ at. wordAt l at s) (Numbered (λ w. w ∷ [])) (p .places .instructions) (p .instructions)
-  pub constants : Entries (λ at. constantAt l at s) (Numbered (λ c. constantNumbers (constantValue c))) (p .places .constants) (p .constants)
+  pub constants : Entries (λ at. constantAt l at s) (Numbered constantShown) (p .places .constants) (p .constants)
   pub upvalues : Entries (λ at. upvalueAt l at s) (Numbered (λ u. u .instack ∷ u .idx ∷ u .kind ∷ [])) (p .places .upvalues) (p .upvalues)
-  pub deltas : Entries (λ at. deltaAt l at s) (Numbered (λ d. deltaNumber d ∷ [])) (p .places .line-info) (p .line-info)
+  pub deltas : Entries (λ at. deltaAt l at s) (Numbered (λ d. complement (toZ w8 d) ∷ [])) (p .places .line-info) (p .line-info)
   pub anchors : Entries (λ at. anchorAt l at s) (Numbered (λ a. a .pc ∷ a .line ∷ [])) (p .places .abs-line-info) (p .abs-line-info)
   pub locals : Entries (λ at. localAt l at s) LocalNumbered (p .places .loc-vars) (p .loc-vars)
-  pub names : Entries (λ at. stringAt l at s) (Numbered (λ t. stringNumbers (optionString t))) (p .places .upvalue-names) (p .upvalue-names)
+  pub names : Entries (λ at. stringAt l at s) (Numbered stringShown) (p .places .upvalue-names) (p .upvalue-names)
 
 -- ## 21 and 22 pass
 abbrev chosen : {A : Type 0} → Bool → Bool → A → A → A → A
@@ -126,6 +140,27 @@ admits L s r e a = go (withinCeilings L) (leb (length s) (L .«max_input_bytes»
     go true true e = refl
     go true false e = absurd (let z : _≡_ {A = ℕ} 0 1 = cc in omega arith)
     go false c e = absurd (let z : _≡_ {A = ℕ} 0 1 = cc in omega arith)
+
+-- ## The same numbers
+string-numbers : (o : Option LuaString) (more : List ℕ) → presentNumber (optionString o) ∷ placeNumber (optionString o) ∷ lengthNumber (optionString o) ∷ more ≡ stringShown o ++ more
+string-numbers none more = refl
+string-numbers (some t) more = refl
+
+name-numbers : (o : Option LuaString) (to : ℕ) → upTo (stringNumbers (optionString o)) to ≡ upTo (stringShown o) to
+name-numbers none to = refl
+name-numbers (some t) to = refl
+
+local-numbers : (o : Option LuaString) (startpc endpc to : ℕ) → localNumbersAt (optionString o) startpc endpc to ≡ upTo (stringShown o ++ (startpc ∷ endpc ∷ [])) to
+local-numbers none startpc endpc to = refl
+local-numbers (some t) startpc endpc to = refl
+
+constant-numbers : (c : ConstantValue) → constantNumbers (constantValue c) ≡ constantShown c
+constant-numbers nil = refl
+constant-numbers (boolean b) = refl
+constant-numbers (integer n) = refl
+constant-numbers (float n) = refl
+constant-numbers (short-string t) = refl
+constant-numbers (long-string t) = refl
 
 -- ## The theorem
 nth-before : {A : Type 0} (k : ℕ) (xs : List A) {x : A} → nth k xs ≡ some x → length (take k xs) ≡ k
@@ -144,7 +179,7 @@ module _ (l : List ℕ) (s : Bytes) (r : Reading) (is : read (limitsOf l) s ≡ 
 
   raw-local : (at : ℕ) (raw : RawLocal) (to : ℕ) (rest : Bytes) → rawLocal (limitsOf l .«max_string_bytes») at (drop at s) ≡ ok raw to rest → LocalNumbered (named raw) (localAt l at s) × (behind (localAt l at s) ≡ to)
   raw-local at raw to rest e =
-      let shows = numbered (spelling (raw .name) (raw .startpc) (raw .endpc)) to _ (ap (λ o. ofLocalAt (shownLocal o)) e) in
+      let shows = numbered (stringShown (raw .name) ++ (raw .startpc ∷ raw .endpc ∷ [])) to _ (ap (λ o. ofLocalAt (shownLocal o)) e ∙ ap done (local-numbers (raw .name) (raw .startpc) (raw .endpc) to)) in
       (record { spelt = raw .name; after-name = raw .behind; name = refl; shows = shows .0 }, shows .1)
 
   a-local : (at : ℕ) (v : LocalVar) (to : ℕ) (rest : Bytes) → local (limitsOf l .«max_string_bytes») at (drop at s) ≡ ok v to rest → LocalNumbered v (localAt l at s) × (behind (localAt l at s) ≡ to)
@@ -169,6 +204,7 @@ module _ (l : List ℕ) (s : Bytes) (r : Reading) (is : read (limitsOf l) s ≡ 
     head-is =
         admits (limitsOf l) s r is (ofHead (shownHead (head (limitsOf l) 0 (p .start) (drop (p .start) s))))
         ∙ ap (λ o. ofHead (shownHead o)) (parted .at-start .is)
+        ∙ ap done (string-numbers (parted .first .front .source) _)
         ∙ ap (λ q. done (headShown (parted .first .front .source) q)) (sym (parted .is))
 
     tail-is : tailAt l (lastEnd k (p .places .protos) (drop (suc k) (r .functions))) s ≡ done (tailShown p)
@@ -185,10 +221,10 @@ module _ (l : List ℕ) (s : Bytes) (r : Reading) (is : read (limitsOf l) s ≡ 
       head = head-is;
       tail = tail-is;
       words = λ i x e. entries-shown s (field 4) (exact-field 4) (λ at. wordAt l at s) (Numbered (λ w. w ∷ [])) (λ at x to rest e. numbered (x ∷ []) to _ (ap (λ o. ofWordAt (shownU32 o)) e)) (length (p .instructions)) (located .instructions) i e;
-      constants = λ i x e. entries-shown s (constant (limitsOf l .«max_string_bytes»)) (exact-constant _) (λ at. constantAt l at s) (Numbered (λ c. constantNumbers (constantValue c))) (λ at x to rest e. numbered (constantNumbers (constantValue x)) to _ (ap (λ o. ofConstantAt (shownConstant o)) e)) (length (p .constants)) (located .constants) i e;
+      constants = λ i x e. entries-shown s (constant (limitsOf l .«max_string_bytes»)) (exact-constant _) (λ at. constantAt l at s) (Numbered constantShown) (λ at x to rest e. numbered (constantShown x) to _ (ap (λ o. ofConstantAt (shownConstant o)) e ∙ ap (λ n. done (upTo n to)) (constant-numbers x))) (length (p .constants)) (located .constants) i e;
       upvalues = λ i x e. entries-shown s upvalue exact-upvalue (λ at. upvalueAt l at s) (Numbered (λ u. u .instack ∷ u .idx ∷ u .kind ∷ [])) (λ at x to rest e. numbered (x .instack ∷ x .idx ∷ x .kind ∷ []) to _ (ap (λ o. ofUpvalueAt (shownUpvalue o)) e)) (length (p .upvalues)) (located .upvalues) i e;
-      deltas = λ i x e. entries-shown s byte (exact-field 1) (λ at. deltaAt l at s) (Numbered (λ d. deltaNumber d ∷ [])) (λ at x to rest e. numbered (deltaNumber x ∷ []) to _ (ap (λ o. ofDeltaAt (shownU8 o)) e)) (length (p .line-info)) (run-bytes (length (p .line-info)) (located .line-info)) i e;
+      deltas = λ i x e. entries-shown s byte (exact-field 1) (λ at. deltaAt l at s) (Numbered (λ d. complement (toZ w8 d) ∷ [])) (λ at x to rest e. numbered (complement (toZ w8 x) ∷ []) to _ (ap (λ o. ofDeltaAt (shownU8 o)) e)) (length (p .line-info)) (run-bytes (length (p .line-info)) (located .line-info)) i e;
       anchors = λ i x e. entries-shown s anchor exact-anchor (λ at. anchorAt l at s) (Numbered (λ a. a .pc ∷ a .line ∷ [])) (λ at x to rest e. numbered (x .pc ∷ x .line ∷ []) to _ (ap (λ o. ofAnchorAt (shownAnchor o)) e)) (length (p .abs-line-info)) (located .abs-line-info) i e;
       locals = λ i x e. entries-shown s (local (limitsOf l .«max_string_bytes»)) (exact-local _) (λ at. localAt l at s) LocalNumbered a-local (length (p .loc-vars)) (located .loc-vars) i e;
-      names = λ i x e. entries-shown s (string (limitsOf l .«max_string_bytes»)) (exact-string _) (λ at. stringAt l at s) (Numbered (λ t. stringNumbers (optionString t))) (λ at x to rest e. numbered (stringNumbers (optionString x)) to _ (ap (λ o. ofStringAt (shownString o)) e)) (length (p .upvalue-names)) (located .upvalue-names) i e;
+      names = λ i x e. entries-shown s (string (limitsOf l .«max_string_bytes»)) (exact-string _) (λ at. stringAt l at s) (Numbered stringShown) (λ at x to rest e. numbered (stringShown x) to _ (ap (λ o. ofStringAt (shownString o)) e ∙ ap done (name-numbers x to))) (length (p .upvalue-names)) (located .upvalue-names) i e;
     }
