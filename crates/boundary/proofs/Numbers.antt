@@ -20,7 +20,6 @@ use Rattle.format.specs.declared.refusal.Refusal.{Refusal}
 use Rattle.format.specs.declared.refusal.Refusal.the-variants as q
 use Rattle.format.specs.declared.refusal.Place.{Place}
 use Rattle.format.specs.declared.refusal.Place.the-variants.{At, None}
-use Rattle.format.specs.declared.refusal.Report.{Report}
 use Rattle.format.specs.Refusals.{reported}
 use Rattle.boundary.specs.Status.{withPlace, coded, Answer, done, refuses, status, written}
 

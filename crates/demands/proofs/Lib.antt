@@ -15,3 +15,6 @@ pub mod Promise
 pub mod Demand2
 pub mod Demand2C
 pub mod Demand3
+pub mod Nested
+pub mod EntriesAt
+pub mod ShownAt
