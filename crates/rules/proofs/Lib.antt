@@ -3,3 +3,4 @@ pub mod Judging
 pub mod RustLaws
 pub mod FewFindings
 pub mod Cases
+pub mod RuleCases
