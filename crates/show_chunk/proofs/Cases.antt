@@ -44,21 +44,20 @@ plain depth parent vararg protos = fields.Ok (record {
 
 -- a function's number, and its fields
 cases : List (ℕ × FieldsAnswer)
-cases =
-    (
-      4,
-      fields.Ok (record {
-        depth = 2;
-        parent = 3;
-        «source_name» = string.Some (record { place = 82; len = 12 });
-        «line_defined» = 13;
-        «last_line_defined» = 14;
-        numparams = 15;
-        «is_vararg» = 16;
-        maxstacksize = 17;
-        counts = record { instructions = 5; constants = 7; upvalues = 6; protos = 4; «line_info» = 8; «abs_line_info» = 9; «loc_vars» = 10; «upvalue_names» = 11 };
-      }),
-    )
+cases = (
+  4,
+  fields.Ok (record {
+    depth = 2;
+    parent = 3;
+    «source_name» = string.Some (record { place = 82; len = 12 });
+    «line_defined» = 13;
+    «last_line_defined» = 14;
+    numparams = 15;
+    «is_vararg» = 16;
+    maxstacksize = 17;
+    counts = record { instructions = 5; constants = 7; upvalues = 6; protos = 4; «line_info» = 8; «abs_line_info» = 9; «loc_vars» = 10; «upvalue_names» = 11 };
+  }),
+)
     ∷ (0, plain 0 0 1 2)
     ∷ (1, plain 1 0 0 1)
     ∷ (2, plain 2 1 0 0)
