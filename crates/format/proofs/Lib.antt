@@ -34,3 +34,5 @@ pub mod RefusalCases
 pub mod LimitCases
 pub mod Byte31
 pub mod Distinct
+pub mod Cuts
+pub mod ShortestCases

@@ -2,6 +2,7 @@
 --     words-hold       told apart: another bound or operand, above for at, SETTABUP's A a register or its B checked, the operand's finding first, function and pc exchanged
 --     exempt-are       of the 83 opcodes, those whose A is no register: SETTABUP, JMP, RETURN0, VARARGPREP, EXTRAARG
 --     checked-are      of the 128 opcode numbers, those that are held against a list's bound or have no opcode, with their rule
+--     bounds-are       what a function's words are held against: its stack and the lengths of its lists
 --     severities-hold  of each rule: only a register is a warning; and the verdict on a chunk with that one finding
 -- Assumes nothing.
 use mathlib.Core.Path.{_≡_, refl}
@@ -9,6 +10,7 @@ use mathlib.Core.Bool.{Bool, true, false}
 use mathlib.Core.List.{List, [], _∷_, _++_, map}
 use Prim.Native.Nat.{ℕ, zero, suc, _+_, _*_}
 use lib.IntN.{pos, negsuc}
+use Rattle.format.proofs.Distinct.{fourth}
 use Rattle.instructions.specs.Word.{decoded}
 use Rattle.rules.specs.declared.finding.Bounds.{Bounds}
 use Rattle.rules.specs.declared.finding.Finding.{Finding}
@@ -19,7 +21,7 @@ use Rattle.rules.specs.declared.finding.Severity.the-variants.{Error, Wa
 use Rattle.rules.specs.declared.finding.Verdict.{Verdict}
 use Rattle.rules.specs.declared.finding.Verdict.the-variants.{ValidForAnalysis, Invalid, Incomplete}
 use Rattle.rules.specs.Rules.{severity, instruction}
-use Rattle.rules.specs.Findings.{verdict}
+use Rattle.rules.specs.Findings.{boundsOf, verdict}
 
 -- bounds that all differ; the word is instruction 7 of function 5
 abbrev bounds : Bounds
@@ -98,6 +100,11 @@ checked-are : swept (λ op. instruction 0 (record { maxstacksize = 1; instructio
     ≡ ((3, Constant 0) ∷ (9, Upvalue 0) ∷ (10, Upvalue 0) ∷ (11, TableUpvalue 0) ∷ (15, TableUpvalue 0) ∷ (56, Jump (negsuc 16777213)) ∷ (79, Prototype 0) ∷ []) ++ map (λ n. (83 + n, Opcode (83 + n))) (upTo 44)
 unfolding swept upTo instruction decoded
 checked-are = refl
+
+-- ## Bounds
+bounds-are : boundsOf fourth ≡ record { maxstacksize = 17; instructions = 5; constants = 7; upvalues = 6; protos = 4 }
+unfolding fourth
+bounds-are = refl
 
 -- ## Severities and verdicts
 -- a rule's severity, the verdict on a chunk with this finding alone, and on one that was stopped
