@@ -3,19 +3,28 @@
 --     findings-hold    one of each rule; a jump's target below 0 is its two's complement
 --     list-holds       two findings one after the other
 --     answers-hold     the verdict, and how many findings
--- Told apart: two rules' numbers exchanged, function and instruction exchanged, verdict and count exchanged, findings in another order, a target's sign left out.
+--     written-holds    the numbers of a chunk's one finding at the front of a list of 8, 7, 4 and 3 numbers: four are needed
+-- Told apart: two rules' numbers exchanged, function and instruction exchanged, verdict and count exchanged, findings in another order, a target's sign left out, room counted in numbers or rounded up, the list touched behind the findings or on a refusal.
 -- Assumes nothing.
 use mathlib.Core.Path.{_≡_, refl}
-use mathlib.Core.List.{List, [], _∷_, map}
+use mathlib.Core.List.{List, [], _∷_, _++_, map}
 use Prim.Native.Nat.{ℕ, _-_, _^_}
 use lib.IntN.{pos, negsuc}
+use lib.ListN.{replicate}
 use Rattle.format.specs.declared.refusal.Refusal.the-variants.{LentSpace}
+use Rattle.format.specs.Form.{Bytes}
+use Rattle.format.specs.Limits.{ceilings}
+use Rattle.format.specs.ReadChunk.{body, function, read}
+use Rattle.format.proofs.Distinct.{header}
+use Rattle.instructions.specs.Word.{decoded}
+use Rattle.rules.specs.Rules.{instruction}
+use Rattle.rules.specs.Findings.{codeGroups, groups, limited, chunkFindings}
 use Rattle.rules.specs.declared.finding.Rule.{Rule}
 use Rattle.rules.specs.declared.finding.Rule.the-variants.{Opcode, Register, Constant, Upvalue, TableUpvalue, Prototype, Jump}
 use Rattle.rules.specs.declared.finding.Verdict.the-variants.{ValidForAnalysis, Invalid, Incomplete}
 use Rattle.finding_plan.specs.declared.FindingsAnswer.the-variants.{Ok, Err}
 use Rattle.boundary.specs.Status.{done, refuses}
-use Rattle.finding_list.specs.FindingNumbers.{findingNumbers, listNumbers, ofFindings}
+use Rattle.finding_list.specs.FindingNumbers.{findingNumbers, listNumbers, ofFindings, numbersWritten}
 
 -- a rule, and the numbers of a finding of instruction 9 of function 8
 findings : List (Rule × List ℕ)
@@ -41,3 +50,12 @@ list-holds = refl
 answers-hold : ofFindings (Ok ValidForAnalysis 3) ∷ ofFindings (Ok Invalid 4) ∷ ofFindings (Ok Incomplete 10001) ∷ ofFindings (Err LentSpace) ∷ []
     ≡ done (0 ∷ 3 ∷ []) ∷ done (1 ∷ 4 ∷ []) ∷ done (2 ∷ 10001 ∷ []) ∷ refuses LentSpace ∷ []
 answers-hold = refl
+
+-- one word, 00000053
+chunk : Bytes
+chunk = header ++ (0 ∷ 0x80 ∷ 0x80 ∷ 0x80 ∷ 0 ∷ 0 ∷ 2 ∷ 0x81 ∷ 0x53 ∷ 0 ∷ 0 ∷ 0 ∷ replicate 7 0x80)
+
+written-holds : map (λ (n : ℕ). numbersWritten (replicate n 77) (read ceilings chunk)) (8 ∷ 7 ∷ 4 ∷ 3 ∷ [])
+    ≡ (0 ∷ 0 ∷ 1 ∷ 83 ∷ replicate 4 77) ∷ (0 ∷ 0 ∷ 1 ∷ 83 ∷ replicate 3 77) ∷ (0 ∷ 0 ∷ 1 ∷ 83 ∷ []) ∷ replicate 3 77 ∷ []
+unfolding chunk listNumbers read body function chunkFindings groups codeGroups limited instruction decoded
+written-holds = refl
