@@ -1,3 +1,4 @@
 pub mod Calls
 pub mod Complement
 pub mod Numbers
+pub mod NumberCases

@@ -18,3 +18,4 @@ pub mod Demand3
 pub mod Nested
 pub mod EntriesAt
 pub mod ShownAt
+pub mod FindingCases

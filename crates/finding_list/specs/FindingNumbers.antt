@@ -9,6 +9,7 @@ use Rattle.lent.specs.Over.{over}
 use Rattle.rules.specs.declared.finding.Finding.{Finding}
 use Rattle.rules.specs.declared.finding.Rule.{Rule}
 use Rattle.rules.specs.declared.finding.Rule.the-variants.{Opcode, Register, Constant, Upvalue, TableUpvalue, Prototype, Jump}
+use Rattle.rules.specs.Rules.{offending}
 use Rattle.rules.specs.Findings.{chunkFindings}
 use Rattle.finding_plan.specs.declared.FindingsAnswer.{FindingsAnswer}
 use Rattle.finding_plan.specs.declared.FindingsAnswer.the-variants as answer
@@ -25,13 +26,7 @@ ruleNumber (Prototype n) = 6
 ruleNumber (Jump z) = 7
 
 abbrev pub offendingNumber : Rule → ℕ
-offendingNumber (Opcode n) = n
-offendingNumber (Register n) = n
-offendingNumber (Constant n) = n
-offendingNumber (Upvalue n) = n
-offendingNumber (TableUpvalue n) = n
-offendingNumber (Prototype n) = n
-offendingNumber (Jump z) = complement z
+offendingNumber rule = complement (offending rule)
 
 abbrev pub findingNumbers : Finding → List ℕ
 findingNumbers f = f .function ∷ f .pc ∷ ruleNumber (f .rule) ∷ offendingNumber (f .rule) ∷ []

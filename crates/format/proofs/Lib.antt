@@ -37,3 +37,9 @@ pub mod CopyFunctions
 pub mod KeptCopy
 pub mod CopyMain
 pub mod CopyChunk
+pub mod RefusalCases
+pub mod LimitCases
+pub mod Byte31
+pub mod Distinct
+pub mod Cuts
+pub mod ShortestCases

@@ -42,6 +42,8 @@ more =
     ∷ record { line-defined = 7; instructions = 1; deltas = 0x01 ∷ []; anchors = at 5 9 ∷ []; pc = 0; result = Ok 9 }
     ∷ record { line-defined = 7; instructions = 2; deltas = 0x01 ∷ []; anchors = at 5 9 ∷ []; pc = 0; result = Ok 8 }
     ∷ record { line-defined = 7; instructions = 2; deltas = []; anchors = at 0 9 ∷ []; pc = 0; result = Ok 0 }
+    -- as many anchors as instructions, and pc not among them: the deltas
+    ∷ record { line-defined = 7; instructions = 1; deltas = 0x01 ∷ []; anchors = at 5 9 ∷ []; pc = 1; result = Ok 8 }
     -- below 0 on the way; −128 without an anchor; of two anchors at a pc the first
     ∷ record { line-defined = 0; instructions = 2; deltas = 0xff ∷ 0x02 ∷ []; anchors = []; pc = 1; result = Ok 1 }
     ∷ record { line-defined = 7; instructions = 2; deltas = 0x80 ∷ 0x01 ∷ []; anchors = []; pc = 1; result = Ok 8 }
@@ -53,6 +55,7 @@ more =
     ∷ record { line-defined = 2 ^ 62 - 1; instructions = 1; deltas = 0x01 ∷ []; anchors = []; pc = 0; result = Ok (2 ^ 62) }
     ∷ record { line-defined = 2 ^ 62; instructions = 1; deltas = []; anchors = []; pc = 0; result = Err LineTooLarge }
     ∷ record { line-defined = 0; instructions = 3; deltas = []; anchors = at 0 0 ∷ at 9 (2 ^ 62) ∷ []; pc = 0; result = Err LineTooLarge }
+    ∷ record { line-defined = 0; instructions = 2; deltas = []; anchors = at 0 0 ∷ at 9 (2 ^ 62 - 1) ∷ []; pc = 1; result = Ok (2 ^ 62 - 1) }
     ∷ []
 
 abbrev line : Case → LineAnswer

@@ -56,6 +56,19 @@ parted-theirs : map (λ (c : Case). «luaG_getfuncline» (c .line-defined) (c .d
 unfolding parted
 parted-theirs = refl
 
+-- ## The estimate: anchor pc / MAXIWTHABS − 1 is where the search begins, though it may stand above the pc
+-- a first anchor at 0 and another one at a pc, which is sought; ldebug.c's line at the pc asked for
+abbrev estimated : ℕ → ℕ → ℤ
+estimated anchor pc = «luaG_getfuncline» 7 (replicate 512 0x00) (at 0 9 ∷ at anchor 30 ∷ []) pc
+
+-- At 255 it is the first anchor, at 256 the second: with 127 for MAXIWTHABS both would be the second, with 129 or more both the first. At 127 and 128 the first (64 or less would give the second).
+estimated-hold : estimated 257 127 ∷ estimated 257 128 ∷ estimated 257 255 ∷ estimated 257 256 ∷ [] ≡ pos 9 ∷ pos 9 ∷ pos 9 ∷ pos 30 ∷ []
+estimated-hold = refl
+
+-- Where the second stands at the pc asked for or just behind it, the search goes on to it or not.
+searched-hold : estimated 128 127 ∷ estimated 128 128 ∷ estimated 255 254 ∷ estimated 255 255 ∷ [] ≡ pos 9 ∷ pos 30 ∷ pos 9 ∷ pos 30 ∷ []
+searched-hold = refl
+
 -- ## A function that meets the premises: 01's, at each pc that has an instruction
 five : Bytes
 five = 0x01 ∷ 0x00 ∷ 0x02 ∷ 0x80 ∷ 0x01 ∷ []

@@ -1,4 +1,6 @@
 // What `chunklist` prints of a file: a line for the chunk and one for each of its functions, or a refusal.
+pub mod file;
+
 ghost use mathlib.Core.Path.{_≡_};
 ghost use Prim.Native.Nat.{_≤_, _<_};
 ghost use lib.ListN.{length};

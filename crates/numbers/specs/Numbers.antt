@@ -4,7 +4,9 @@ use mathlib.Core.List.{List, [], _∷_}
 use Prim.Native.Nat.{ℕ}
 use Rattle.header.specs.declared.OptionWarning.{OptionWarning}
 use Rattle.header.specs.declared.OptionWarning.the-variants as option
-use Rattle.format.specs.declared.header.Warning.the-variants as warning
+use Rattle.format.specs.declared.header.WarningCode.{WarningCode}
+use Rattle.format.specs.declared.header.WarningCode.the-variants.{L54Header003, L54Chunk001}
+use Rattle.format.specs.Warnings.{warned}
 use Rattle.reader.specs.declared.string.OptionString.{OptionString}
 use Rattle.reader.specs.declared.string.OptionString.the-variants as string
 use Rattle.decode.specs.declared.summary.Summary.{Summary}
@@ -46,15 +48,18 @@ use Rattle.validator.specs.declared.verdict.CountAnswer.the-variants as count
 use Rattle.boundary.specs.Status.{Answer, done, refuses, complement}
 
 -- 1: L54-HEADER-003, the format byte; 2: L54-CHUNK-001, trailing bytes
+abbrev pub codeNumber : WarningCode → ℕ
+codeNumber L54Header003 = 1
+codeNumber L54Chunk001 = 2
+
+-- of a warning as it is reported; where there is none, 0
 abbrev pub warningCode : OptionWarning → ℕ
 warningCode option.None = 0
-warningCode (option.Some (warning.NonStandardFormat at)) = 1
-warningCode (option.Some (warning.TrailingBytes at)) = 2
+warningCode (option.Some w) = codeNumber (warned w .code)
 
 abbrev pub warningPlace : OptionWarning → ℕ
 warningPlace option.None = 0
-warningPlace (option.Some (warning.NonStandardFormat at)) = at
-warningPlace (option.Some (warning.TrailingBytes at)) = at
+warningPlace (option.Some w) = warned w .place
 
 -- (`luac_int` is 22,136 in every chunk that is read)
 abbrev pub summaryNumbers : Summary → List ℕ

@@ -1,3 +1,4 @@
 pub mod Tests
 pub mod Variants
 pub mod Opcodes
+pub mod ModeCases

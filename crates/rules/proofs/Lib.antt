@@ -5,3 +5,4 @@ pub mod FewFindings
 pub mod Cases
 pub mod StopCases
 pub mod StopLaws
+pub mod RuleCases
