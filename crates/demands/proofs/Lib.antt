@@ -1,6 +1,11 @@
 pub mod Calls
 pub mod Written
 pub mod InOrder
+pub mod Causes
+pub mod Early
+pub mod Order
+pub mod Trap
+pub mod Backwards
 pub mod Refused
 pub mod Demand1
 pub mod Demand2
