@@ -385,7 +385,7 @@ early-body L exact one w =
     early-here λ instructions-at.
     early-then (exact-many size (exact-field 4)) (early-many size (exact-field 4) (early-field 4)) λ instructions.
     early-then (exact-countedUpTo (L .«max_constants_per_proto») q.Constants (exact-constant (L .«max_string_bytes»)))
-      (early-countedUpTo (L .«max_constants_per_proto») q.Constants (λ place. refl) (exact-constant (L .«max_string_bytes»)) (early-constant (L .«max_string_bytes»))) λ constants.
+    (early-countedUpTo (L .«max_constants_per_proto») q.Constants (λ place. refl) (exact-constant (L .«max_string_bytes»)) (early-constant (L .«max_string_bytes»))) λ constants.
     early-then (exact-countedUpTo (L .«max_upvalues_per_proto») q.Upvalues exact-upvalue) (early-countedUpTo (L .«max_upvalues_per_proto») q.Upvalues (λ place. refl) exact-upvalue early-upvalue) λ upvalues.
     early-numbered _ λ first protos.
     soon-test _ (leb protos (L .«max_total_prototypes»)) (q.Prototypes first) refl (
