@@ -6,6 +6,7 @@ pub mod Early
 pub mod Order
 pub mod Trap
 pub mod Backwards
+pub mod Numbers
 pub mod Refused
 pub mod Demand1
 pub mod Demand2
