@@ -11,6 +11,7 @@ use Prim.Native.Nat.{ℕ, _+_, _≤_, _<_}
 use native.Mathlib.Omega.{arith}
 use lib.Dec.{leb}
 use lib.ListN.{length}
+use Rattle.format.specs.declared.limits.ResourceLimits.{ResourceLimits}
 use Rattle.format.specs.declared.refusal.Refusal.{Refusal}
 use Rattle.format.specs.declared.refusal.Refusal.the-variants.{Truncated, Constants, Upvalues}
 use Rattle.format.specs.Pick.{pick}
@@ -38,14 +39,14 @@ backwards limit = do
 pub later-first : backwards 0 0 (0x81 ∷ 0 ∷ 0x81 ∷ 0 ∷ []) ≡ refused (Upvalues 2)
 later-first = refl
 
-pub not-backwards : InByteOrder (backwards 0) → ⊥
-not-backwards ordered = let d = ordered (0x81 ∷ 0 ∷ 0x81 ∷ 0 ∷ []) (Upvalues 2) refl in go (d .front) (d .rest) (d .whole) (d .already) (d .ends)
+pub not-backwards : (L : ResourceLimits) → InByteOrder L (backwards 0) → ⊥
+not-backwards L ordered = let d = ordered (0x81 ∷ 0 ∷ 0x81 ∷ 0 ∷ []) (Upvalues 2) refl in go (d .front) (d .rest) (d .whole) (d .already) (d .ends)
   where
     -- a shorter front is cut short
     cut : (front known : Bytes) (place : ℕ) → front ≡ known → backwards 0 0 known ≡ refused (Truncated place) → backwards 0 0 front ≡ refused (Upvalues 2) → ⊥
     cut front known place is t s = let both : backwards 0 0 known ≡ refused (Upvalues 2) = rw is at s in let z : _≡_ {A = ℕ} 0 1 = cc in omega arith
 
-    go : (front rest : Bytes) → 0x81 ∷ 0 ∷ 0x81 ∷ 0 ∷ [] ≡ front ++ rest → backwards 0 0 front ≡ refused (Upvalues 2) → LastNumber 2 0 front → ⊥
+    go : (front rest : Bytes) → 0x81 ∷ 0 ∷ 0x81 ∷ 0 ∷ [] ≡ front ++ rest → backwards 0 0 front ≡ refused (Upvalues 2) → LastNumber (λ v. L .«max_upvalues_per_proto» < v) 2 0 front → ⊥
     go [] rest e s l = let z : _≡_ {A = ℕ} 0 1 = cc in omega arith
     go (a ∷ []) rest e s l = let is : a ≡ 0x81 = cc in cut (a ∷ []) (0x81 ∷ []) 1 (rw is) refl s
     go (a ∷ b ∷ []) rest e s l = let is : a ≡ 0x81 = cc in let js : b ≡ 0 = cc in cut (a ∷ b ∷ []) (0x81 ∷ 0 ∷ []) 2 (rw (is, js)) refl s
@@ -67,8 +68,8 @@ latest limit = do
 pub later-instead : (latest 0 0 (0x81 ∷ []) ≡ refused (Constants 0)) × (latest 0 0 (0x81 ∷ 0x81 ∷ []) ≡ refused (Upvalues 1))
 later-instead = (refl, refl)
 
-pub not-the-latest : InByteOrder (latest 0) → ⊥
-not-the-latest ordered = let d = ordered (0x81 ∷ []) (Constants 0) refl in go (d .front) (d .rest) (d .whole) (d .already) (d .whatever (omega arith) (0x81 ∷ []))
+pub not-the-latest : (L : ResourceLimits) → InByteOrder L (latest 0) → ⊥
+not-the-latest L ordered = let d = ordered (0x81 ∷ []) (Constants 0) refl in go (d .front) (d .rest) (d .whole) (d .already) (d .whatever (omega arith) (0x81 ∷ []))
   where
     go : (front rest : Bytes) → 0x81 ∷ [] ≡ front ++ rest → latest 0 0 front ≡ refused (Constants 0) → latest 0 0 (front ++ 0x81 ∷ []) ≡ refused (Constants 0) → ⊥
     go [] rest e s t = let z : _≡_ {A = ℕ} 0 1 = cc in omega arith

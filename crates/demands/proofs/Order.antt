@@ -1,7 +1,7 @@
 -- 'In byte order', said of a reader, and proved of the reader of a chunk and of what every call begins with.
---     Decided r s p        the file s is refused with p for a cause (Causes.antt) that ends where its `front` ends: the front alone is refused so, whatever stands behind it unless bytes are missing (1, 2),
+--     Decided L r s p      the file s is refused with p for a cause (Causes.antt) that ends where its `front` ends: the front alone is refused so, whatever stands behind it unless bytes are missing (1, 2),
 --                          by a refusal of a file (1 to 20) whose place lies in the front or is its end
---     InByteOrder r        so it is with each refusal
+--     InByteOrder L r      so it is with each refusal
 --     in-byte-order        the reader of a chunk
 --     decided-early        the same of `read`, with which every call on a chunk begins: 21 and 22 first
 -- Readers that are not in byte order: Trap.antt, Backwards.antt.
@@ -28,19 +28,19 @@ use Rattle.demands.proofs.InOrder.{ByFile, Refuses, steady-main}
 use Rattle.demands.proofs.Causes.{causeOf, Ends}
 use Rattle.demands.proofs.Early.{early-main}
 
-pub record Decided {A : Type 0} (r : Reader A) (s : Bytes) (p : Refusal) : Type 0 where
+pub record Decided {A : Type 0} (L : ResourceLimits) (r : Reader A) (s : Bytes) (p : Refusal) : Type 0 where
   pub front : Bytes
   pub rest : Bytes
   pub whole : s ≡ front ++ rest
-  pub ends : Ends (causeOf p) 0 front
+  pub ends : Ends (causeOf L p) 0 front
   pub by-file : ByFile (length front) p
   pub already : r 0 front ≡ refused p
   pub whatever : 2 < reported p .number → (t : Bytes) → r 0 (front ++ t) ≡ refused p
 
-abbrev pub InByteOrder : {A : Type 0} → Reader A → Type 0
-InByteOrder r = (s : Bytes) (p : Refusal) → r 0 s ≡ refused p → Decided r s p
+abbrev pub InByteOrder : {A : Type 0} → ResourceLimits → Reader A → Type 0
+InByteOrder L r = (s : Bytes) (p : Refusal) → r 0 s ≡ refused p → Decided L r s p
 
-pub in-byte-order : (L : ResourceLimits) → InByteOrder (main L)
+pub in-byte-order : (L : ResourceLimits) → InByteOrder L (main L)
 in-byte-order L s p e = let c = early-main L .cut 0 s p e in record {
   front = c .front;
   rest = c .rest;
@@ -59,7 +59,7 @@ pub record DecidedEarly (L : ResourceLimits) (s : Bytes) (p : Refusal) : Type 0 
   pub front : Bytes
   pub rest : Bytes
   pub whole : s ≡ front ++ rest
-  pub ends : Ends (causeOf p) 0 front
+  pub ends : Ends (causeOf L p) 0 front
   pub by-file : ByFile (length front) p
   pub already : read L front ≡ refusal p
   pub whatever : 2 < reported p .number → (t : Bytes) → length (front ++ t) ≤ L .«max_input_bytes» → read L (front ++ t) ≡ refusal p
@@ -77,7 +77,7 @@ module _ (L : ResourceLimits) (within : withinCeilings L ≡ true) where
   pub decided-early : (s : Bytes) (p : Refusal) → length s ≤ L .«max_input_bytes» → read L s ≡ refusal p → DecidedEarly L s p
   decided-early s p short e = of (in-byte-order L s p (by-refusal p (main L 0 s) (sym (by-main s short) ∙ e)))
     where
-      of : Decided (main L) s p → DecidedEarly L s p
+      of : Decided L (main L) s p → DecidedEarly L s p
       of d =
           let less : length (d .front) ≤ L .«max_input_bytes» = omega (arith, ap length (d .whole), length-append (d .front) (d .rest)) in
           record {

@@ -6,10 +6,11 @@ use mathlib.Core.Path.{_≡_, refl, sym, _∙_, ap}
 use mathlib.Core.Bool.{Bool, true, false}
 use mathlib.Core.List.{List, [], _∷_, _++_}
 use mathlib.Core.Logic.{_↔_}
-use Prim.Native.Nat.{ℕ, _+_, _≤_}
+use Prim.Native.Nat.{ℕ, _+_, _≤_, _<_}
 use native.Mathlib.Omega.{arith}
 use lib.Dec.{leb}
 use lib.ListN.{length}
+use Rattle.format.specs.declared.limits.ResourceLimits.{ResourceLimits}
 use Rattle.format.specs.declared.refusal.Refusal.{Refusal}
 use Rattle.format.specs.declared.refusal.Refusal.the-variants as q
 use Rattle.format.specs.Form.{Bytes, Below}
@@ -75,10 +76,10 @@ at-once [] (b ∷ before) x y spelling place v e l big n = omega arith
 at-once (c ∷ a) [] x y spelling place v e l big n = omega arith
 at-once (c ∷ a) (b ∷ before) x y spelling place v e l big n = let on : a ++ x ∷ y ∷ [] ≡ before ++ spelling = cc in at-once a before x y spelling place v on (omega arith) big n
 
-pub not-the-trap : InByteOrder (late 0 q.Constants byte) → ⊥
-not-the-trap ordered = let d = ordered (0x81 ∷ 0 ∷ []) (q.Constants 0) refl in go (d .front) (d .rest) (d .whole) (d .already) (d .ends)
+pub not-the-trap : (L : ResourceLimits) → InByteOrder L (late 0 q.Constants byte) → ⊥
+not-the-trap L ordered = let d = ordered (0x81 ∷ 0 ∷ []) (q.Constants 0) refl in go (d .front) (d .rest) (d .whole) (d .already) (d .ends)
   where
-    go : (front rest : Bytes) → 0x81 ∷ 0 ∷ [] ≡ front ++ rest → late 0 q.Constants byte 0 front ≡ refused (q.Constants 0) → LastNumber 0 0 front → ⊥
+    go : (front rest : Bytes) → 0x81 ∷ 0 ∷ [] ≡ front ++ rest → late 0 q.Constants byte 0 front ≡ refused (q.Constants 0) → LastNumber (λ v. L .«max_constants_per_proto» < v) 0 0 front → ⊥
     go [] rest e s l = let z : _≡_ {A = ℕ} 0 1 = cc in omega arith
     go (a ∷ []) rest e s l = let is : a ≡ 0x81 = cc in let t : late 0 q.Constants byte 0 (0x81 ∷ []) ≡ refused (q.Constants 0) = rw is at s in let z : _≡_ {A = ℕ} 0 1 = cc in omega arith
     go (a ∷ b ∷ []) rest e s l = let is : 0x81 ≡ a = cc in let begins = l .begins in at-once [] (l .before) a b (l .spelling) 0 (l .value) (l .whole) (omega arith) (omega arith) (l .is)
