@@ -8,6 +8,7 @@ pub mod Trap
 pub mod Backwards
 pub mod Numbers
 pub mod Refused
+pub mod AtOneByte
 pub mod Demand1
 pub mod Demand2
 pub mod Demand3

@@ -17,6 +17,7 @@ pub mod LundumpChunk
 pub mod LundumpCase
 pub mod Cases
 pub mod ChunkCases
+pub mod OrderCases
 pub mod Below
 pub mod Build
 pub mod FieldBytes
