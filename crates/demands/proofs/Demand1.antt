@@ -87,7 +87,7 @@ places L s q = go (withinCeilings L) refl (leb (length s) (L .«max_input_bytes�
 
 -- ## The order, in general
 -- what comes of conditions behind the chunk's
-abbrev after : Outcome → (Reading → List (Option Report)) → Option Report
+abbrev pub after : Outcome → (Reading → List (Option Report)) → Option Report
 after (shown r) later = first (later r)
 after (refusal q) later = some (reported q)
 
@@ -117,7 +117,7 @@ module _ (L : ResourceLimits) (s : Bytes) where
     by-tests true false m = refl
     by-tests false short m = refl
 
-    order : after (read L s) later ≡ first (ofChunk L s (andThen (read L s) later))
+    pub order : after (read L s) later ≡ first (ofChunk L s (andThen (read L s) later))
     unfolding read
     order = by-tests (withinCeilings L) (leb (length s) (L .«max_input_bytes»)) (main L 0 s)
 

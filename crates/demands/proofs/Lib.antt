@@ -10,5 +10,6 @@ pub mod Numbers
 pub mod Refused
 pub mod AtOneByte
 pub mod Demand1
+pub mod Accepted
 pub mod Demand2
 pub mod Demand3
