@@ -16,9 +16,9 @@ extern "C" {
 #endif
 
 /* Of a refusal: its number, 1 to 28; whether it has a place; the place. (A place of 2^32 or more is left out: only a part asked for at such a place can have one.) */
-#define LAFZIMDO_NUMBER(r) ((unsigned)((r) & 31))
-#define LAFZIMDO_HAS_PLACE(r) (((r) >> 5) != 0)
-#define LAFZIMDO_PLACE(r) (((r) >> 5) - 1)
+#define LAFZIMDO_NUMBER(r) ((unsigned)((r) & 255))
+#define LAFZIMDO_HAS_PLACE(r) (((r) >> 8) != 0)
+#define LAFZIMDO_PLACE(r) (((r) >> 8) - 1)
 
 /* The limits, in this order: input bytes, nesting depth, prototypes in all, instructions of a prototype, instructions in all, constants of a prototype,
  * upvalues of a prototype, bytes of a string, diagnostics. Above a ceiling is refusal 21. */
@@ -83,7 +83,7 @@ uint64_t lafzimdo_decode(uint32_t word, uint64_t out[12]);
 uint64_t lafzimdo_encode(uint8_t op, uint8_t a, uint8_t k, uint8_t b, uint8_t c, uint32_t bx, int32_t sbx, uint32_t ax, int32_t sj, uint64_t out[1]);
 
 /* Parts at a place. The calls above take a pass over the chunk each; these take none, and cost what the part costs. They are for going on, in a chunk that was read, from a place that the
- * index or another part gave. 21 and 22 are not asked; a string, a list's count and the instructions of this one function are held against their limits, totals of the chunk are not counted.
+ * index or another part gave. 21 and 22 are tested first, as everywhere; a string, a list's count and the instructions of this one function are held against their limits, totals of the chunk are not counted.
  * At a place where no such part begins, the answer is what those bytes spell; at or behind the end of the chunk there are none. Each also gives the place behind the part. */
 
 /* the function that begins at `place`, up to the functions that nest in it: whether there is a source, its place, its length; first line, last line; parameters, vararg, stack;

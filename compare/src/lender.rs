@@ -65,7 +65,7 @@ pub struct Lender {
 /// As a call returns it. A place of 2^32 or more, which only a call at such a place can have, is left out.
 pub fn coded(refusal: Refusal) -> u64 {
     let place = refusal.place.filter(|place| *place < 1 << 32);
-    u64::from(refusal.number) + place.map_or(0, |place| 32 * (place as u64 + 1))
+    u64::from(refusal.number) + place.map_or(0, |place| 256 * (place as u64 + 1))
 }
 
 impl Lender {
@@ -137,7 +137,7 @@ impl Lender {
         match alteration.way {
             Way::Number(i) if answers => out[i] ^= 1,
             Way::Refusal if !answers => *code ^= 1,
-            Way::Place if *code >= 32 => *code += 32,
+            Way::Place if *code >= 256 => *code += 256,
             Way::Behind if answers => out[N] ^= 1,
             Way::OnRefusal if !answers => out[0] ^= 1,
             Way::FirstItem if answers && items > 0 => item(space, 0),
@@ -164,7 +164,7 @@ impl<const N: usize> std::fmt::Debug for Shown<N> {
     fn fmt(&self, out: &mut std::fmt::Formatter) -> std::fmt::Result {
         match self.0 {
             Ok(numbers) => write!(out, "{numbers:?}"),
-            Err(code) if code >= 32 => write!(out, "refused {} {}", code % 32, code / 32 - 1),
+            Err(code) if code >= 256 => write!(out, "refused {} {}", code % 256, code / 256 - 1),
             Err(code) => write!(out, "refused {code} -"),
         }
     }

@@ -1,5 +1,6 @@
 // Parts of a chunk at a place, read by the Rust's own reader: what it has behind the cursor, and where. The tests and their order are chunk.rs's, with the
 // function alone in the total of instructions.
+use crate::limits::admitted;
 use crate::refusals::Refusal;
 use luad_core::diagnostic::Diagnostic;
 use luad_core::limits::{ParseMode, ResourceLimits};
@@ -44,8 +45,9 @@ fn refused(diagnostic: Diagnostic) -> Refusal {
 }
 
 impl<'a> Parts<'a> {
-    /// Behind the end there is nothing to read: cut short there.
+    /// 21 and 22 come first. Behind the end there is nothing to read: cut short there.
     pub fn at(chunk: &'a [u8], limits: &'a ResourceLimits, place: usize) -> Result<Parts<'a>, Refusal> {
+        admitted(limits, chunk)?;
         let mut reader = SafeReader::with_options(chunk, 0, limits.clone(), ParseMode::Strict);
         match reader.read_exact(place) {
             Ok(_) => Ok(Parts { reader, limits }),

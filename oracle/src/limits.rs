@@ -9,14 +9,20 @@ pub const NESTING_CEILING: usize = 200;
 pub const DIAGNOSTICS_CEILING: usize = 10_000;
 pub const CEILING: usize = 16_777_216;
 
-/// The chunk that these bytes spell, or the first refusal of 21, 22 and 1 to 20.
-pub fn read(limits: &ResourceLimits, bytes: &[u8]) -> Result<Chunk, Refusal> {
+/// What every call on a chunk tests first: 21, then 22.
+pub fn admitted(limits: &ResourceLimits, bytes: &[u8]) -> Result<(), Refusal> {
     if !within_ceilings(limits) {
         return Err(Refusal::without_place(21));
     }
     if bytes.len() > limits.max_input_bytes {
         return Err(Refusal::without_place(22));
     }
+    Ok(())
+}
+
+/// The chunk that these bytes spell, or the first refusal of 21, 22 and 1 to 20.
+pub fn read(limits: &ResourceLimits, bytes: &[u8]) -> Result<Chunk, Refusal> {
+    admitted(limits, bytes)?;
     let mut reader = SafeReader::with_options(bytes, 0, limits.clone(), ParseMode::Strict);
     decode_chunk_lua54(&mut reader).map_err(|diagnostic| Refusal::of(&diagnostic))
 }

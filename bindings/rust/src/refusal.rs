@@ -91,12 +91,12 @@ impl Refusal {
         }
     }
 
-    /// What a call of the library returned: 0, or a refusal's number and, above its five bits, the place and one.
+    /// What a call of the library returned: 0, or a refusal's number and, above its eight bits, the place and one.
     pub(crate) fn of_status(status: u64) -> Result<(), Refusal> {
         if status == 0 {
             return Ok(());
         }
-        Err(Refusal::of_number((status & 31) as u8, (status >> 5).saturating_sub(1) as usize))
+        Err(Refusal::of_number((status & 255) as u8, (status >> 8).saturating_sub(1) as usize))
     }
 }
 
@@ -125,7 +125,7 @@ mod tests {
         assert_eq!(Refusal::of_status(0), Ok(()));
         for number in 1..=28 {
             let without = refusal(number);
-            let with = refusal(number + 32 * 46);
+            let with = refusal(number + 256 * 46);
             assert_eq!((u64::from(without.number()), u64::from(with.number())), (number, number));
             let has_place = !matches!(number, 2 | 3 | 21..=28);
             assert_eq!(with.place(), has_place.then_some(45), "{number}");
@@ -134,7 +134,7 @@ mod tests {
 
     #[test]
     fn shown() {
-        assert_eq!(refusal(1 + 32 * 46).to_string(), "refused 1 at 45: the file is cut short (CORE-TRUNC-001)");
+        assert_eq!(refusal(1 + 256 * 46).to_string(), "refused 1 at 45: the file is cut short (CORE-TRUNC-001)");
         assert_eq!(refusal(22).to_string(), "refused 22: the file is longer than max_input_bytes");
     }
 
@@ -145,7 +145,7 @@ mod tests {
         let (_, list) = list.split_once("pub enum Refusal {").unwrap();
         let (list, _) = list.split_once('}').unwrap();
         let names = list.lines().map(str::trim).filter(|line| !line.is_empty() && !line.starts_with("//"));
-        let ours = (1..=28).map(|number| format!("{:?},", refusal(number + 32)).replace("(0)", "(usize)"));
+        let ours = (1..=28).map(|number| format!("{:?},", refusal(number + 256)).replace("(0)", "(usize)"));
         assert_eq!(names.collect::<Vec<_>>(), ours.collect::<Vec<_>>());
     }
 }

@@ -1,6 +1,6 @@
 -- Limits, refusals and answers as C sees them: numbers.
 --     limitsOf l           the nine limits, in the order of `ResourceLimits`
---     coded q              a refusal: 01's number in the low five bits; above them the place and one, or 0 where there is no place. (A place of 2^32 or more would be left out. A refusal of a chunk has none: crates/demands/proofs/Demand1.antt, `places`. A part asked for at such a place can have one.)
+--     coded q              a refusal: 01's number in the low eight bits; above them the place and one, or 0 where there is no place. (A place of 2^32 or more would be left out. A refusal of a chunk has none: crates/demands/proofs/Demand1.antt, `places`. A part asked for at such a place can have one.)
 --     status a             what a call returns: 0, or the refusal
 --     written a old        what then stands in the array that held `old`
 --     complement z         a signed number in 64 bits
@@ -33,7 +33,7 @@ limitsOf l = record {
 
 abbrev pub withPlace : ℕ → Place → ℕ
 withPlace n place.None = n
-withPlace n (place.At at) = pick (leb (2 ^ 32) at) n (n + 32 * (at + 1))
+withPlace n (place.At at) = pick (leb (2 ^ 32) at) n (n + 256 * (at + 1))
 
 abbrev pub coded : Refusal → ℕ
 coded q = withPlace (reported q .number) (reported q .place)

@@ -35,7 +35,7 @@ fn with_place(number: u32, place: Place) -> u64
             if 4294967296 <= at {
                 return number as u64;
             }
-            number as u64 + 32 * (at as u64 + 1)
+            number as u64 + 256 * (at as u64 + 1)
         }
     }
 }

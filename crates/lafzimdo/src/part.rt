@@ -1,4 +1,4 @@
-// Parts at a place: no pass over the chunk, each costs what its part costs. What each answers is in specs/PartNumbers.antt of crate parts_at.
+// Parts at a place: each tests 21 and 22 first, takes no pass over the chunk, and costs what its part costs. What each answers is in specs/PartNumbers.antt of crate parts_at.
 ghost use mathlib.Core.Path.{_≡_};
 ghost use Rattle.boundary.specs.Status.{status, written};
 ghost use Rattle.parts_at.specs.PartNumbers.{headAt, tailAt, wordAt, constantAt, upvalueAt, deltaAt, anchorAt, localAt, stringAt};
@@ -44,14 +44,14 @@ pub extern "C" fn lafzimdo_tail_at(
 #[no_mangle]
 pub extern "C" fn lafzimdo_word_at(
     chunk: &[u8],
-    _limits: &[u64; 9],
+    limits: &[u64; 9],
     place: usize,
     out: &mut [u64; 2],
 ) -> u64
-    ensures { λ r. ⌜ r ≡ status (wordAt place (now (chunk .entry))) ⌝ }
-    ensures { λ _. ⌜ now (out .exit) ≡ written (wordAt place (now (chunk .entry))) (now (out .entry)) ⌝ }
+    ensures { λ r. ⌜ r ≡ status (wordAt (now (limits .entry)) place (now (chunk .entry))) ⌝ }
+    ensures { λ _. ⌜ now (out .exit) ≡ written (wordAt (now (limits .entry)) place (now (chunk .entry))) (now (out .entry)) ⌝ }
 {
-    word_at(chunk, place, out)
+    word_at(chunk, limits, place, out)
 }
 
 // Ruled out: a short string shown as a long one, a string above its limit.
@@ -72,42 +72,42 @@ pub extern "C" fn lafzimdo_constant_at(
 #[no_mangle]
 pub extern "C" fn lafzimdo_upvalue_at(
     chunk: &[u8],
-    _limits: &[u64; 9],
+    limits: &[u64; 9],
     place: usize,
     out: &mut [u64; 4],
 ) -> u64
-    ensures { λ r. ⌜ r ≡ status (upvalueAt place (now (chunk .entry))) ⌝ }
-    ensures { λ _. ⌜ now (out .exit) ≡ written (upvalueAt place (now (chunk .entry))) (now (out .entry)) ⌝ }
+    ensures { λ r. ⌜ r ≡ status (upvalueAt (now (limits .entry)) place (now (chunk .entry))) ⌝ }
+    ensures { λ _. ⌜ now (out .exit) ≡ written (upvalueAt (now (limits .entry)) place (now (chunk .entry))) (now (out .entry)) ⌝ }
 {
-    upvalue_at(chunk, place, out)
+    upvalue_at(chunk, limits, place, out)
 }
 
 // Ruled out: a byte from 128 up shown as it stands.
 #[no_mangle]
 pub extern "C" fn lafzimdo_delta_at(
     chunk: &[u8],
-    _limits: &[u64; 9],
+    limits: &[u64; 9],
     place: usize,
     out: &mut [u64; 2],
 ) -> u64
-    ensures { λ r. ⌜ r ≡ status (deltaAt place (now (chunk .entry))) ⌝ }
-    ensures { λ _. ⌜ now (out .exit) ≡ written (deltaAt place (now (chunk .entry))) (now (out .entry)) ⌝ }
+    ensures { λ r. ⌜ r ≡ status (deltaAt (now (limits .entry)) place (now (chunk .entry))) ⌝ }
+    ensures { λ _. ⌜ now (out .exit) ≡ written (deltaAt (now (limits .entry)) place (now (chunk .entry))) (now (out .entry)) ⌝ }
 {
-    delta_at(chunk, place, out)
+    delta_at(chunk, limits, place, out)
 }
 
 // Ruled out: pc and line exchanged, the place behind pc given as the one behind.
 #[no_mangle]
 pub extern "C" fn lafzimdo_anchor_at(
     chunk: &[u8],
-    _limits: &[u64; 9],
+    limits: &[u64; 9],
     place: usize,
     out: &mut [u64; 3],
 ) -> u64
-    ensures { λ r. ⌜ r ≡ status (anchorAt place (now (chunk .entry))) ⌝ }
-    ensures { λ _. ⌜ now (out .exit) ≡ written (anchorAt place (now (chunk .entry))) (now (out .entry)) ⌝ }
+    ensures { λ r. ⌜ r ≡ status (anchorAt (now (limits .entry)) place (now (chunk .entry))) ⌝ }
+    ensures { λ _. ⌜ now (out .exit) ≡ written (anchorAt (now (limits .entry)) place (now (chunk .entry))) (now (out .entry)) ⌝ }
 {
-    anchor_at(chunk, place, out)
+    anchor_at(chunk, limits, place, out)
 }
 
 // With its name as it is spelt. Ruled out: an absent name shown as an empty one, startpc and endpc exchanged.

@@ -1,10 +1,12 @@
 -- What is answered of a part that is read at a place: its numbers, and the place behind it.
+--     admitted limits chunk a                          the answer a behind 21 and 22, which every call tests first
 --     headAt limits place chunk, tailAt ..             a function before and behind the functions that nest in it
---     wordAt place chunk, constantAt limits place ..   an entry
+--     wordAt limits place chunk, constantAt ..         an entry
 -- Bytes before the place are not looked at. `head` counts the instructions of the functions before; here there are none.
 use mathlib.Core.List.{List, [], _∷_, _++_}
 use Prim.Native.Nat.{ℕ}
-use lib.ListN.{drop}
+use lib.Dec.{leb}
+use lib.ListN.{length, drop}
 use mir.Syntax.{w8}
 use mir.Val.{toZ}
 use Rattle.reader.specs.declared.field.U8Result.{U8Result}
@@ -28,7 +30,11 @@ use Rattle.prototype.specs.declared.parts.HeadResult.the-variants as head
 use Rattle.prototype.specs.declared.parts.Tail.{Tail}
 use Rattle.prototype.specs.declared.parts.TailResult.{TailResult}
 use Rattle.prototype.specs.declared.parts.TailResult.the-variants as tail
+use Rattle.format.specs.declared.limits.ResourceLimits.{ResourceLimits}
+use Rattle.format.specs.declared.refusal.Refusal.the-variants.{LimitAboveCeiling, InputBytes}
+use Rattle.format.specs.Pick.{pick}
 use Rattle.format.specs.Form.{Bytes}
+use Rattle.format.specs.Limits.{withinCeilings}
 use Rattle.format.specs.ReadFields as fields
 use Rattle.format.specs.ReadChunk as chunk
 use Rattle.reader.specs.Shown.{shownU8, shownU32, shownString}
@@ -126,29 +132,33 @@ ofStringAt (string.Ok t to) = done (upTo (stringNumbers t) (to .at))
 ofStringAt (string.Err q) = refuses q
 
 -- ## What each call answers
+-- 21 where a limit is above its ceiling, else 22 where the chunk is longer than the input limit, else the answer (01, 'Order'; `read` of crates/format/specs/ReadChunk.antt begins so)
+abbrev pub admitted : ResourceLimits → Bytes → Answer → Answer
+admitted l s a = pick (withinCeilings l) (pick (leb (length s) (l .«max_input_bytes»)) a (refuses InputBytes)) (refuses LimitAboveCeiling)
+
 abbrev pub headAt : List ℕ → ℕ → Bytes → Answer
-headAt limits place s = ofHead (shownHead (parts.head (limitsOf limits) 0 place (drop place s)))
+headAt limits place s = admitted (limitsOf limits) s (ofHead (shownHead (parts.head (limitsOf limits) 0 place (drop place s))))
 
 abbrev pub tailAt : List ℕ → ℕ → Bytes → Answer
-tailAt limits place s = ofTail (shownTail (parts.tail (limitsOf limits .«max_string_bytes») place (drop place s)))
+tailAt limits place s = admitted (limitsOf limits) s (ofTail (shownTail (parts.tail (limitsOf limits .«max_string_bytes») place (drop place s))))
 
-abbrev pub wordAt : ℕ → Bytes → Answer
-wordAt place s = ofWordAt (shownU32 (fields.field 4 place (drop place s)))
+abbrev pub wordAt : List ℕ → ℕ → Bytes → Answer
+wordAt limits place s = admitted (limitsOf limits) s (ofWordAt (shownU32 (fields.field 4 place (drop place s))))
 
 abbrev pub constantAt : List ℕ → ℕ → Bytes → Answer
-constantAt limits place s = ofConstantAt (shownConstant (chunk.constant (limitsOf limits .«max_string_bytes») place (drop place s)))
+constantAt limits place s = admitted (limitsOf limits) s (ofConstantAt (shownConstant (chunk.constant (limitsOf limits .«max_string_bytes») place (drop place s))))
 
-abbrev pub upvalueAt : ℕ → Bytes → Answer
-upvalueAt place s = ofUpvalueAt (shownUpvalue (chunk.upvalue place (drop place s)))
+abbrev pub upvalueAt : List ℕ → ℕ → Bytes → Answer
+upvalueAt limits place s = admitted (limitsOf limits) s (ofUpvalueAt (shownUpvalue (chunk.upvalue place (drop place s))))
 
-abbrev pub deltaAt : ℕ → Bytes → Answer
-deltaAt place s = ofDeltaAt (shownU8 (fields.field 1 place (drop place s)))
+abbrev pub deltaAt : List ℕ → ℕ → Bytes → Answer
+deltaAt limits place s = admitted (limitsOf limits) s (ofDeltaAt (shownU8 (fields.field 1 place (drop place s))))
 
-abbrev pub anchorAt : ℕ → Bytes → Answer
-anchorAt place s = ofAnchorAt (shownAnchor (chunk.anchor place (drop place s)))
+abbrev pub anchorAt : List ℕ → ℕ → Bytes → Answer
+anchorAt limits place s = admitted (limitsOf limits) s (ofAnchorAt (shownAnchor (chunk.anchor place (drop place s))))
 
 abbrev pub localAt : List ℕ → ℕ → Bytes → Answer
-localAt limits place s = ofLocalAt (shownLocal (rawLocal (limitsOf limits .«max_string_bytes») place (drop place s)))
+localAt limits place s = admitted (limitsOf limits) s (ofLocalAt (shownLocal (rawLocal (limitsOf limits .«max_string_bytes») place (drop place s))))
 
 abbrev pub stringAt : List ℕ → ℕ → Bytes → Answer
-stringAt limits place s = ofStringAt (shownString (fields.string (limitsOf limits .«max_string_bytes») place (drop place s)))
+stringAt limits place s = admitted (limitsOf limits) s (ofStringAt (shownString (fields.string (limitsOf limits .«max_string_bytes») place (drop place s))))

@@ -2,6 +2,7 @@
 ghost use mathlib.Core.Path.{_≡_};
 ghost use Rattle.boundary.specs.Status.{status, written};
 ghost use Rattle.parts_at.specs.PartNumbers.{upTo, deltaNumber, localNumbersAt, wordAt, constantAt, upvalueAt, deltaAt, anchorAt, localAt, stringAt};
+use crate::tested;
 use boundary::limits_of;
 use boundary::refused;
 use boundary::two;
@@ -43,10 +44,14 @@ fn up_to_three(n: [u64; 3], to: usize) -> [u64; 4]
 }
 
 // The word. Ruled out: high byte first, the place of the word itself given as the one behind.
-pub fn word_at(chunk: &[u8], place: usize, out: &mut [u64; 2]) -> u64
-    ensures { λ r. ⌜ r ≡ status (wordAt place (now (chunk .entry))) ⌝ }
-    ensures { λ _. ⌜ now (out .exit) ≡ written (wordAt place (now (chunk .entry))) (now (out .entry)) ⌝ }
+pub fn word_at(chunk: &[u8], limits: &[u64; 9], place: usize, out: &mut [u64; 2]) -> u64
+    ensures { λ r. ⌜ r ≡ status (wordAt (now (limits .entry)) place (now (chunk .entry))) ⌝ }
+    ensures { λ _. ⌜ now (out .exit) ≡ written (wordAt (now (limits .entry)) place (now (chunk .entry))) (now (out .entry)) ⌝ }
 {
+    let refusal = tested(chunk, limits);
+    if 0 < refusal {
+        return refusal;
+    }
     let answer = read_u32_le(chunk, Cursor { at: place });
     match answer {
         U32Result::Err(q) => refused(q),
@@ -62,6 +67,10 @@ pub fn constant_at(chunk: &[u8], limits: &[u64; 9], place: usize, out: &mut [u64
     ensures { λ r. ⌜ r ≡ status (constantAt (now (limits .entry)) place (now (chunk .entry))) ⌝ }
     ensures { λ _. ⌜ now (out .exit) ≡ written (constantAt (now (limits .entry)) place (now (chunk .entry))) (now (out .entry)) ⌝ }
 {
+    let refusal = tested(chunk, limits);
+    if 0 < refusal {
+        return refusal;
+    }
     let l = limits_of(limits);
     let answer = read_constant(chunk, Cursor { at: place }, l.max_string_bytes);
     match answer {
@@ -74,10 +83,14 @@ pub fn constant_at(chunk: &[u8], limits: &[u64; 9], place: usize, out: &mut [u64
 }
 
 // Ruled out: instack and idx exchanged, two bytes an upvalue.
-pub fn upvalue_at(chunk: &[u8], place: usize, out: &mut [u64; 4]) -> u64
-    ensures { λ r. ⌜ r ≡ status (upvalueAt place (now (chunk .entry))) ⌝ }
-    ensures { λ _. ⌜ now (out .exit) ≡ written (upvalueAt place (now (chunk .entry))) (now (out .entry)) ⌝ }
+pub fn upvalue_at(chunk: &[u8], limits: &[u64; 9], place: usize, out: &mut [u64; 4]) -> u64
+    ensures { λ r. ⌜ r ≡ status (upvalueAt (now (limits .entry)) place (now (chunk .entry))) ⌝ }
+    ensures { λ _. ⌜ now (out .exit) ≡ written (upvalueAt (now (limits .entry)) place (now (chunk .entry))) (now (out .entry)) ⌝ }
 {
+    let refusal = tested(chunk, limits);
+    if 0 < refusal {
+        return refusal;
+    }
     let answer = read_upvalue(chunk, Cursor { at: place });
     match answer {
         UpvalueResult::Err(q) => refused(q),
@@ -99,10 +112,14 @@ fn delta_number(byte: u8) -> u64
 }
 
 // Ruled out: a byte from 128 up shown as it stands.
-pub fn delta_at(chunk: &[u8], place: usize, out: &mut [u64; 2]) -> u64
-    ensures { λ r. ⌜ r ≡ status (deltaAt place (now (chunk .entry))) ⌝ }
-    ensures { λ _. ⌜ now (out .exit) ≡ written (deltaAt place (now (chunk .entry))) (now (out .entry)) ⌝ }
+pub fn delta_at(chunk: &[u8], limits: &[u64; 9], place: usize, out: &mut [u64; 2]) -> u64
+    ensures { λ r. ⌜ r ≡ status (deltaAt (now (limits .entry)) place (now (chunk .entry))) ⌝ }
+    ensures { λ _. ⌜ now (out .exit) ≡ written (deltaAt (now (limits .entry)) place (now (chunk .entry))) (now (out .entry)) ⌝ }
 {
+    let refusal = tested(chunk, limits);
+    if 0 < refusal {
+        return refusal;
+    }
     let answer = read_u8(chunk, Cursor { at: place });
     match answer {
         U8Result::Err(q) => refused(q),
@@ -114,10 +131,14 @@ pub fn delta_at(chunk: &[u8], place: usize, out: &mut [u64; 2]) -> u64
 }
 
 // Ruled out: pc and line exchanged, the place behind pc given as the one behind.
-pub fn anchor_at(chunk: &[u8], place: usize, out: &mut [u64; 3]) -> u64
-    ensures { λ r. ⌜ r ≡ status (anchorAt place (now (chunk .entry))) ⌝ }
-    ensures { λ _. ⌜ now (out .exit) ≡ written (anchorAt place (now (chunk .entry))) (now (out .entry)) ⌝ }
+pub fn anchor_at(chunk: &[u8], limits: &[u64; 9], place: usize, out: &mut [u64; 3]) -> u64
+    ensures { λ r. ⌜ r ≡ status (anchorAt (now (limits .entry)) place (now (chunk .entry))) ⌝ }
+    ensures { λ _. ⌜ now (out .exit) ≡ written (anchorAt (now (limits .entry)) place (now (chunk .entry))) (now (out .entry)) ⌝ }
 {
+    let refusal = tested(chunk, limits);
+    if 0 < refusal {
+        return refusal;
+    }
     let answer = read_anchor(chunk, Cursor { at: place });
     match answer {
         AnchorResult::Err(q) => refused(q),
@@ -146,6 +167,10 @@ pub fn local_at(chunk: &[u8], limits: &[u64; 9], place: usize, out: &mut [u64; 6
     ensures { λ r. ⌜ r ≡ status (localAt (now (limits .entry)) place (now (chunk .entry))) ⌝ }
     ensures { λ _. ⌜ now (out .exit) ≡ written (localAt (now (limits .entry)) place (now (chunk .entry))) (now (out .entry)) ⌝ }
 {
+    let refusal = tested(chunk, limits);
+    if 0 < refusal {
+        return refusal;
+    }
     let l = limits_of(limits);
     let answer = read_local(chunk, Cursor { at: place }, l.max_string_bytes);
     match answer {
@@ -167,6 +192,10 @@ pub fn string_at(chunk: &[u8], limits: &[u64; 9], place: usize, out: &mut [u64; 
     ensures { λ r. ⌜ r ≡ status (stringAt (now (limits .entry)) place (now (chunk .entry))) ⌝ }
     ensures { λ _. ⌜ now (out .exit) ≡ written (stringAt (now (limits .entry)) place (now (chunk .entry))) (now (out .entry)) ⌝ }
 {
+    let refusal = tested(chunk, limits);
+    if 0 < refusal {
+        return refusal;
+    }
     let l = limits_of(limits);
     let answer = read_string_lua54(chunk, Cursor { at: place }, l.max_string_bytes);
     match answer {

@@ -2,6 +2,7 @@
 ghost use mathlib.Core.Path.{_≡_};
 ghost use Rattle.boundary.specs.Status.{status, written};
 ghost use Rattle.parts_at.specs.PartNumbers.{headNumbers, tailNumbers, headAt, tailAt};
+use crate::tested;
 use boundary::limits_of;
 use boundary::refused;
 use cursor::Cursor;
@@ -49,6 +50,10 @@ pub fn head_at(chunk: &[u8], limits: &[u64; 9], place: usize, out: &mut [u64; 16
     ensures { λ r. ⌜ r ≡ status (headAt (now (limits .entry)) place (now (chunk .entry))) ⌝ }
     ensures { λ _. ⌜ now (out .exit) ≡ written (headAt (now (limits .entry)) place (now (chunk .entry))) (now (out .entry)) ⌝ }
 {
+    let refusal = tested(chunk, limits);
+    if 0 < refusal {
+        return refusal;
+    }
     let answer = read_head(chunk, limits_of(limits), 0, Cursor { at: place });
     match answer {
         HeadResult::Err(q) => refused(q),
@@ -80,6 +85,10 @@ pub fn tail_at(chunk: &[u8], limits: &[u64; 9], place: usize, out: &mut [u64; 9]
     ensures { λ r. ⌜ r ≡ status (tailAt (now (limits .entry)) place (now (chunk .entry))) ⌝ }
     ensures { λ _. ⌜ now (out .exit) ≡ written (tailAt (now (limits .entry)) place (now (chunk .entry))) (now (out .entry)) ⌝ }
 {
+    let refusal = tested(chunk, limits);
+    if 0 < refusal {
+        return refusal;
+    }
     let l = limits_of(limits);
     let answer = read_tail(chunk, l.max_string_bytes, Cursor { at: place });
     match answer {

@@ -1,6 +1,5 @@
--- `parts_at::entry::word_at` meets its contract: by what was read (under whatever limits). Assumes nothing.
+-- `parts_at::entry::word_at` meets its contract: by the test of 21 and 22, then by what was read. Assumes nothing.
 use mathlib.Core.Path.{refl}
-use mathlib.Core.List.{[]}
 use borrow.Author.Needs.{needs}
 use lib.ListN.{drop}
 use Rattle.format.specs.ReadFields.{field}
@@ -8,6 +7,7 @@ use Rattle.reader.specs.Shown.{shownU32}
 use Rattle.boundary.specs.Status.{limitsOf}
 use Rattle.boundary.proofs.Calls.{call-refuses, call-answers}
 use Rattle.parts_at.specs.PartNumbers.{ofWordAt}
+use Rattle.parts_at.proofs.Admitted.{stops, goes-on}
 use Rattle.parts_at.proofs.entry.word_at.Statement.{statement}
 use Rattle.parts_at.proofs.entry.word_at.Tie as tie
 
@@ -15,12 +15,20 @@ pub word-at-spec : {M : Type 1} → statement M
 word-at-spec =
     tie.close
     (tie.spec
+    (λ c κs. search needs)
+    (λ c.
+    let a = c .before .before .before .args in
+    stops (limitsOf (a .limits .now)) (a .chunk .now) (c .before .tested .ensures) _ (a .out .now) (c .if1 .taken))
     (λ c κs. search needs) (λ c. search needs) (λ c κs. search needs) (λ c. search needs) (λ c. search needs) (λ c κs. search needs)
     (λ c.
     let k = c .before .before .before .before in
-    let a = k .before .before .args in
-    call-refuses ofWordAt (λ L. shownU32 (field 4 (a .place) (drop (a .place) (a .chunk .now)))) (a .out .now) (λ i. limitsOf []) (k .read-u32-le .ensures) (c .before .before .answer .given .1) refl (c .refused .ensures))
+    let t = k .before .before in
+    let a = t .before .before .args in
+    goes-on (limitsOf (a .limits .now)) (a .chunk .now) (t .tested .ensures) _ (a .out .now) (k .before .if1 .left)
+    (call-refuses ofWordAt (λ L. shownU32 (field 4 (a .place) (drop (a .place) (a .chunk .now)))) (a .out .now) (λ i. limitsOf (a .limits .now)) (k .read-u32-le .ensures) (c .before .before .answer .given .1) refl (c .refused .ensures)))
     (λ c.
     let k = c .before .before .before .before in
-    let a = k .before .before .args in
-    call-answers ofWordAt (λ L. shownU32 (field 4 (a .place) (drop (a .place) (a .chunk .now)))) (a .out .now) (λ i. limitsOf []) (k .read-u32-le .ensures) (c .before .before .answer2 .given .1) refl (c .two .ensures)))
+    let t = k .before .before in
+    let a = t .before .before .args in
+    goes-on (limitsOf (a .limits .now)) (a .chunk .now) (t .tested .ensures) _ (a .out .now) (k .before .if1 .left)
+    (call-answers ofWordAt (λ L. shownU32 (field 4 (a .place) (drop (a .place) (a .chunk .now)))) (a .out .now) (λ i. limitsOf (a .limits .now)) (k .read-u32-le .ensures) (c .before .before .answer2 .given .1) refl (c .two .ensures))))
