@@ -98,7 +98,7 @@ module _ (L : ResourceLimits) (s : Bytes) where
   by-reading : (later : Reading → List (Option Report)) → first (forReading L s later) ≡ none → Accepted L s (λ r. first (later r) ≡ none)
   by-reading later e = is-read later (read L s) refl (order L s later ∙ e)
 
-  chunk-read : first (forChunk L s) ≡ none → Accepted L s (λ r. Unit {0})
+  pub chunk-read : first (forChunk L s) ≡ none → Accepted L s (λ r. Unit {0})
   chunk-read e = let a = is-read (λ r. []) (read L s) refl (order L s (λ r. []) ∙ ap (λ qs. first (ofChunk L s qs)) (none-later (read L s)) ∙ e) in record { reading = a .reading; is = a .is; shows = tt }
     where
       none-later : (o : Outcome) → andThen o (λ r. []) ≡ []

@@ -11,5 +11,9 @@ pub mod Refused
 pub mod AtOneByte
 pub mod Demand1
 pub mod Accepted
+pub mod Exactly
+pub mod ByC
+pub mod AtPlace
+pub mod Printed
 pub mod Demand2
 pub mod Demand3
