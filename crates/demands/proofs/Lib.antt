@@ -4,6 +4,7 @@ pub mod InOrder
 pub mod Causes
 pub mod Early
 pub mod Order
+pub mod CutShort
 pub mod Trap
 pub mod Backwards
 pub mod Numbers

@@ -66,11 +66,11 @@ pub record DecidedEarly (L : ResourceLimits) (s : Bytes) (p : Refusal) : Type 0 
 
 -- neither 21 nor 22
 module _ (L : ResourceLimits) (within : withinCeilings L ≡ true) where
-  by-main : (s : Bytes) → length s ≤ L .«max_input_bytes» → read L s ≡ outcome L (main L 0 s)
+  pub by-main : (s : Bytes) → length s ≤ L .«max_input_bytes» → read L s ≡ outcome L (main L 0 s)
   unfolding read
   by-main s short = rw (within, le-leb (length s) (L .«max_input_bytes») short)
 
-  by-refusal : (p : Refusal) (o : Read Loaded) → outcome L o ≡ refusal p → o ≡ refused p
+  pub by-refusal : (p : Refusal) (o : Read Loaded) → outcome L o ≡ refusal p → o ≡ refused p
   by-refusal p (ok m to rest) e = absurd (let z : _≡_ {A = ℕ} 0 1 = cc in omega arith)
   by-refusal p (refused p′) e = let same : p′ ≡ p = cc in ap refused same
 
