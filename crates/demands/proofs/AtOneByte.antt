@@ -81,7 +81,7 @@ module _ (L : ResourceLimits) where
   not-fourteen s at e = let d = in-byte-order L s (q.TotalInstructions at) e in record { front = d .front; rest = d .rest; whole = d .whole; count = d .ends }
 
   -- ## 19, then 20, then what stands there
-  abbrev enter : ℕ → Where → Reader (List Prototype)
+  abbrev pub enter : ℕ → Where → Reader (List Prototype)
   enter zero w = here >>= λ place. refuse (q.NestingDepth place)
   enter (suc left) w = here >>= λ place. atMost (w .number) (L .«max_total_prototypes») (q.TotalPrototypes place) >> function L left w
 

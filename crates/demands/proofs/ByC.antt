@@ -3,6 +3,7 @@
 --     InC a qs             so it is of a call whose answer is a and whose conditions are qs, in 01's order
 --     law                  it is enough that the refusal in the answer is the first of the conditions
 --     findings-kept        a call that refuses leaves its list as it was. (Rows, copy and name: Demand1.antt, `index-kept`, `copy-kept`, `local-kept`, of the same definitions.)
+--     offending-shown      what the list shows of a finding's rule is its offending number
 -- (`lafzimdo_decode` has no condition: its contract says that it returns 0. crates/boundary/proofs/Numbers.antt: 0 is returned nowhere else, and number and place can be got back.)
 -- Assumes nothing.
 use mathlib.Core.Path.{_≡_, refl, sym, _∙_, ap}
@@ -55,6 +56,9 @@ use Rattle.show_entry.specs.Entries.{shownWord, shownConstant, shownUpvalue, sh
 use Rattle.show_local.specs.declared.LocalAnswer.{LocalAnswer}
 use Rattle.show_local.specs.declared.LocalAnswer.the-variants as local-answer
 use Rattle.show_local.specs.Locals.{shownLocal}
+use Rattle.rules.specs.declared.finding.Rule.{Rule}
+use Rattle.rules.specs.declared.finding.Rule.the-variants as rule
+use Rattle.rules.specs.Rules.{offending}
 use Rattle.rules.specs.Findings.{chunkFindings, verdict}
 use Rattle.validator.specs.declared.verdict.VerdictAnswer.{VerdictAnswer}
 use Rattle.validator.specs.declared.verdict.VerdictAnswer.the-variants as verdict-answer
@@ -67,10 +71,10 @@ use Rattle.finding_plan.specs.Listed.{shownFindings, foundIn}
 use Rattle.instructions.specs.declared.instruction.Encoded.{Encoded}
 use Rattle.instructions.specs.declared.instruction.Encoded.the-variants as encoded-answer
 use Rattle.instructions.specs.Word.{encoded}
-use Rattle.boundary.specs.Status.{limitsOf, withPlace, Answer, done, refuses, status, written}
+use Rattle.boundary.specs.Status.{limitsOf, withPlace, Answer, done, refuses, status, written, complement}
 use Rattle.numbers.specs.Numbers.{ofSummary, ofFields, ofLine, ofWord, ofConstant, ofUpvalue, ofDelta, ofAnchor, ofLocal, ofName, ofIndex, ofCopy, ofVerdict, ofCount}
 use Rattle.numbers.specs.Words.{spelt, ofEncoded}
-use Rattle.finding_list.specs.FindingNumbers.{listNumbers, ofFindings, overFront, numbersWritten}
+use Rattle.finding_list.specs.FindingNumbers.{offendingNumber, listNumbers, ofFindings, overFront, numbersWritten}
 use Rattle.demands.proofs.Refused.{first, forChunk, forSpace, forFunction, forLine, forEntry, forLocal, forWord}
 use Rattle.demands.proofs.Refused.{inSummary, inFields, inWord, inConstant, inUpvalue, inDelta, inAnchor, inName, inLocal, inLine, inIndex, inCopy, inVerdict, inCount, inFindings, inEncoded}
 use Rattle.demands.proofs.Demand1 as calls
@@ -229,3 +233,13 @@ findings-kept old (shown r) q e = by (leb (length (chunkFindings r .findings)) (
     by true e = absurd (let z : _≡_ {A = ℕ} 0 1 = cc in omega arith)
     by false e = refl
 findings-kept old (refusal p) q e = refl
+
+-- the offending number of a finding's rule, as the list shows it: a signed number in 64 bits
+pub offending-shown : (r : Rule) → offendingNumber r ≡ complement (offending r)
+offending-shown (rule.Opcode n) = refl
+offending-shown (rule.Register n) = refl
+offending-shown (rule.Constant n) = refl
+offending-shown (rule.Upvalue n) = refl
+offending-shown (rule.TableUpvalue n) = refl
+offending-shown (rule.Prototype n) = refl
+offending-shown (rule.Jump z) = refl

@@ -10,6 +10,7 @@ pub mod Backwards
 pub mod Numbers
 pub mod Refused
 pub mod AtOneByte
+pub mod ByLimits
 pub mod Demand1
 pub mod Accepted
 pub mod Exactly
