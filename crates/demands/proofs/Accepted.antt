@@ -2,7 +2,7 @@
 -- holds the result, and beyond it what it held.
 --     Accepted L s Shown       the chunk s is read under the limits L, and `Shown` holds of its reading
 --     Present o Shown          o is there, and `Shown` holds of it
--- One theorem for each call, under its name in Demand1.antt, whose theorems say the other half: the answer holds a refusal where a condition holds.
+-- One theorem for each call, under its name in Demand1.antt (but `verdict-of`, `encoded-word`), whose theorems say the other half: the answer holds a refusal where a condition holds.
 -- (`decode` refuses no word; `string_bytes` shows bytes of any place.)
 -- Refused by these: a call that answers nothing but refusals, one that refuses what it could show, one that answers Ok of another function or entry, one that answers Ok and writes nothing.
 -- Assumes nothing.

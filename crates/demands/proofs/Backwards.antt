@@ -2,7 +2,7 @@
 --     backwards        two lists, whose limits are tested when both are read, the second one first
 --     latest           two numbers, each tested as soon as it is read, as it should be; but where the first is above the limit a second one that is, too, is reported instead
 --     not-backwards, not-the-latest
--- (No byte that stands behind a whole file changes what `backwards` refuses, and what `latest` refuses it refuses at the front that ends with the cause: each part of `Decided` is wanted.)
+-- (What `backwards` refuses it does not refuse at the front that ends with the cause, and what `latest` refuses there it does not refuse with any bytes behind: each part of `Decided` is wanted.)
 -- Assumes nothing.
 use mathlib.Core.Path.{_≡_, refl, ap}
 use mathlib.Core.Bool.{Bool, true, false}
