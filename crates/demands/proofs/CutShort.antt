@@ -1,6 +1,7 @@
 -- A file that is refused with 1 is cut short: at the refusal's place more bytes are wanted than there are, and with as many it is not 1 at that place.
 --     cut-short            of the reader of a chunk (`Lack`: InOrder.antt)
 --     read-cut-short       of what every call begins with
+--     overflow-far         2 is met behind byte 128 alone, where place plus size can be 2^64
 --     not-all-cut-short    a reader that calls what it refuses cut short, though nothing is missing, is not so
 -- Assumes nothing.
 use mathlib.Core.Path.{_≡_, refl, sym, _∙_, ap}
@@ -11,7 +12,7 @@ use native.Mathlib.Omega.{arith}
 use lib.ListN.{length, replicate, length-replicate}
 use Rattle.format.specs.declared.limits.ResourceLimits.{ResourceLimits}
 use Rattle.format.specs.declared.refusal.Refusal.{Refusal}
-use Rattle.format.specs.declared.refusal.Refusal.the-variants.{Truncated}
+use Rattle.format.specs.declared.refusal.Refusal.the-variants.{Truncated, Overflow}
 use Rattle.format.specs.Form.{Bytes}
 use Rattle.format.specs.Limits.{withinCeilings}
 use Rattle.format.specs.Read.{Read, ok, refused, Reader, next, _>>=_, atMost}
@@ -22,6 +23,9 @@ use Rattle.demands.proofs.Order.{by-main, by-refusal}
 
 pub cut-short : (L : ResourceLimits) (s : Bytes) (place : ℕ) → main L 0 s ≡ refused (Truncated place) → Lack (main L) 0 s place
 cut-short L s place e = steady-main {low = 0} L .lacks 0 s place (omega arith) e
+
+pub overflow-far : (L : ResourceLimits) (s : Bytes) → main L 0 s ≡ refused Overflow → 128 < length s
+overflow-far L s e = let h = steady-main {low = 0} L .overflows 0 s (omega arith) e in omega arith
 
 -- neither 21 nor 22
 pub record Missing (L : ResourceLimits) (s : Bytes) (place : ℕ) : Type 0 where
