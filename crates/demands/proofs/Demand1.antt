@@ -1,8 +1,8 @@
 -- Demand 1. Only what 01 lists is refused, with its number, and of several conditions the first in 01's order is the one that is reported; lent memory is then as it was.
 -- One theorem for each call: number and place of the refusal in its answer are those of the first of its conditions that holds (Refused.antt), in the order 21, 22, 1 to 20, 23, 24, 25, 26, for words 28, 27;
 -- where none holds there is none. Each call's contract says that its answer is the definition that stands here on the left (Demand2.antt).
--- (That every call ends and that nothing wraps is proved with each function. `trailing_bytes` and `string_bytes` show bytes and hold no refusal; `finding_array::chunk_findings` has `findings` with a space
--- of 10,001, which is always enough: `all-fit`.)
+-- (That every call ends and that nothing wraps is proved with each function. `trailing_bytes` and `string_bytes` show bytes and hold no refusal: of a chunk that is refused there are no trailing bytes, `no-trailing`.
+-- `finding_array::chunk_findings` has `findings` with a space of 10,001, which is always enough: `all-fit`.)
 --     places           a refusal's place is one of the file, or the file's end
 --     summary ..       the order of a call's refusals
 --     ..-kept          a call that refuses leaves lent memory as it was
@@ -39,7 +39,7 @@ use Rattle.index.specs.Index.{index, shownIndex, indexWritten}
 use Rattle.lines.specs.declared.line.LineAnswer.the-variants as line-answer
 use Rattle.lines.specs.Lines.{large, shownLine}
 use Rattle.copy.specs.Copied.{shownLength, shownCopy, copyWritten}
-use Rattle.show_chunk.specs.Summaries.{shownSummary}
+use Rattle.show_chunk.specs.Summaries.{shownSummary, trailingOf}
 use Rattle.show_chunk.specs.Fields.{shownFields}
 use Rattle.show_entry.specs.Entries.{shownWord, shownConstant, shownUpvalue, shownDelta, shownAnchor, shownName}
 use Rattle.show_local.specs.Locals.{shownLocal, nameWritten}
@@ -171,6 +171,14 @@ module _ (L : ResourceLimits) (s : Bytes) where
 
   pub copy-length : inCopy (shownLength (read L s)) ≡ first (forChunk L s)
   copy-length = whole-chunk shownLength inCopy (λ r. refl) (λ q. refl)
+
+  -- trailing_bytes, where one of these is met
+  pub no-trailing : (q : Report) → first (forChunk L s) ≡ some q → trailingOf (read L s) ≡ []
+  no-trailing q e = go (read L s) (summary ∙ e)
+    where
+      go : (o : Outcome) → inSummary (shownSummary o) ≡ some q → trailingOf o ≡ []
+      go (shown r) e = never e
+      go (refusal q) e = refl
 
   -- function_index, encode_chunk_lua54, validate_chunk_lua54: then 26
   pub index-rows : (space : ℕ) → inIndex (shownIndex space (read L s)) ≡ first (forSpace L s (λ r. index (r .functions)) space)
