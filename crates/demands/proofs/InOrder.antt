@@ -1,8 +1,10 @@
 -- The reader goes through the bytes from the front and ends at the first refusal: what stands behind never changes it. One law for each way to make a reader.
 --     Steady low r     from a place on that is at least `low`: with more bytes behind, r gives the same; it goes forward, never behind the end; and it refuses by 1 to 20
 --                      alone, with a place that is at most the end. Only 1 and 2 (bytes are missing) can go away with more bytes
+--     Lack r at s p    a file that is cut short (1) lacks bytes: so many are wanted at the refusal's place p, there are fewer, and with as many it is not 1 at that place
+-- (And 2 is met behind byte 128 alone: a number is below 2^64 − 128, so place plus size is below 2^64 up to there.)
 -- Assumes nothing.
-use mathlib.Core.Path.{_≡_, refl, _∙_, ap}
+use mathlib.Core.Path.{_≡_, refl, sym, _∙_, ap}
 use mathlib.Core.Bool.{Bool, true, false, cond}
 use mathlib.Core.List.{List, [], _∷_, _++_}
 use Prim.Native.Nat.{ℕ, zero, suc, _+_, _-_, _*_, _%_, _≤_, _<_, _^_}
@@ -10,7 +12,7 @@ use native.Mathlib.Omega.{arith}
 use lib.Dec.{leb, ltb, eqb}
 use lib.ListN.{length, take, drop, length-append, length-drop}
 use lib.Seq.{take-append-le, drop-append-le}
-use borrow.Author.Tests.{leb-true, le-leb}
+use borrow.Author.Tests.{ltb-true, ltb-false, leb-true, leb-false, le-leb}
 use Rattle.format.specs.declared.limits.ResourceLimits.{ResourceLimits}
 use Rattle.format.specs.declared.refusal.Refusal.{Refusal}
 use Rattle.format.specs.declared.refusal.Refusal.the-variants.{
@@ -46,6 +48,7 @@ use Rattle.format.specs.Read.{Read, ok, refused, Reader, next, _>>=_, give, her
 use Rattle.format.specs.ReadFields.{field, groups, number, content, string}
 use Rattle.format.specs.ReadHeader.{sameBytes, expect, beforeFormat, behindFormat, header}
 use Rattle.format.specs.ReadChunk.{counted, countedUpTo, always, tagged, constant, upvalue, anchor, local, forest, body, function, main}
+use Rattle.format.proofs.ExactFields.{exact-number}
 
 -- a place, if there is one, is at most e
 abbrev pub Inside : ℕ → Place → Type 0
@@ -86,44 +89,124 @@ abbrev Same : {A : Type 0} → ℕ → ℕ → Read A → Read A → Bytes → T
 Same at e (ok x to rest) o t = Gives at e x to rest o t
 Same at e (refused q) o t = StillRefused e q o
 
+-- behind a place, or refused for another reason
+abbrev pub Past : {A : Type 0} → ℕ → Read A → Type 0
+Past place (ok x to rest) = place < to
+Past place (refused q) = q ≡ Truncated place → ⊥
+
+pub record Lack {A : Type 0} (r : Reader A) (at : ℕ) (s : Bytes) (place : ℕ) : Type 0 where
+  pub from : at ≤ place
+  pub wanted : ℕ
+  pub fewer : at + length s < place + wanted
+  pub enough : (t : Bytes) → place + wanted ≤ at + length (s ++ t) → Past place (r at (s ++ t))
+
 pub record Steady {A : Type 0} (low : ℕ) (r : Reader A) : Type 0 where
   pub more : (at : ℕ) (s t : Bytes) → low ≤ at → Same at (at + length s) (r at s) (r at (s ++ t)) t
+  pub lacks : (at : ℕ) (s : Bytes) (place : ℕ) → low ≤ at → r at s ≡ refused (Truncated place) → Lack r at s place
+  pub overflows : (at : ℕ) (s : Bytes) → low ≤ at → r at s ≡ refused Overflow → 128 < at + length s
+
+-- a refusal for what is there, with a place that is at most e: 3 to 20
+pub record Tested (e : ℕ) (q : Refusal) : Type 0 where
+  pub by-file : ByFile e q
+  pub there : 3 ≤ reported q .number
+
+tested : {e : ℕ} (q : Refusal) → leb 3 (reported q .number) ≡ true → leb (reported q .number) 20 ≡ true → Inside e (reported q .place) → Tested e q
+tested q f g h =
+    let low : 3 ≤ reported q .number = leb-true 3 (reported q .number) f in
+    record { by-file = record { from = omega arith; to = leb-true (reported q .number) 20 g; place = h }; there = low }
+
+other : {A P : Type 0} {x : A} {to : ℕ} {rest : Bytes} {q : Refusal} → ok x to rest ≡ refused q → P
+other e = absurd (let z : _≡_ {A = ℕ} 0 1 = cc in omega arith)
 
 steady-give : {A : Type 0} {low : ℕ} (x : A) → Steady low (give x)
-steady-give x = record { more = λ at s t h. record { same = refl; forward = own; end = refl } }
+steady-give x = record { more = λ at s t h. record { same = refl; forward = own; end = refl }; lacks = λ at s place h e. other e; overflows = λ at s h e. other e }
 
 -- what follows may keep the place for a refusal
 steady-here : {B : Type 0} {low : ℕ} {f : ℕ → Reader B} → ((place : ℕ) → Steady place (f place)) → Steady low (here >>= f)
-steady-here two = record { more = λ at s t h. two at .more at s t own }
-
-steady-refuse : {A : Type 0} {low : ℕ} (q : Refusal) → ByFile low q → Steady {A = A} low (refuse q)
-steady-refuse {low} q is = record {
-  more = λ at s t h. let le : low ≤ at + length s = omega arith in record { by-file = by-longer le is; stays = λ k. refl };
+steady-here two = record {
+  more = λ at s t h. two at .more at s t own;
+  lacks = λ at s place h e. (let l = two at .lacks at s place own e in record { from = l .from; wanted = l .wanted; fewer = l .fewer; enough = l .enough });
+  overflows = λ at s h e. two at .overflows at s own e;
 }
 
-steady-then : {A B : Type 0} {low : ℕ} {r : Reader A} {f : A → Reader B} → Steady low r → ((x : A) → Steady low (f x)) → Steady low (r >>= f)
-steady-then {A} {B} {low} {r} {f} one two = record { more = λ at s t h. go at (at + length s) (r at s) (r at (s ++ t)) t h (one .more at s t h) }
+steady-refuse : {A : Type 0} {low : ℕ} (q : Refusal) → Tested low q → Steady {A = A} low (refuse q)
+steady-refuse {A} {low} q is = record {
+  more = λ at s t h. let le : low ≤ at + length s = omega arith in record { by-file = by-longer le (is .by-file); stays = λ k. refl };
+  lacks = λ at s place h e. (let same : q ≡ Truncated place = cc in let n : reported q .number ≡ 1 = ap (λ q. reported q .number) same in let k = is .there in absurd (omega arith));
+  overflows = λ at s h e. (let same : q ≡ Overflow = cc in let n : reported q .number ≡ 2 = ap (λ q. reported q .number) same in let k = is .there in absurd (omega arith));
+}
+
+-- behind a value of which something is known
+steady-known : {A B : Type 0} {low : ℕ} {r : Reader A} {f : A → Reader B} (Known : A → Type 0) → Steady low r → ((at : ℕ) (s : Bytes) (x : A) (to : ℕ) (rest : Bytes) → r at s ≡ ok x to rest → Known x)
+    → ((x : A) → Known x → Steady low (f x)) → Steady low (r >>= f)
+steady-known {A} {B} {low} {r} {f} Known one known two = record {
+  more = λ at s t h. go at (at + length s) s (r at s) refl (r at (s ++ t)) t h (one .more at s t h);
+  lacks = λ at s place h e. short at s place h (r at s) refl e;
+  overflows = λ at s h e. long at s h (r at s) refl e;
+}
   where
     behind : (at mid e : ℕ) (o p : Read B) (t : Bytes) → at ≤ mid → Same mid e o p t → Same at e o p t
     behind at mid e (ok x to rest) p t le g = record { same = g .same; forward = let f = g .forward in omega arith; end = g .end }
     behind at mid e (refused q) p t le g = g
 
-    go : (at e : ℕ) (o p : Read A) (t : Bytes) → low ≤ at → Same at e o p t → Same at e (next o f) (next p f) t
-    go at e (ok x mid rest) p t h g =
+    go : (at e : ℕ) (s : Bytes) (o : Read A) → r at s ≡ o → (p : Read A) (t : Bytes) → low ≤ at → Same at e o p t → Same at e (next o f) (next p f) t
+    go at e s (ok x mid rest) is p t h g =
         let le = g .forward in
-        let on = two x .more mid rest t (omega arith) in
+        let on = two x (known at s x mid rest is) .more mid rest t (omega arith) in
         rw (g .same) (behind at mid e (f x mid rest) (f x mid (rest ++ t)) t le (rw (g .end) at on))
-    go at e (refused q) p t h g = record { by-file = g .by-file; stays = λ k. ap (λ o. next o f) (g .stays k) }
+    go at e s (refused q) is p t h g = record { by-file = g .by-file; stays = λ k. ap (λ o. next o f) (g .stays k) }
+
+    -- it goes on from behind the place
+    beyond : (x : A) → Steady low (f x) → (place mid : ℕ) (u : Bytes) → low ≤ mid → place < mid → (o : Read B) → f x mid u ≡ o → Past place o
+    beyond x on place mid u h k (ok y to rest) is = let g : Same mid (mid + length u) (ok y to rest) (f x mid (u ++ [])) [] = rw is at (on .more mid u [] h) in let le = g .forward in omega arith
+    beyond x on place mid u h k (refused q) is = λ e. let l = on .lacks mid u place h (is ∙ ap refused e) in let le = l .from in omega arith
+
+    past : (at place : ℕ) (s : Bytes) → low ≤ at → (o : Read A) → r at s ≡ o → Past place o → Past place (next o f)
+    past at place s h (ok x mid u) is k =
+        let g : Same at (at + length s) (ok x mid u) (r at (s ++ [])) [] = rw is at (one .more at s [] h) in
+        let le = g .forward in
+        beyond x (two x (known at s x mid u is)) place mid u (omega arith) k (f x mid u) refl
+    past at place s h (refused q) is k = k
+
+    short : (at : ℕ) (s : Bytes) (place : ℕ) → low ≤ at → (o : Read A) → r at s ≡ o → next o f ≡ refused (Truncated place) → Lack (r >>= f) at s place
+    short at s place h (ok x mid rest) is e =
+        let g : (t : Bytes) → Same at (at + length s) (ok x mid rest) (r at (s ++ t)) t = λ t. (let all = one .more at s t h in rw is at all) in
+        let le = g [] .forward in
+        let end = g [] .end in
+        let l = two x (known at s x mid rest is) .lacks mid rest place (omega arith) e in
+        let from = l .from in
+        let fewer = l .fewer in
+        record {
+          from = omega arith;
+          wanted = l .wanted;
+          fewer = omega arith;
+          enough = λ t k. rw (g t .same) (l .enough t (omega (arith, length-append s t, length-append rest t)));
+        }
+    short at s place h (refused q) is e =
+        let l = one .lacks at s place h (is ∙ (let same : q ≡ Truncated place = cc in ap refused same)) in
+        record { from = l .from; wanted = l .wanted; fewer = l .fewer; enough = λ t k. past at place (s ++ t) h (r at (s ++ t)) refl (l .enough t k) }
+
+    long : (at : ℕ) (s : Bytes) → low ≤ at → (o : Read A) → r at s ≡ o → next o f ≡ refused Overflow → 128 < at + length s
+    long at s h (ok x mid rest) is e =
+        let g : Same at (at + length s) (ok x mid rest) (r at (s ++ [])) [] = rw is at (one .more at s [] h) in
+        let le = g .forward in
+        let end = g .end in
+        let l = two x (known at s x mid rest is) .overflows mid rest (omega arith) e in
+        omega arith
+    long at s h (refused q) is e = one .overflows at s h (is ∙ (let same : q ≡ Overflow = cc in ap refused same))
+
+steady-then : {A B : Type 0} {low : ℕ} {r : Reader A} {f : A → Reader B} → Steady low r → ((x : A) → Steady low (f x)) → Steady low (r >>= f)
+steady-then one two = steady-known (λ x. Unit {0}) one (λ at s x to rest e. tt) (λ x _. two x)
 
 steady-pick : {A : Type 0} {low : ℕ} {r s : Reader A} (b : Bool) → Steady low r → Steady low s → Steady low (cond b r s)
 steady-pick true one two = one
 steady-pick false one two = two
 
-steady-test : {low : ℕ} (b : Bool) (q : Refusal) → ByFile low q → Steady low (test b q)
+steady-test : {low : ℕ} (b : Bool) (q : Refusal) → Tested low q → Steady low (test b q)
 steady-test true q is = steady-give tt
 steady-test false q is = steady-refuse q is
 
-steady-atMost : {low : ℕ} (n m : ℕ) (q : Refusal) → ByFile low q → Steady low (atMost n m q)
+steady-atMost : {low : ℕ} (n m : ℕ) (q : Refusal) → Tested low q → Steady low (atMost n m q)
 steady-atMost n m q is = steady-test (leb n m) q is
 
 -- bytes are missing
@@ -131,9 +214,26 @@ missing : {A : Type 0} {e : ℕ} (b : Bool) (at : ℕ) (o : Read A) → at ≤ e
 missing true at o h = record { by-file = listed (Truncated at) refl refl h; stays = λ k. absurd (omega arith) }
 missing false at o h = record { by-file = listed Overflow refl refl tt; stays = λ k. absurd (omega arith) }
 
-steady-run : {low : ℕ} (n : ℕ) → Steady low (run n)
-steady-run n = record { more = λ at s t h. go at s t (leb n (length s)) refl }
+-- 2 is not met where place and number are small
+short-far : (b : Bool) (at n : ℕ) → ltb (at + n) (2 ^ 64) ≡ b → n < 2 ^ 64 - 128 → cond b (Truncated at) Overflow ≡ Overflow → 128 < at
+short-far true at n is few e = absurd (let z : _≡_ {A = ℕ} 0 1 = cc in omega arith)
+short-far false at n is few e = let far = ltb-false (at + n) (2 ^ 64) is in omega arith
+
+-- that is 1 at the place, if it is 1
+short-there : (b : Bool) (at place : ℕ) → cond b (Truncated at) Overflow ≡ Truncated place → at ≡ place
+short-there true at place e = cc
+short-there false at place e = absurd (let z : _≡_ {A = ℕ} 0 1 = cc in omega arith)
+
+steady-run : {low : ℕ} (n : ℕ) → n < 2 ^ 64 - 128 → Steady low (run n)
+steady-run n few = record { more = λ at s t h. go at s t (leb n (length s)) refl; lacks = λ at s place h e. lack at s place (leb n (length s)) refl e; overflows = λ at s h e. far at s (leb n (length s)) e }
   where
+    far : (at : ℕ) (s : Bytes) (b : Bool) → piece b n at s ≡ refused Overflow → 128 < at + length s
+    far at s true e = other e
+    far at s false e = let k : 128 < at = short-far (ltb (at + n) (2 ^ 64)) at n refl few cc in omega arith
+
+    all-there : (at : ℕ) (s t : Bytes) → n ≤ length (s ++ t) → run n at (s ++ t) ≡ ok (take n (s ++ t)) (at + n) (drop n (s ++ t))
+    all-there at s t k = rw (le-leb n (length (s ++ t)) k)
+
     go : (at : ℕ) (s t : Bytes) (b : Bool) → leb n (length s) ≡ b → Same at (at + length s) (piece b n at s) (run n at (s ++ t)) t
     go at s t true e =
         let h : n ≤ length s = leb-true n (length s) e in
@@ -141,13 +241,20 @@ steady-run n = record { more = λ at s t h. go at s t (leb n (length s)) refl }
         record { same = rw (le-leb n (length (s ++ t)) k, take-append-le n s t h, drop-append-le n s t h); forward = omega arith; end = omega (arith, length-drop n s) }
     go at s t false e = missing (ltb (at + n) (2 ^ 64)) at _ (omega arith)
 
+    lack : (at : ℕ) (s : Bytes) (place : ℕ) (b : Bool) → leb n (length s) ≡ b → piece b n at s ≡ refused (Truncated place) → Lack (run n) at s place
+    lack at s place true is e = other e
+    lack at s place false is e =
+        let same : at ≡ place = short-there (ltb (at + n) (2 ^ 64)) at place cc in
+        let few : length s < n = leb-false n (length s) is in
+        record { from = omega arith; wanted = n; fewer = omega arith; enough = λ t k. (let there : n ≤ length (s ++ t) = omega arith in let on : place < at + n = omega arith in rw (all-there at s t there) on) }
+
 steady-many : {A : Type 0} {low : ℕ} {r : Reader A} (n : ℕ) → Steady low r → Steady low (many n r)
 steady-many zero one = steady-give []
 steady-many (suc n) one = steady-then one λ x. steady-then (steady-many n one) λ xs. steady-give _
 
 -- ## Fields
-steady-field : {low : ℕ} (n : ℕ) → Steady low (field n)
-steady-field n = steady-then (steady-run n) λ bytes. steady-give _
+steady-field : {low : ℕ} (n : ℕ) → ltb n (2 ^ 64 - 128) ≡ true → Steady low (field n)
+steady-field n few = steady-then (steady-run n (ltb-true n (2 ^ 64 - 128) few)) λ bytes. steady-give _
 
 steady-groups : (high at : ℕ) (s t : Bytes) → Same at (at + length s) (groups high at s) (groups high at (s ++ t)) t
 steady-groups high at [] t = missing (ltb (at + 1) (2 ^ 64)) at _ (omega arith)
@@ -166,42 +273,107 @@ steady-groups high at (x ∷ s) t = go (ltb high (2 ^ 57 - 1)) (ltb x 128) (grou
     go true false o p on = record { same = refl; forward = omega arith; end = end }
     go false low o p on = record { by-file = listed VarintOverflow refl refl tt; stays = λ h. refl }
 
-steady-number : {low : ℕ} → Steady low number
-steady-number = record { more = λ at s t h. steady-groups 0 at s t }
+-- a number takes a byte at least, and what it lacks it lacks from there on
+abbrev Onward : ℕ → Read ℕ → Type 0
+Onward at (ok x to rest) = at < to
+Onward at (refused q) = (place : ℕ) → q ≡ Truncated place → at ≤ place
 
-steady-content : (limit first size : ℕ) → Steady first (content limit first size)
-steady-content limit first zero = steady-give _
-steady-content limit first (suc n) =
-    steady-then (steady-atMost n limit (StringBytes first) (listed (StringBytes first) refl refl own)) λ _. steady-here λ place. steady-then (steady-run n) λ bytes. steady-give _
+onward-groups : (high at : ℕ) (s : Bytes) → Onward at (groups high at s)
+onward-groups high at [] = λ place e. let same : at ≡ place = short-there (ltb (at + 1) (2 ^ 64)) at place e in omega arith
+onward-groups high at (x ∷ s) = go (ltb high (2 ^ 57 - 1)) (ltb x 128) (groups (high * 128 + x) (at + 1) s) (onward-groups (high * 128 + x) (at + 1) s)
+  where
+    on : (o : Read ℕ) → Onward (at + 1) o → Onward at o
+    on (ok y to rest) k = omega arith
+    on (refused q) k = λ place e. let le = k place e in omega arith
+
+    go : (fits low : Bool) (o : Read ℕ) → Onward (at + 1) o → Onward at (cond fits (cond low o (ok (high * 128 + x % 128) (at + 1) s)) (refused VarintOverflow))
+    go true true o k = on o k
+    go true false o k = omega arith
+    go false low o k = λ place e. absurd (let z : _≡_ {A = ℕ} 0 1 = cc in omega arith)
+
+-- one more byte
+past-byte : (high at x : ℕ) (t : Bytes) → Past at (groups high at (x ∷ t))
+past-byte high at x t = go (ltb high (2 ^ 57 - 1)) (ltb x 128) (groups (high * 128 + x) (at + 1) t) (onward-groups (high * 128 + x) (at + 1) t)
+  where
+    on : (o : Read ℕ) → Onward (at + 1) o → Past at o
+    on (ok y to rest) k = omega arith
+    on (refused q) k = λ e. let le = k at e in omega arith
+
+    go : (fits low : Bool) (o : Read ℕ) → Onward (at + 1) o → Past at (cond fits (cond low o (ok (high * 128 + x % 128) (at + 1) t)) (refused VarintOverflow))
+    go true true o k = on o k
+    go true false o k = omega arith
+    go false low o k = λ e. let z : _≡_ {A = ℕ} 0 1 = cc in omega arith
+
+lack-groups : (high at : ℕ) (s : Bytes) (place : ℕ) → groups high at s ≡ refused (Truncated place) → Lack (groups high) at s place
+lack-groups high at [] place e =
+    let same : at ≡ place = short-there (ltb (at + 1) (2 ^ 64)) at place cc in
+    record { from = omega arith; wanted = 1; fewer = omega arith; enough = λ t k. there t (omega arith) same }
+  where
+    there : (t : Bytes) → 1 ≤ length t → {place : ℕ} → at ≡ place → Past place (groups high at t)
+    there [] k same = absurd (omega arith)
+    there (x ∷ t) k same = rw (← same) (past-byte high at x t)
+lack-groups high at (x ∷ s) place e = go (ltb high (2 ^ 57 - 1)) refl (ltb x 128) refl (λ e. lack-groups (high * 128 + x) (at + 1) s place e) e
+  where
+    go : (fits : Bool) → ltb high (2 ^ 57 - 1) ≡ fits → (low : Bool) → ltb x 128 ≡ low → (groups (high * 128 + x) (at + 1) s ≡ refused (Truncated place) → Lack (groups (high * 128 + x)) (at + 1) s place)
+        → cond fits (cond low (groups (high * 128 + x) (at + 1) s) (ok (high * 128 + x % 128) (at + 1) s)) (refused VarintOverflow) ≡ refused (Truncated place) → Lack (groups high) at (x ∷ s) place
+    go true f true l rest e =
+        let k = rest e in
+        let from = k .from in
+        let fewer = k .fewer in
+        record { from = omega arith; wanted = k .wanted; fewer = omega arith; enough = λ t h. rw (f, l) (k .enough t (omega arith)) }
+    go true f false l rest e = other e
+    go false f low l rest e = absurd (let z : _≡_ {A = ℕ} 0 1 = cc in omega arith)
+
+far-groups : (high at : ℕ) (s : Bytes) → groups high at s ≡ refused Overflow → 128 < at + length s
+far-groups high at [] e = let k : 128 < at = short-far (ltb (at + 1) (2 ^ 64)) at 1 refl (ltb-true 1 (2 ^ 64 - 128) refl) cc in omega arith
+far-groups high at (x ∷ s) e = go (ltb high (2 ^ 57 - 1)) (ltb x 128) (λ e. far-groups (high * 128 + x) (at + 1) s e) e
+  where
+    go : (fits low : Bool) → (groups (high * 128 + x) (at + 1) s ≡ refused Overflow → 128 < at + 1 + length s)
+        → cond fits (cond low (groups (high * 128 + x) (at + 1) s) (ok (high * 128 + x % 128) (at + 1) s)) (refused VarintOverflow) ≡ refused Overflow → 128 < at + suc (length s)
+    go true true rest e = let k = rest e in omega arith
+    go true false rest e = other e
+    go false low rest e = absurd (let z : _≡_ {A = ℕ} 0 1 = cc in omega arith)
+
+steady-number : {low : ℕ} → Steady low number
+steady-number = record { more = λ at s t h. steady-groups 0 at s t; lacks = λ at s place h e. lack-groups 0 at s place e; overflows = λ at s h e. far-groups 0 at s e }
+
+-- behind a number, which is below 2^64 − 128
+steady-numbered : {B : Type 0} {low : ℕ} {f : ℕ → Reader B} → ((n : ℕ) → n < 2 ^ 64 - 128 → Steady low (f n)) → Steady low (number >>= f)
+steady-numbered two = steady-known (λ n. n < 2 ^ 64 - 128) steady-number (λ at s n to rest e. exact-number .sound {at = at} {s = s} {x = n} {to = to} {rest = rest} e .spelt .fits) two
+
+steady-content : (limit first size : ℕ) → size < 2 ^ 64 - 128 → Steady first (content limit first size)
+steady-content limit first zero few = steady-give _
+steady-content limit first (suc n) few =
+    steady-then (steady-atMost n limit (StringBytes first) (tested (StringBytes first) refl refl own)) λ _. steady-here λ place. steady-then (steady-run n (omega arith)) λ bytes. steady-give _
 
 steady-string : {low : ℕ} (limit : ℕ) → Steady low (string limit)
-steady-string limit = steady-here λ first. steady-then steady-number λ size. steady-content limit first size
+steady-string limit = steady-here λ first. steady-numbered λ size few. steady-content limit first size few
 
 -- ## The header
-steady-expect : {low : ℕ} (bytes : Bytes) (refusal : ℕ → Refusal) → ((place : ℕ) → ByFile place (refusal place)) → Steady low (expect bytes refusal)
-steady-expect bytes refusal is = steady-here λ place. steady-then (steady-run (length bytes)) λ b. steady-test (sameBytes b bytes) (refusal place) (is place)
+steady-expect : {low : ℕ} (bytes : Bytes) (refusal : ℕ → Refusal) → ltb (length bytes) (2 ^ 64 - 128) ≡ true → ((place : ℕ) → Tested place (refusal place)) → Steady low (expect bytes refusal)
+steady-expect bytes refusal few is = steady-here λ place. steady-then (steady-run (length bytes) (ltb-true (length bytes) (2 ^ 64 - 128) few)) λ b. steady-test (sameBytes b bytes) (refusal place) (is place)
 
 steady-before : {low : ℕ} → Steady low beforeFormat
-steady-before = steady-then (steady-expect signature Signature λ place. listed (Signature place) refl refl own) λ _. steady-expect (0x54 ∷ []) Version λ place. listed (Version place) refl refl own
+steady-before = steady-then (steady-expect signature Signature refl λ place. tested (Signature place) refl refl own) λ _. steady-expect (0x54 ∷ []) Version refl λ place. tested (Version place) refl refl own
 
 steady-behind : {low : ℕ} → Steady low behindFormat
 steady-behind =
-    steady-then (steady-expect luacData LuacData λ place. listed (LuacData place) refl refl own) λ _.
-    steady-then (steady-expect (4 ∷ []) InstructionSize λ place. listed (InstructionSize place) refl refl own) λ _.
-    steady-then (steady-expect (8 ∷ []) LuaIntegerSize λ place. listed (LuaIntegerSize place) refl refl own) λ _.
-    steady-then (steady-expect (8 ∷ []) LuaNumberSize λ place. listed (LuaNumberSize place) refl refl own) λ _.
-    steady-then (steady-expect luacInt LuacInt λ place. listed (LuacInt place) refl refl own) λ _.
-    steady-expect luacNum LuacNum λ place. listed (LuacNum place) refl refl own
+    steady-then (steady-expect luacData LuacData refl λ place. tested (LuacData place) refl refl own) λ _.
+    steady-then (steady-expect (4 ∷ []) InstructionSize refl λ place. tested (InstructionSize place) refl refl own) λ _.
+    steady-then (steady-expect (8 ∷ []) LuaIntegerSize refl λ place. tested (LuaIntegerSize place) refl refl own) λ _.
+    steady-then (steady-expect (8 ∷ []) LuaNumberSize refl λ place. tested (LuaNumberSize place) refl refl own) λ _.
+    steady-then (steady-expect luacInt LuacInt refl λ place. tested (LuacInt place) refl refl own) λ _.
+    steady-expect luacNum LuacNum refl λ place. tested (LuacNum place) refl refl own
 
 steady-header : {low : ℕ} → Steady low header
-steady-header = steady-then steady-before λ _. steady-here λ place. steady-then (steady-field 1) λ format. steady-then steady-behind λ _. steady-give _
+steady-header = steady-then steady-before λ _. steady-here λ place. steady-then (steady-field 1 refl) λ format. steady-then steady-behind λ _. steady-give _
 
 -- ## Lists and entries
 -- (an item may begin at any place)
 steady-counted : {low : ℕ} {A : Type 0} {r : Reader A} → ((low : ℕ) → Steady low r) → Steady low (counted r)
 steady-counted one = steady-then steady-number λ n. steady-here λ place. steady-then (steady-many n (one place)) λ items. steady-give _
 
-steady-countedUpTo : {low : ℕ} {A : Type 0} {r : Reader A} (limit : ℕ) (refusal : ℕ → Refusal) → ((first : ℕ) → ByFile first (refusal first)) → ((low : ℕ) → Steady low r) → Steady low (countedUpTo limit refusal r)
+steady-countedUpTo : {low : ℕ} {A : Type 0} {r : Reader A} (limit : ℕ) (refusal : ℕ → Refusal) → ((first : ℕ) → Tested first (refusal first)) → ((low : ℕ) → Steady low r) → Steady low (countedUpTo limit refusal r)
 steady-countedUpTo limit refusal is one =
     steady-here λ first.
     steady-then steady-number λ n.
@@ -218,17 +390,17 @@ steady-tagged limit place tag =
     steady-pick (eqb tag 0) (steady-give _)
     (steady-pick (eqb tag 1) (steady-give _)
     (steady-pick (eqb tag 17) (steady-give _)
-    (steady-pick (eqb tag 3) (steady-then (steady-field 8) λ n. steady-give _)
-    (steady-pick (eqb tag 19) (steady-then (steady-field 8) λ n. steady-give _)
+    (steady-pick (eqb tag 3) (steady-then (steady-field 8 refl) λ n. steady-give _)
+    (steady-pick (eqb tag 19) (steady-then (steady-field 8 refl) λ n. steady-give _)
     (steady-pick (eqb tag 4) (steady-then (steady-always limit []) λ t. steady-give _)
     (steady-pick (eqb tag 20) (steady-then (steady-always limit []) λ t. steady-give _)
-    (steady-refuse (ConstantTag place) (listed (ConstantTag place) refl refl own))))))))
+    (steady-refuse (ConstantTag place) (tested (ConstantTag place) refl refl own))))))))
 
 steady-constant : {low : ℕ} (limit : ℕ) → Steady low (constant limit)
-steady-constant limit = steady-here λ place. steady-then (steady-field 1) λ tag. steady-tagged limit place tag
+steady-constant limit = steady-here λ place. steady-then (steady-field 1 refl) λ tag. steady-tagged limit place tag
 
 steady-upvalue : {low : ℕ} → Steady low upvalue
-steady-upvalue = steady-then (steady-field 1) λ instack. steady-then (steady-field 1) λ idx. steady-then (steady-field 1) λ kind. steady-give _
+steady-upvalue = steady-then (steady-field 1 refl) λ instack. steady-then (steady-field 1 refl) λ idx. steady-then (steady-field 1 refl) λ kind. steady-give _
 
 steady-anchor : {low : ℕ} → Steady low anchor
 steady-anchor = steady-then steady-number λ pc. steady-then steady-number λ line. steady-give _
@@ -248,25 +420,25 @@ steady-body L one w =
     steady-then (steady-string (L .«max_string_bytes»)) λ spelt.
     steady-then steady-number λ line-defined.
     steady-then steady-number λ last-line-defined.
-    steady-then (steady-field 1) λ numparams.
-    steady-then (steady-field 1) λ is-vararg.
-    steady-then (steady-field 1) λ maxstacksize.
+    steady-then (steady-field 1 refl) λ numparams.
+    steady-then (steady-field 1 refl) λ is-vararg.
+    steady-then (steady-field 1 refl) λ maxstacksize.
     steady-here λ first.
     steady-then steady-number λ size.
-    steady-then (steady-atMost size (L .«max_instructions_per_proto») (Instructions first) (listed (Instructions first) refl refl own)) λ _.
-    steady-then (steady-atMost (w .instructions + size) (L .«max_total_instructions») (TotalInstructions first) (listed (TotalInstructions first) refl refl own)) λ _.
+    steady-then (steady-atMost size (L .«max_instructions_per_proto») (Instructions first) (tested (Instructions first) refl refl own)) λ _.
+    steady-then (steady-atMost (w .instructions + size) (L .«max_total_instructions») (TotalInstructions first) (tested (TotalInstructions first) refl refl own)) λ _.
     steady-here λ instructions-at.
-    steady-then (steady-many size (steady-field 4)) λ instructions.
-    steady-then (steady-countedUpTo (L .«max_constants_per_proto») Constants (λ first. listed (Constants first) refl refl own) (λ low. steady-constant (L .«max_string_bytes»))) λ constants.
-    steady-then (steady-countedUpTo (L .«max_upvalues_per_proto») Upvalues (λ first. listed (Upvalues first) refl refl own) λ low. steady-upvalue) λ upvalues.
+    steady-then (steady-many size (steady-field 4 refl)) λ instructions.
+    steady-then (steady-countedUpTo (L .«max_constants_per_proto») Constants (λ first. tested (Constants first) refl refl own) (λ low. steady-constant (L .«max_string_bytes»))) λ constants.
+    steady-then (steady-countedUpTo (L .«max_upvalues_per_proto») Upvalues (λ first. tested (Upvalues first) refl refl own) λ low. steady-upvalue) λ upvalues.
     steady-here λ first.
     steady-then steady-number λ protos.
-    steady-then (steady-atMost protos (L .«max_total_prototypes») (Prototypes first) (listed (Prototypes first) refl refl own)) λ _.
+    steady-then (steady-atMost protos (L .«max_total_prototypes») (Prototypes first) (tested (Prototypes first) refl refl own)) λ _.
     steady-here λ protos-at.
     steady-then (steady-forest protos (within w (inherit spelt (w .source)) (length instructions)) one) λ nested.
-    steady-then steady-number λ line-info-size.
+    steady-numbered λ line-info-size few.
     steady-here λ line-info-at.
-    steady-then (steady-run line-info-size) λ line-info.
+    steady-then (steady-run line-info-size few) λ line-info.
     steady-then (steady-counted λ low. steady-anchor) λ abs-line-info.
     steady-then (steady-counted λ low. steady-local (L .«max_string_bytes»)) λ loc-vars.
     steady-then (steady-counted λ low. steady-string (L .«max_string_bytes»)) λ upvalue-names.
@@ -275,10 +447,10 @@ steady-body L one w =
 
 steady-function : {low : ℕ} (L : ResourceLimits) (left : ℕ) (w : Where) → Steady low (function L left w)
 unfolding function
-steady-function L zero w = steady-body L (λ low w. steady-here λ place. steady-refuse (NestingDepth place) (listed (NestingDepth place) refl refl own)) w
+steady-function L zero w = steady-body L (λ low w. steady-here λ place. steady-refuse (NestingDepth place) (tested (NestingDepth place) refl refl own)) w
 steady-function L (suc left) w =
-    steady-body L (λ low w. steady-here λ place. steady-then (steady-atMost (w .number) (L .«max_total_prototypes») (TotalPrototypes place) (listed (TotalPrototypes place) refl refl own)) λ _. steady-function L left w) w
+    steady-body L (λ low w. steady-here λ place. steady-then (steady-atMost (w .number) (L .«max_total_prototypes») (TotalPrototypes place) (tested (TotalPrototypes place) refl refl own)) λ _. steady-function L left w) w
 
 -- ## Chunks
 pub steady-main : {low : ℕ} (L : ResourceLimits) → Steady low (main L)
-steady-main L = steady-then steady-header λ headed. steady-then (steady-field 1) λ forgotten. steady-then (steady-function L (L .«max_nesting_depth») _) λ functions. steady-give _
+steady-main L = steady-then steady-header λ headed. steady-then (steady-field 1 refl) λ forgotten. steady-then (steady-function L (L .«max_nesting_depth») _) λ functions. steady-give _

@@ -23,6 +23,7 @@ pub mod LundumpCase
 pub mod LdumpCase
 pub mod Cases
 pub mod ChunkCases
+pub mod OrderCases
 pub mod Below
 pub mod Build
 pub mod FieldBytes

@@ -1,0 +1,90 @@
+-- 'In byte order', said of a reader, and proved of the reader of a chunk and of what every call begins with.
+--     Decided L r s p      the file s is refused with p for a cause (Causes.antt) that ends where its `front` ends: the front alone is refused so, whatever stands behind it unless bytes are missing (1, 2),
+--                          by a refusal of a file (1 to 20) whose place lies in the front or is its end
+--     InByteOrder L r      so it is with each refusal
+--     in-byte-order        the reader of a chunk
+--     decided-early        the same of `read`, with which every call on a chunk begins: 21 and 22 first
+-- Readers that are not in byte order: Trap.antt, Backwards.antt.
+-- Assumes nothing.
+use mathlib.Core.Path.{_≡_, refl, sym, _∙_, ap}
+use mathlib.Core.Bool.{Bool, true, false, cond}
+use mathlib.Core.List.{List, [], _∷_, _++_}
+use Prim.Native.Nat.{ℕ, _+_, _≤_, _<_}
+use native.Mathlib.Omega.{arith}
+use native.Mathlib.Nat.{zero-add}
+use lib.Dec.{leb}
+use lib.ListN.{length, length-append}
+use borrow.Author.Tests.{leb-true, le-leb}
+use Rattle.format.specs.declared.limits.ResourceLimits.{ResourceLimits}
+use Rattle.format.specs.declared.refusal.Refusal.{Refusal}
+use Rattle.format.specs.Refusals.{reported}
+use Rattle.format.specs.Form.{Bytes}
+use Rattle.format.specs.Limits.{withinCeilings}
+use Rattle.format.specs.GrammarChunk.{Loaded}
+use Rattle.format.specs.Read.{Read, ok, refused, Reader}
+use Rattle.format.specs.ReadChunk.{Outcome, shown, refusal, outcome, main, read}
+use Rattle.demands.proofs.InOrder.{ByFile, StillRefused, steady-main}
+use Rattle.demands.proofs.Causes.{causeOf, Ends}
+use Rattle.demands.proofs.Early.{early-main}
+
+pub record Decided {A : Type 0} (L : ResourceLimits) (r : Reader A) (s : Bytes) (p : Refusal) : Type 0 where
+  pub front : Bytes
+  pub rest : Bytes
+  pub whole : s ≡ front ++ rest
+  pub ends : Ends (causeOf L p) 0 front
+  pub by-file : ByFile (length front) p
+  pub already : r 0 front ≡ refused p
+  pub whatever : 2 < reported p .number → (t : Bytes) → r 0 (front ++ t) ≡ refused p
+
+abbrev pub InByteOrder : {A : Type 0} → ResourceLimits → Reader A → Type 0
+InByteOrder L r = (s : Bytes) (p : Refusal) → r 0 s ≡ refused p → Decided L r s p
+
+pub in-byte-order : (L : ResourceLimits) → InByteOrder L (main L)
+in-byte-order L s p e = let c = early-main L .cut 0 s p e in record {
+  front = c .front;
+  rest = c .rest;
+  whole = c .whole;
+  ends = c .ends;
+  by-file = behind (c .front) [] (c .same) .by-file;
+  already = c .same;
+  whatever = λ h t. behind (c .front) t (c .same) .stays h;
+}
+  where
+    behind : (front t : Bytes) → main L 0 front ≡ refused p → StillRefused (length front) p (main L 0 (front ++ t))
+    behind front t e = let all = steady-main {low = 0} L .more 0 front t (omega arith) in rw (e, zero-add) at all
+
+-- ## What the calls begin with
+pub record DecidedEarly (L : ResourceLimits) (s : Bytes) (p : Refusal) : Type 0 where
+  pub front : Bytes
+  pub rest : Bytes
+  pub whole : s ≡ front ++ rest
+  pub ends : Ends (causeOf L p) 0 front
+  pub by-file : ByFile (length front) p
+  pub already : read L front ≡ refusal p
+  pub whatever : 2 < reported p .number → (t : Bytes) → length (front ++ t) ≤ L .«max_input_bytes» → read L (front ++ t) ≡ refusal p
+
+-- neither 21 nor 22
+module _ (L : ResourceLimits) (within : withinCeilings L ≡ true) where
+  pub by-main : (s : Bytes) → length s ≤ L .«max_input_bytes» → read L s ≡ outcome L (main L 0 s)
+  unfolding read
+  by-main s short = rw (within, le-leb (length s) (L .«max_input_bytes») short)
+
+  pub by-refusal : (p : Refusal) (o : Read Loaded) → outcome L o ≡ refusal p → o ≡ refused p
+  by-refusal p (ok m to rest) e = absurd (let z : _≡_ {A = ℕ} 0 1 = cc in omega arith)
+  by-refusal p (refused p′) e = let same : p′ ≡ p = cc in ap refused same
+
+  pub decided-early : (s : Bytes) (p : Refusal) → length s ≤ L .«max_input_bytes» → read L s ≡ refusal p → DecidedEarly L s p
+  decided-early s p short e = of (in-byte-order L s p (by-refusal p (main L 0 s) (sym (by-main s short) ∙ e)))
+    where
+      of : Decided L (main L) s p → DecidedEarly L s p
+      of d =
+          let less : length (d .front) ≤ L .«max_input_bytes» = omega (arith, ap length (d .whole), length-append (d .front) (d .rest)) in
+          record {
+            front = d .front;
+            rest = d .rest;
+            whole = d .whole;
+            ends = d .ends;
+            by-file = d .by-file;
+            already = by-main (d .front) less ∙ ap (outcome L) (d .already);
+            whatever = λ h t fits. by-main (d .front ++ t) fits ∙ ap (outcome L) (d .whatever h t);
+          }
