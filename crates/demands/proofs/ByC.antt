@@ -74,10 +74,11 @@ use Rattle.instructions.specs.Word.{encoded}
 use Rattle.boundary.specs.Status.{limitsOf, withPlace, Answer, done, refuses, status, written, complement}
 use Rattle.numbers.specs.Numbers.{ofSummary, ofFields, ofLine, ofWord, ofConstant, ofUpvalue, ofDelta, ofAnchor, ofLocal, ofName, ofIndex, ofCopy, ofVerdict, ofCount}
 use Rattle.numbers.specs.Words.{spelt, ofEncoded}
-use Rattle.finding_list.specs.FindingNumbers.{offendingNumber, listNumbers, ofFindings, overFront, numbersWritten}
+use Rattle.finding_list.specs.FindingNumbers.{offendingNumber, listNumbers, ofFindings, numbersWritten}
 use Rattle.demands.proofs.Refused.{first, forChunk, forSpace, forFunction, forLine, forEntry, forLocal, forWord}
 use Rattle.demands.proofs.Refused.{inSummary, inFields, inWord, inConstant, inUpvalue, inDelta, inAnchor, inName, inLocal, inLine, inIndex, inCopy, inVerdict, inCount, inFindings, inEncoded}
 use Rattle.demands.proofs.Demand1 as calls
+use Rattle.finding_list.proofs.Numbered.{all-or-none}
 
 -- ## The law
 -- what is returned for a refusal, or for none
@@ -226,10 +227,10 @@ lafzimdo-encode op a k b c bx sbx ax sj = law _ _ (of-encoded (encoded (spelt op
 -- ## The list of findings
 pub findings-kept : (old : List ℕ) (o : Outcome) (q : Report) → inFindings (shownFindings (length old / 4) o) ≡ some q → numbersWritten old o ≡ old
 unfolding listNumbers
-findings-kept old (shown r) q e = by (leb (length (chunkFindings r .findings)) (length old / 4)) e
+findings-kept old (shown r) q e = sym (all-or-none old (shown r)) ∙ by (leb (length (chunkFindings r .findings)) (length old / 4)) e
   where
     by : (b : Bool) → inFindings (cond b (findings-answer.Ok (verdict (chunkFindings r)) (length (chunkFindings r .findings))) (findings-answer.Err LentSpace)) ≡ some q
-        → overFront (listNumbers (cond b (chunkFindings r .findings) [])) old ≡ old
+        → listNumbers (cond b (chunkFindings r .findings) []) ++ drop (length (listNumbers (cond b (chunkFindings r .findings) []))) old ≡ old
     by true e = absurd (let z : _≡_ {A = ℕ} 0 1 = cc in omega arith)
     by false e = refl
 findings-kept old (refusal p) q e = refl

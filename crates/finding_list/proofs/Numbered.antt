@@ -1,6 +1,7 @@
 -- The numbers of findings in a list, one finding more at a time.
 --     none-put     of no findings nothing is written
 --     next-put     the numbers of finding k behind those of the k before it
+--     all-or-none  what is written goes by the room for findings
 --     all-put      what the last leaves, by the plan
 -- Assumes nothing.
 use mathlib.Core.Path.{_≡_, refl, sym, ap, _∙_}
@@ -40,6 +41,19 @@ pub none-put : (fs : List Finding) (old : List ℕ) → old ≡ splice 0 (listNu
 unfolding listNumbers
 none-put fs old = sym (splice-none 0 old)
 
+-- there is room for four numbers each exactly where there is room for them
+pub all-or-none : (old : List ℕ) (o : Outcome) → listNumbers (foundIn (length old / 4) o) ++ drop (length (listNumbers (foundIn (length old / 4) o))) old ≡ numbersWritten old o
+unfolding listNumbers
+all-or-none old (refusal q) = refl
+all-or-none old (shown r) = by (leb (length (chunkFindings r .findings)) (length old / 4)) refl
+  where
+    all : List Finding
+    all = chunkFindings r .findings
+
+    by : (t : Bool) → leb (length all) (length old / 4) ≡ t → listNumbers (cond t all []) ++ drop (length (listNumbers (cond t all []))) old ≡ over (listNumbers all) old
+    by true is = let room = leb-true (length all) (length old / 4) is in rw (le-leb (length (listNumbers all)) (length old) (omega (arith, numbers-length all)))
+    by false is = let short = leb-false (length all) (length old / 4) is in rw (lt-leb (length (listNumbers all)) (length old) (omega (arith, numbers-length all)))
+
 module _ (fs : List Finding) (old : List ℕ) where
   pub next-put : (k : ℕ) (f : Finding) (out : List ℕ) → k < length fs → 4 * k + 4 ≤ length old → f ≡ getD fs k f → out ≡ splice 0 (listNumbers (take k fs)) old
       → splice (4 * k) (findingNumbers f) out ≡ splice 0 (listNumbers (take (k + 1) fs)) old
@@ -54,18 +68,5 @@ module _ (fs : List Finding) (old : List ℕ) where
       ∙ splice-then 0 (listNumbers (take k fs)) (findingNumbers f) old (omega (arith, size))
       ∙ ap (λ (l : List ℕ). splice 0 l old) (sym more)
 
-  -- there is room for four numbers each exactly where there is room for them
-  all-or-none : (o : Outcome) → listNumbers (foundIn (length old / 4) o) ++ drop (length (listNumbers (foundIn (length old / 4) o))) old ≡ numbersWritten old o
-  unfolding listNumbers
-  all-or-none (refusal q) = refl
-  all-or-none (shown r) = by (leb (length (chunkFindings r .findings)) (length old / 4)) refl
-    where
-      all : List Finding
-      all = chunkFindings r .findings
-
-      by : (t : Bool) → leb (length all) (length old / 4) ≡ t → listNumbers (cond t all []) ++ drop (length (listNumbers (cond t all []))) old ≡ over (listNumbers all) old
-      by true is = let room = leb-true (length all) (length old / 4) is in rw (le-leb (length (listNumbers all)) (length old) (omega (arith, numbers-length all)))
-      by false is = let short = leb-false (length all) (length old / 4) is in rw (lt-leb (length (listNumbers all)) (length old) (omega (arith, numbers-length all)))
-
   pub all-put : (count : ℕ) (o : Outcome) (out : List ℕ) → take count fs ≡ foundIn (length old / 4) o → out ≡ splice 0 (listNumbers (take count fs)) old → out ≡ numbersWritten old o
-  all-put count o out found is = is ∙ splice-front (listNumbers (take count fs)) old ∙ ap (λ (l : List Finding). listNumbers l ++ drop (length (listNumbers l)) old) found ∙ all-or-none o
+  all-put count o out found is = is ∙ splice-front (listNumbers (take count fs)) old ∙ ap (λ (l : List Finding). listNumbers l ++ drop (length (listNumbers l)) old) found ∙ all-or-none old o

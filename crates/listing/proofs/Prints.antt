@@ -11,8 +11,6 @@ use mathlib.Core.Path.{_≡_, refl, ap, _∙_}
 use mathlib.Core.Bool.{Bool, true, false}
 use mathlib.Core.List.{List, [], _∷_, _++_, map}
 use Prim.Native.Nat.{ℕ, _<_}
-use Prim.Native.Char.{code}
-use Prim.Native.String.{String, [] as no-more, _∷_ as _then_}
 use lib.Dec.{leb}
 use lib.ListN.{length, replicate, take}
 use borrow.Author.Tests.{lt-leb}
@@ -27,11 +25,7 @@ use Rattle.instructions.specs.Word.{decoded}
 use Rattle.listing_text.specs.Lines.{digitsUpTo, firstLine, refusalLine}
 use Rattle.listing.specs.Listing.{listing}
 use Rattle.listing.proofs.Cases.{small}
-
--- a text of ASCII as its bytes
-abbrev ascii : String → List ℕ
-ascii no-more = []
-ascii (c then rest) = code c ∷ ascii rest
+use Rattle.format.specs.Ascii.{ascii}
 
 several-hold : listing distinct ≡ ascii "chunk 311 functions 9 trailing 3 verdict valid-for-analysis\n0 0 0 0 0 1 2 0 0 0\n1 1 0 0 0 0 2 0 0 0\n2 2 0 0 0 0 2 0 0 0\n3 1 0 0 0 0 2 0 0 0\n4 2 13 14 15 16 17 5 7 6\n5 3 0 0 0 0 2 0 0 0\n6 3 0 0 0 0 2 0 0 0\n7 3 0 0 0 0 2 0 0 0\n8 3 0 0 0 0 2 0 0 0\n"
 unfolding distinct read body function codeGroups groups limited chunkFindings instruction decoded digitsUpTo firstLine refusalLine
