@@ -1,3 +1,3 @@
+pub mod NumberCases
 pub mod Calls
 pub mod Complement
-pub mod NumberCases

@@ -1,3 +1,4 @@
+pub mod FindingCases
 pub mod Calls
 pub mod Written
 pub mod InOrder
@@ -5,4 +6,3 @@ pub mod Refused
 pub mod Demand1
 pub mod Demand2
 pub mod Demand3
-pub mod FindingCases

@@ -7,9 +7,9 @@ use Prim.Native.Nat.{ℕ, _/_}
 use lib.ListN.{length, drop}
 use Rattle.format.specs.ReadChunk.{Outcome}
 use Rattle.rules.specs.declared.finding.Finding.{Finding}
+use Rattle.rules.specs.Rules.{offending}
 use Rattle.rules.specs.declared.finding.Rule.{Rule}
 use Rattle.rules.specs.declared.finding.Rule.the-variants.{Opcode, Register, Constant, Upvalue, TableUpvalue, Prototype, Jump}
-use Rattle.rules.specs.Rules.{offending}
 use Rattle.finding_plan.specs.declared.FindingsAnswer.{FindingsAnswer}
 use Rattle.finding_plan.specs.declared.FindingsAnswer.the-variants as answer
 use Rattle.finding_plan.specs.Listed.{foundIn}

@@ -17,6 +17,12 @@ pub mod LundumpChunk
 pub mod LundumpCase
 pub mod Cases
 pub mod ChunkCases
+pub mod RefusalCases
+pub mod LimitCases
+pub mod Byte31
+pub mod Distinct
+pub mod Cuts
+pub mod ShortestCases
 pub mod Below
 pub mod Build
 pub mod FieldBytes
@@ -30,9 +36,3 @@ pub mod CopyFunctions
 pub mod KeptCopy
 pub mod CopyMain
 pub mod CopyChunk
-pub mod RefusalCases
-pub mod LimitCases
-pub mod Byte31
-pub mod Distinct
-pub mod Cuts
-pub mod ShortestCases

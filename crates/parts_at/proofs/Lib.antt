@@ -1,2 +1,2 @@
-pub mod Arrays
 pub mod Cases
+pub mod Arrays
