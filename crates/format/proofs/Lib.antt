@@ -1,3 +1,9 @@
+pub mod RefusalCases
+pub mod LimitCases
+pub mod Byte31
+pub mod Distinct
+pub mod Cuts
+pub mod ShortestCases
 pub mod Exact
 pub mod ExactFields
 pub mod ExactHeader
@@ -17,12 +23,6 @@ pub mod LundumpChunk
 pub mod LundumpCase
 pub mod Cases
 pub mod ChunkCases
-pub mod RefusalCases
-pub mod LimitCases
-pub mod Byte31
-pub mod Distinct
-pub mod Cuts
-pub mod ShortestCases
 pub mod Below
 pub mod Build
 pub mod FieldBytes
