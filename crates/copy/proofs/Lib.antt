@@ -1,3 +1,3 @@
+pub mod Cases
 pub mod Chunks
 pub mod Outcomes
-pub mod Cases

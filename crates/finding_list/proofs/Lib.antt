@@ -1,2 +1,2 @@
-pub mod Numbered
 pub mod Cases
+pub mod Numbered

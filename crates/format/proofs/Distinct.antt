@@ -2,6 +2,7 @@
 --     distinct         the chunk, of 311 bytes: main, in it 1 with 2 in it, and 3 with 4 in it, which has four small ones, 5 to 8
 --     fourth           function 4, as 01 and the Rust read it
 --     fourth-read      it is what the reader gives
+--     header-read      and the header's fields
 --     whole-read       and of the chunk the warnings, the number of functions and the trailing bytes
 -- Assumes nothing.
 use mathlib.Core.Path.{_≡_, refl}
@@ -9,7 +10,9 @@ use mathlib.Core.Bool.{true, false}
 use mathlib.Core.List.{List, [], _∷_, _++_, map}
 use mathlib.Core.Option.{Option, none, some}
 use Prim.Native.Nat.{ℕ}
+use lib.IntN.{pos}
 use lib.ListN.{length, replicate, take, drop}
+use Rattle.format.specs.declared.header.Header as declared
 use Rattle.format.specs.declared.header.Warning.{Warning}
 use Rattle.format.specs.declared.header.Warning.the-variants.{NonStandardFormat, TrailingBytes}
 use Rattle.format.specs.declared.entry.AbsLineInfo.{AbsLineInfo}
@@ -102,6 +105,24 @@ functionsOf (refusal q) = []
 pub fourth-read : take 1 (drop 4 (functionsOf (read ceilings distinct))) ≡ fourth ∷ []
 unfolding distinct fourth read body function
 fourth-read = refl
+
+-- `sizeof_sizet` is not in the file; 370.5 by its bits
+abbrev pub headersOf : Outcome → List declared.Header
+headersOf (shown r) = r .header ∷ []
+headersOf (refusal q) = []
+
+pub header-read : headersOf (read ceilings distinct) ≡ record {
+  version = 0x54;
+  format = 3;
+  «instruction_size» = 4;
+  «lua_integer_size» = 8;
+  «sizeof_sizet» = 8;
+  «lua_number_size» = 8;
+  «luac_int» = pos 0x5678;
+  «luac_num» = 0x4077280000000000;
+} ∷ []
+unfolding distinct read body function
+header-read = refl
 
 -- warnings; how many functions; where the trailing bytes begin, and they
 abbrev pub wholeOf : Outcome → List Warning × ℕ × ℕ × Bytes

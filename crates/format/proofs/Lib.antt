@@ -1,3 +1,9 @@
+pub mod RefusalCases
+pub mod LimitCases
+pub mod Byte31
+pub mod Distinct
+pub mod Cuts
+pub mod ShortestCases
 pub mod Exact
 pub mod ExactFields
 pub mod ExactHeader
@@ -38,9 +44,3 @@ pub mod CopyFunctions
 pub mod KeptCopy
 pub mod CopyMain
 pub mod CopyChunk
-pub mod RefusalCases
-pub mod LimitCases
-pub mod Byte31
-pub mod Distinct
-pub mod Cuts
-pub mod ShortestCases

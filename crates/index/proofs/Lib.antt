@@ -1,3 +1,3 @@
+pub mod Cases
 pub mod Small
 pub mod Whole
-pub mod Cases

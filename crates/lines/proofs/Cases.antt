@@ -55,7 +55,8 @@ more =
     ∷ record { line-defined = 2 ^ 62 - 1; instructions = 1; deltas = 0x01 ∷ []; anchors = []; pc = 0; result = Ok (2 ^ 62) }
     ∷ record { line-defined = 2 ^ 62; instructions = 1; deltas = []; anchors = []; pc = 0; result = Err LineTooLarge }
     ∷ record { line-defined = 0; instructions = 3; deltas = []; anchors = at 0 0 ∷ at 9 (2 ^ 62) ∷ []; pc = 0; result = Err LineTooLarge }
-    ∷ record { line-defined = 0; instructions = 2; deltas = []; anchors = at 0 0 ∷ at 9 (2 ^ 62 - 1) ∷ []; pc = 1; result = Ok (2 ^ 62 - 1) }
+    ∷ record { line-defined = 2 ^ 62 - 1; instructions = 2; deltas = []; anchors = at 0 (2 ^ 62 - 1) ∷ at 9 (2 ^ 62 - 1) ∷ []; pc = 1; result = Ok (2 ^ 62 - 1) }
+    ∷ record { line-defined = 0; instructions = 2; deltas = []; anchors = at 0 (2 ^ 62) ∷ at 9 0 ∷ []; pc = 1; result = Err LineTooLarge }
     ∷ []
 
 abbrev line : Case → LineAnswer

@@ -1,3 +1,3 @@
+pub mod Prints
 pub mod Chunks
 pub mod Cases
-pub mod Prints

@@ -1,4 +1,4 @@
+pub mod ModeCases
 pub mod Tests
 pub mod Variants
 pub mod Opcodes
-pub mod ModeCases

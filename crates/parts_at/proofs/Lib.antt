@@ -1,3 +1,3 @@
+pub mod Cases
 pub mod Arrays
 pub mod Admitted
-pub mod Cases

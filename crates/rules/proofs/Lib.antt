@@ -1,3 +1,4 @@
+pub mod RuleCases
 pub mod Targets
 pub mod Judging
 pub mod RustLaws
@@ -5,4 +6,3 @@ pub mod FewFindings
 pub mod Cases
 pub mod StopCases
 pub mod StopLaws
-pub mod RuleCases

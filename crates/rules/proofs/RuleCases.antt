@@ -3,6 +3,7 @@
 --     exempt-are       of the 83 opcodes, those whose A is no register: SETTABUP, JMP, RETURN0, VARARGPREP, EXTRAARG
 --     checked-are      of the 128 opcode numbers, those that are held against a list's bound or have no opcode, with their rule
 --     bounds-are       what a function's words are held against: its stack and the lengths of its lists
+--     offending-holds  the number that breaks each rule
 --     severities-hold  of each rule: only a register is a warning; and the verdict on a chunk with that one finding
 -- Assumes nothing.
 use mathlib.Core.Path.{_≡_, refl}
@@ -20,7 +21,7 @@ use Rattle.rules.specs.declared.finding.Severity.{Severity}
 use Rattle.rules.specs.declared.finding.Severity.the-variants.{Error, Warning}
 use Rattle.rules.specs.declared.finding.Verdict.{Verdict}
 use Rattle.rules.specs.declared.finding.Verdict.the-variants.{ValidForAnalysis, Invalid, Incomplete}
-use Rattle.rules.specs.Rules.{severity, instruction}
+use Rattle.rules.specs.Rules.{severity, offending, instruction}
 use Rattle.rules.specs.Findings.{boundsOf, verdict}
 
 -- bounds that all differ; the word is instruction 7 of function 5
@@ -105,6 +106,11 @@ checked-are = refl
 bounds-are : boundsOf fourth ≡ record { maxstacksize = 17; instructions = 5; constants = 7; upvalues = 6; protos = 4 }
 unfolding fourth
 bounds-are = refl
+
+-- ## Offending numbers
+offending-holds : map offending (Opcode 1 ∷ Register 2 ∷ Constant 3 ∷ Upvalue 4 ∷ TableUpvalue 5 ∷ Prototype 6 ∷ Jump (pos 7) ∷ Jump (negsuc 8) ∷ [])
+    ≡ pos 1 ∷ pos 2 ∷ pos 3 ∷ pos 4 ∷ pos 5 ∷ pos 6 ∷ pos 7 ∷ negsuc 8 ∷ []
+offending-holds = refl
 
 -- ## Severities and verdicts
 -- a rule's severity, the verdict on a chunk with this finding alone, and on one that was stopped

@@ -1,3 +1,3 @@
+pub mod Cases
 pub mod FieldLaws
 pub mod SummaryLaws
-pub mod Cases
