@@ -60,11 +60,11 @@ module _ (L : ResourceLimits) where
   -- of a function, whose count stands behind its front (source, lines and three bytes): 14; 15 where it is not 14
   module _ (r : Where → Reader (List Prototype)) (w : Where) (at : ℕ) (s : Bytes) (x : Front) (begin : ℕ) (t : Bytes) (size to : ℕ) (u : Bytes)
       (fronted : front (L .«max_string_bytes») at s ≡ ok x begin t) (counted : number begin t ≡ ok size to u) where
-    pub fourteen-first : leb size (L .«max_instructions_per_proto») ≡ false → body L r w at s ≡ refused (q.Instructions begin)
-    fourteen-first k = in-parts L r w at s ∙ (rw (fronted, counted, k))
+    pub fourteen-first : leb size (L .«max_instructions_per_proto») ≡ false → byReader (body L r w at s) ≡ some (placed 14 begin)
+    fourteen-first k = ap byReader (in-parts L r w at s) ∙ (rw (fronted, counted, k))
 
-    pub fifteen-next : leb size (L .«max_instructions_per_proto») ≡ true → leb (w .instructions + size) (L .«max_total_instructions») ≡ false → body L r w at s ≡ refused (q.TotalInstructions begin)
-    fifteen-next k l = in-parts L r w at s ∙ (rw (fronted, counted, k, l))
+    pub fifteen-next : leb size (L .«max_instructions_per_proto») ≡ true → leb (w .instructions + size) (L .«max_total_instructions») ≡ false → byReader (body L r w at s) ≡ some (placed 15 begin)
+    fifteen-next k l = ap byReader (in-parts L r w at s) ∙ (rw (fronted, counted, k, l))
 
   -- of a whole chunk: the count at the place of 15 is not above the limit of 14
   pub record Within (s : Bytes) (at : ℕ) : Type 0 where
