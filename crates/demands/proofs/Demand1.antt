@@ -15,6 +15,7 @@ use mathlib.Core.List.{List, [], _∷_, _++_}
 use mathlib.Core.Option.{Option, none, some}
 use Prim.Native.Nat.{ℕ, _≤_, _<_, _^_}
 use native.Mathlib.Omega.{arith}
+use native.Mathlib.Nat.{zero-add}
 use lib.Dec.{leb, ltb}
 use lib.IntN.{ℤ, pos, negsuc, _+ℤ_}
 use lib.ListN.{length, drop, length-append}
@@ -80,7 +81,8 @@ places L s q = go (withinCeilings L) refl (leb (length s) (L .«max_input_bytes�
         let same : p ≡ q = cc in
         let d = in-byte-order L s p k in
         let fits : length (d .front) ≤ length s = omega (arith, ap length (d .whole), length-append (d .front) (d .rest)) in
-        let here = inside-more fits (reported p .place) (d .by-file .place) in
+        let there : Inside (length (d .front)) (reported p .place) = rw zero-add at (d .by-file .place) in
+        let here = inside-more fits (reported p .place) there in
         let few : length s ≤ 16777216 = omega (arith, leb-true (length s) (L .«max_input_bytes») g, input-ceiling L f) in
         rw (← same) (here, inside-more few (reported p .place) here)
     go true f false g m k e = let same : refusals.InputBytes ≡ q = cc in rw (← same) (tt, tt)
