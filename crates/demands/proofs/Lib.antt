@@ -16,6 +16,7 @@ pub mod Accepted
 pub mod Exactly
 pub mod ByC
 pub mod AtPlace
+pub mod PartsInOrder
 pub mod Printed
 pub mod Demand2
 pub mod Demand3
