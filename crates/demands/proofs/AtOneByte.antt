@@ -1,7 +1,8 @@
 -- At one byte (01, 'Order'): the lower number, but 2 before 1, and 19, then 20, before anything of the nested function that begins there. Each by cases, as the first of its conditions;
 -- and of the whole reader, what the rule comes to.
 --     two-then-one             where bytes are wanted; `one-byte-more` where a number goes on
---     fourteen-then-fifteen    behind the count of a function's instructions. `not-fourteen`: a count that is refused with 15 is not above its own limit
+--     fourteen-first, fifteen-next     at the count of a function's instructions: 14 where it is above its own limit; 15 where it is not, and the sum is above its limit
+--     not-fourteen             of a whole chunk: a count that is refused with 15 is not above its own limit
 --     nineteen-then-twenty     where a nested function begins, whatever stands there: also where the file ends. (`function-enters`: that is where they are tested.)
 --     nineteen-at-once, twenty-at-once     of a whole chunk: the file that ends at the place of 19 or 20 is refused so, and so it is with any bytes behind
 -- (1 to 20 at one byte meet nowhere else: 4 to 12 want their bytes first, 13 to 18 their number, and a missing byte is 1.)
@@ -24,8 +25,10 @@ use Rattle.format.specs.Form.{Bytes}
 use Rattle.format.specs.Reading.{Prototype}
 use Rattle.format.specs.GrammarChunk.{Where}
 use Rattle.format.specs.Read.{Read, ok, refused, Reader, next, _>>=_, _>>_, here, refuse, test, atMost, piece, run}
-use Rattle.format.specs.ReadFields.{groups}
+use Rattle.format.specs.ReadFields.{groups, number}
 use Rattle.format.specs.ReadChunk.{body, function, main}
+use Rattle.prototype.specs.Front.{Front, front}
+use Rattle.prototype.proofs.Flat.{in-parts}
 use Rattle.demands.proofs.Causes.{causeOf, enters, LastNumber, Ends}
 use Rattle.demands.proofs.Order.{Decided, in-byte-order}
 use Rattle.demands.proofs.Refused.{unless, first, byReader}
@@ -53,21 +56,14 @@ one-byte-more high at = go (ltb (at + 1) (2 ^ 64))
 
 module _ (L : ResourceLimits) where
   -- ## 14 before 15
-  -- behind the count, which begins at `begin`, where the functions before have so many instructions
-  module _ {B : Type 0} (g : Reader B) (size before begin at : ℕ) (s : Bytes) where
-    pub fourteen-then-fifteen : byReader ((atMost size (L .«max_instructions_per_proto») (q.Instructions begin) >> (atMost (before + size) (L .«max_total_instructions») (q.TotalInstructions begin) >> g)) at s)
-        ≡ first (unless (leb size (L .«max_instructions_per_proto»)) (placed 14 begin) ∷ unless (leb (before + size) (L .«max_total_instructions»)) (placed 15 begin) ∷ byReader (g at s) ∷ [])
-    fourteen-then-fifteen = go (leb size (L .«max_instructions_per_proto»)) (leb (before + size) (L .«max_total_instructions»))
-      where
-        alone : (o : Option Report) → o ≡ first (o ∷ [])
-        alone none = refl
-        alone (some r) = refl
+  -- of a function, whose count stands behind its front (source, lines and three bytes): 14; 15 where it is not 14
+  module _ (r : Where → Reader (List Prototype)) (w : Where) (at : ℕ) (s : Bytes) (x : Front) (begin : ℕ) (t : Bytes) (size to : ℕ) (u : Bytes)
+      (fronted : front (L .«max_string_bytes») at s ≡ ok x begin t) (counted : number begin t ≡ ok size to u) where
+    pub fourteen-first : leb size (L .«max_instructions_per_proto») ≡ false → byReader (body L r w at s) ≡ some (placed 14 begin)
+    fourteen-first k = ap byReader (in-parts L r w at s) ∙ (rw (fronted, counted, k))
 
-        go : (own all : Bool) → byReader ((test own (q.Instructions begin) >> (test all (q.TotalInstructions begin) >> g)) at s)
-            ≡ first (unless own (placed 14 begin) ∷ unless all (placed 15 begin) ∷ byReader (g at s) ∷ [])
-        go true true = alone (byReader (g at s))
-        go true false = refl
-        go false all = refl
+    pub fifteen-next : leb size (L .«max_instructions_per_proto») ≡ true → leb (w .instructions + size) (L .«max_total_instructions») ≡ false → byReader (body L r w at s) ≡ some (placed 15 begin)
+    fifteen-next k l = ap byReader (in-parts L r w at s) ∙ (rw (fronted, counted, k, l))
 
   -- of a whole chunk: the count at the place of 15 is not above the limit of 14
   pub record Within (s : Bytes) (at : ℕ) : Type 0 where

@@ -1,6 +1,5 @@
 -- Demand 1 of the calls behind C that read a part at a place: 21, 22, then what the part's reader refuses; else 0, and the answer. One law (ByC.antt, `law`), and a line for each call.
--- (The reader begins at the place: bytes before it are not looked at. Behind the file's end there are none, so that is 1, or 2. The reader of a function is made of head and tail, crates/prototype/proofs/Flat.antt:
--- their refusals come in its order.)
+-- (The reader begins at the place: bytes before it are not looked at. Behind the file's end there are none, so that is 1, or 2. What their readers refuse is in byte order: PartsInOrder.antt.)
 -- Assumes nothing.
 use mathlib.Core.Path.{_≡_, refl, _∙_}
 use mathlib.Core.Bool.{Bool, true, false, cond}

@@ -7,7 +7,7 @@
 --     summary ..       the order of a call's refusals
 --     ..-kept          a call that refuses leaves lent memory as it was
 -- Order.antt: 1 to 20 come in the order of the bytes, each for its cause (Causes.antt); AtOneByte.antt: at one byte. CutShort.antt: 1 lacks bytes. ByLimits.antt: 1 to 12 are the file's, 13 to 20 the limits'.
--- Numbers.antt: the numbers. Exactly.antt: 21 and 22. Accepted.antt: where no condition holds, the answer is Ok. ByC.antt, AtPlace.antt: the calls behind C. Printed.antt: what `chunklist` prints.
+-- Numbers.antt: the numbers. Exactly.antt: 21 and 22. Accepted.antt: where no condition holds, the answer is Ok. ByC.antt, AtPlace.antt (PartsInOrder.antt): the calls behind C. Printed.antt: what `chunklist` prints.
 -- Assumes nothing.
 use mathlib.Core.Path.{_≡_, refl, sym, _∙_, ap}
 use mathlib.Core.Bool.{Bool, true, false, cond}
@@ -15,6 +15,7 @@ use mathlib.Core.List.{List, [], _∷_, _++_}
 use mathlib.Core.Option.{Option, none, some}
 use Prim.Native.Nat.{ℕ, _≤_, _<_, _^_}
 use native.Mathlib.Omega.{arith}
+use native.Mathlib.Nat.{zero-add}
 use lib.Dec.{leb, ltb}
 use lib.IntN.{ℤ, pos, negsuc, _+ℤ_}
 use lib.ListN.{length, drop, length-append, getElem?}
@@ -78,7 +79,8 @@ places L s q = go (withinCeilings L) refl (leb (length s) (L .«max_input_bytes�
         let same : p ≡ q = cc in
         let d = in-byte-order L s p k in
         let fits : length (d .front) ≤ length s = omega (arith, ap length (d .whole), length-append (d .front) (d .rest)) in
-        let here = inside-more fits (reported p .place) (d .by-file .place) in
+        let there : Inside (length (d .front)) (reported p .place) = rw zero-add at (d .by-file .place) in
+        let here = inside-more fits (reported p .place) there in
         let few : length s ≤ 16777216 = omega (arith, leb-true (length s) (L .«max_input_bytes») g, input-ceiling L f) in
         rw (← same) (here, inside-more few (reported p .place) here)
     go true f false g m k e = let same : refusals.InputBytes ≡ q = cc in rw (← same) (tt, tt)

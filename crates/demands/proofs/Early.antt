@@ -84,13 +84,13 @@ module _ (L : ResourceLimits) where
   all-of : {A : Type 0} {r : Reader A} (at : ℕ) (s : Bytes) (p : Refusal) → causeOf L p ≡ missing → r at s ≡ refused p → Cut r at s p
   all-of at s p c e = record { front = s; rest = []; whole = sym (append-nil s); same = e; ends = rw c tt }
 
-  early-give : {A : Type 0} (x : A) → Early (give x)
+  pub early-give : {A : Type 0} (x : A) → Early (give x)
   early-give x = record { cut = λ at s p e. no e }
 
-  early-here : {B : Type 0} {f : ℕ → Reader B} → ((place : ℕ) → Early (f place)) → Early (here >>= f)
+  pub early-here : {B : Type 0} {f : ℕ → Reader B} → ((place : ℕ) → Early (f place)) → Early (here >>= f)
   early-here two = record { cut = λ at s p e. let c = two at .cut at s p e in record { front = c .front; rest = c .rest; whole = c .whole; same = c .same; ends = c .ends } }
 
-  early-then : {A B : Type 0} {r : Reader A} {F : Form A} {f : A → Reader B} → Exact r F → Early r → ((x : A) → Early (f x)) → Early (r >>= f)
+  pub early-then : {A B : Type 0} {r : Reader A} {F : Form A} {f : A → Reader B} → Exact r F → Early r → ((x : A) → Early (f x)) → Early (r >>= f)
   early-then {A} {B} {r} {F} {f} exact one two = record { cut = λ at s p e. go at s p (r at s) refl e }
     where
       go : (at : ℕ) (s : Bytes) (p : Refusal) (o : Read A) → r at s ≡ o → next o f ≡ refused p → Cut (r >>= f) at s p
@@ -118,18 +118,18 @@ module _ (L : ResourceLimits) where
   short-none true at = refl
   short-none false at = refl
 
-  early-run : (n : ℕ) → Early (run n)
+  pub early-run : (n : ℕ) → Early (run n)
   early-run n = record { cut = λ at s p e. go at s p (leb n (length s)) refl e }
     where
       go : (at : ℕ) (s : Bytes) (p : Refusal) (b : Bool) → leb n (length s) ≡ b → piece b n at s ≡ refused p → Cut (run n) at s p
       go at s p true is e = no e
       go at s p false is e = all-of at s p (ap (causeOf L) (sym (was e)) ∙ short-none (ltb (at + n) (2 ^ 64)) at) (ap (λ b. piece b n at s) is ∙ e)
 
-  early-many : {A : Type 0} {r : Reader A} {F : Form A} (n : ℕ) → Exact r F → Early r → Early (many n r)
+  pub early-many : {A : Type 0} {r : Reader A} {F : Form A} (n : ℕ) → Exact r F → Early r → Early (many n r)
   early-many zero exact one = early-give []
   early-many (suc n) exact one = early-then exact one λ x. early-then (exact-many n exact) (early-many n exact one) λ xs. early-give _
 
-  early-field : (n : ℕ) → Early (field n)
+  pub early-field : (n : ℕ) → Early (field n)
   early-field n = early-then (exact-run n) (early-run n) λ bytes. early-give _
 
   -- ## A number: bytes are missing, or it is too large, which the byte behind its digits shows
@@ -207,7 +207,7 @@ module _ (L : ResourceLimits) where
   number-cut [] ds at p small fits e = record { front = []; rest = []; whole = refl; same = e; stop = lacking (ap (causeOf L) (sym (was e)) ∙ short-none (ltb (at + 1) (2 ^ 64)) at) }
   number-cut (x ∷ s) ds at p small fits e = next-digit s ds at x p small fits e (λ ds at small fits e. number-cut s ds at p small fits e)
 
-  early-number : Early number
+  pub early-number : Early number
   early-number = record { cut = λ at s p e. by at s p (number-cut s [] at p tt refl e) }
     where
       ends : (at : ℕ) (front : Bytes) (p : Refusal) → Stop [] front p → Ends (causeOf L p) at front
@@ -226,13 +226,13 @@ module _ (L : ResourceLimits) where
   pub record Soon {B : Type 0} (Now : Refusal → Type 0) (g : Reader B) : Type 0 where
     pub late : (at : ℕ) (s : Bytes) (p : Refusal) → g at s ≡ refused p → Late Now g at s p
 
-  soon-early : {B : Type 0} {Now : Refusal → Type 0} {g : Reader B} → Early g → Soon Now g
+  pub soon-early : {B : Type 0} {Now : Refusal → Type 0} {g : Reader B} → Early g → Soon Now g
   soon-early one = record { late = λ at s p e. later (one .cut at s p e) }
 
   soon-refuse : {B : Type 0} {Now : Refusal → Type 0} (r : Refusal) → Now r → Soon {B = B} Now (refuse r)
   soon-refuse {B} {Now} r bad = record { late = λ at s p e. let is : r ≡ p = was e in now (subst Now is bad) e }
 
-  soon-test : {B : Type 0} {Now : Refusal → Type 0} (g : Reader B) (b : Bool) (r : Refusal) → (b ≡ false → Now r) → Soon Now g → Soon Now (test b r >>= λ _. g)
+  pub soon-test : {B : Type 0} {Now : Refusal → Type 0} (g : Reader B) (b : Bool) (r : Refusal) → (b ≡ false → Now r) → Soon Now g → Soon Now (test b r >>= λ _. g)
   soon-test {B} {Now} g b r bad one = go b refl
     where
       through : (at : ℕ) (s : Bytes) (p : Refusal) → Late Now g at s p → Late Now (test true r >>= λ _. g) at s p
@@ -295,10 +295,10 @@ module _ (L : ResourceLimits) where
     early-first = record { cut = λ at s p e. first-cut at s p (r at s) refl e }
 
   -- a number, just read
-  read-number : {So : ℕ → Type 0} (first n : ℕ) (bytes : Bytes) → Number first bytes n → So n → LastNumber So first first (bytes ++ [])
+  pub read-number : {So : ℕ → Type 0} (first n : ℕ) (bytes : Bytes) → Number first bytes n → So n → LastNumber So first first (bytes ++ [])
   read-number first n bytes d h = record { before = []; spelling = bytes; value = n; whole = append-nil bytes; begins = sym (add-zero first); is = d; so = h }
 
-  early-numbered : {B : Type 0} (f : ℕ → ℕ → Reader B) → ((first n : ℕ) (bytes : Bytes) → Number first bytes n → Soon (λ p. Ends (causeOf L p) first (bytes ++ [])) (f first n)) → Early (here >>= λ first. number >>= f first)
+  pub early-numbered : {B : Type 0} (f : ℕ → ℕ → Reader B) → ((first n : ℕ) (bytes : Bytes) → Number first bytes n → Soon (λ p. Ends (causeOf L p) first (bytes ++ [])) (f first n)) → Early (here >>= λ first. number >>= f first)
   early-numbered f two = early-first f exact-number early-number two
 
   -- tests before any byte
@@ -319,7 +319,7 @@ module _ (L : ResourceLimits) where
       soon-test _ (leb n limit-of-strings) (q.StringBytes first) (λ k. read-number first (suc n) bytes d (let h = leb-false n limit-of-strings k in omega arith))
       (soon-early (early-here λ place. early-then (exact-run n) (early-run n) λ bytes. early-give _))
 
-  early-string : Early (string limit-of-strings)
+  pub early-string : Early (string limit-of-strings)
   early-string = early-numbered (content limit-of-strings) soon-content
 
   -- ## The header
@@ -352,10 +352,10 @@ module _ (L : ResourceLimits) where
   early-header = early-then exact-before early-before λ _. early-here λ place. early-then (exact-field 1) (early-field 1) λ format. early-then exact-behind early-behind λ _. early-give _
 
   -- ## Lists and entries
-  early-counted : {A : Type 0} {r : Reader A} {F : Form A} → Exact r F → Early r → Early (counted r)
+  pub early-counted : {A : Type 0} {r : Reader A} {F : Form A} → Exact r F → Early r → Early (counted r)
   early-counted exact one = early-then exact-number early-number λ n. early-here λ place. early-then (exact-many n exact) (early-many n exact one) λ items. early-give _
 
-  early-countedUpTo : {A : Type 0} {r : Reader A} {F : Form A} (limit : ℕ) (refusal : ℕ → Refusal) → ((place : ℕ) → causeOf L (refusal place) ≡ above place limit) → Exact r F → Early r → Early (countedUpTo limit refusal r)
+  pub early-countedUpTo : {A : Type 0} {r : Reader A} {F : Form A} (limit : ℕ) (refusal : ℕ → Refusal) → ((place : ℕ) → causeOf L (refusal place) ≡ above place limit) → Exact r F → Early r → Early (countedUpTo limit refusal r)
   early-countedUpTo limit refusal is exact one = early-numbered _ λ first n bytes d.
       soon-test _ (leb n limit) (refusal first) (λ k. rw (is first) (read-number first n bytes d (leb-false n limit k)))
       (soon-early (early-here λ place. early-then (exact-many n exact) (early-many n exact one) λ items. early-give _))
@@ -392,16 +392,16 @@ module _ (L : ResourceLimits) where
         unknown = (eqb-false tag 0 k0, (eqb-false tag 1 k1, (eqb-false tag 17 k17, (eqb-false tag 3 k3, (eqb-false tag 19 k19, (eqb-false tag 4 k4, (eqb-false tag 20 k20, tt)))))));
       })
 
-  early-constant : Early (constant limit-of-strings)
+  pub early-constant : Early (constant limit-of-strings)
   early-constant = early-first (tagged limit-of-strings) (exact-field 1) (early-field 1) soon-tagged
 
-  early-upvalue : Early upvalue
+  pub early-upvalue : Early upvalue
   early-upvalue = early-then (exact-field 1) (early-field 1) λ instack. early-then (exact-field 1) (early-field 1) λ idx. early-then (exact-field 1) (early-field 1) λ kind. early-give _
 
-  early-anchor : Early anchor
+  pub early-anchor : Early anchor
   early-anchor = early-then exact-number early-number λ pc. early-then exact-number early-number λ line. early-give _
 
-  early-local : Early (local limit-of-strings)
+  pub early-local : Early (local limit-of-strings)
   early-local = early-then (exact-always limit-of-strings (63 ∷ [])) (early-always (63 ∷ [])) λ name. early-then exact-number early-number λ startpc. early-then exact-number early-number λ endpc. early-give _
 
   -- ## Functions
@@ -410,7 +410,7 @@ module _ (L : ResourceLimits) where
   early-forest (suc n) w exact one = early-then (exact w) (one w) λ ps. early-then (exact-forest n (after ps w) exact) (early-forest n (after ps w) exact one) λ more. early-give (ps ++ more)
 
   -- 14 and 15, of which 14 comes first: a count that is 15 is not above the limit of 14
-  soon-counts : {B : Type 0} (g : Reader B) (first size before : ℕ) (bytes : Bytes) → Number first bytes size → Soon (λ p. Ends (causeOf L p) first (bytes ++ [])) g
+  pub soon-counts : {B : Type 0} (g : Reader B) (first size before : ℕ) (bytes : Bytes) → Number first bytes size → Soon (λ p. Ends (causeOf L p) first (bytes ++ [])) g
       → Soon (λ p. Ends (causeOf L p) first (bytes ++ [])) (atMost size (L .«max_instructions_per_proto») (q.Instructions first) >>= λ _. atMost (before + size) (L .«max_total_instructions») (q.TotalInstructions first) >>= λ _. g)
   soon-counts g first size before bytes d one = own (leb size (L .«max_instructions_per_proto»)) refl
     where

@@ -72,7 +72,7 @@ by-longer : {d e : ℕ} {q : Refusal} → d ≤ e → ByFile d q → ByFile e q
 by-longer {q} le is = record { from = is .from; to = is .to; place = inside-more le (reported q .place) (is .place) }
 
 -- the place where a refusal's reader began
-own : {n : ℕ} → n ≤ n
+pub own : {n : ℕ} → n ≤ n
 own = omega arith
 
 -- what is given, where t stands behind the bytes, which end at e
@@ -110,7 +110,7 @@ pub record Tested (e : ℕ) (q : Refusal) : Type 0 where
   pub by-file : ByFile e q
   pub there : 3 ≤ reported q .number
 
-tested : {e : ℕ} (q : Refusal) → leb 3 (reported q .number) ≡ true → leb (reported q .number) 20 ≡ true → Inside e (reported q .place) → Tested e q
+pub tested : {e : ℕ} (q : Refusal) → leb 3 (reported q .number) ≡ true → leb (reported q .number) 20 ≡ true → Inside e (reported q .place) → Tested e q
 tested q f g h =
     let low : 3 ≤ reported q .number = leb-true 3 (reported q .number) f in
     record { by-file = record { from = omega arith; to = leb-true (reported q .number) 20 g; place = h }; there = low }
@@ -118,11 +118,11 @@ tested q f g h =
 other : {A P : Type 0} {x : A} {to : ℕ} {rest : Bytes} {q : Refusal} → ok x to rest ≡ refused q → P
 other e = absurd (let z : _≡_ {A = ℕ} 0 1 = cc in omega arith)
 
-steady-give : {A : Type 0} {low : ℕ} (x : A) → Steady low (give x)
+pub steady-give : {A : Type 0} {low : ℕ} (x : A) → Steady low (give x)
 steady-give x = record { more = λ at s t h. record { same = refl; forward = own; end = refl }; lacks = λ at s place h e. other e; overflows = λ at s h e. other e }
 
 -- what follows may keep the place for a refusal
-steady-here : {B : Type 0} {low : ℕ} {f : ℕ → Reader B} → ((place : ℕ) → Steady place (f place)) → Steady low (here >>= f)
+pub steady-here : {B : Type 0} {low : ℕ} {f : ℕ → Reader B} → ((place : ℕ) → Steady place (f place)) → Steady low (here >>= f)
 steady-here two = record {
   more = λ at s t h. two at .more at s t own;
   lacks = λ at s place h e. (let l = two at .lacks at s place own e in record { from = l .from; wanted = l .wanted; fewer = l .fewer; enough = l .enough });
@@ -195,7 +195,7 @@ steady-known {A} {B} {low} {r} {f} Known one known two = record {
         omega arith
     long at s h (refused q) is e = one .overflows at s h (is ∙ (let same : q ≡ Overflow = cc in ap refused same))
 
-steady-then : {A B : Type 0} {low : ℕ} {r : Reader A} {f : A → Reader B} → Steady low r → ((x : A) → Steady low (f x)) → Steady low (r >>= f)
+pub steady-then : {A B : Type 0} {low : ℕ} {r : Reader A} {f : A → Reader B} → Steady low r → ((x : A) → Steady low (f x)) → Steady low (r >>= f)
 steady-then one two = steady-known (λ x. Unit {0}) one (λ at s x to rest e. tt) (λ x _. two x)
 
 steady-pick : {A : Type 0} {low : ℕ} {r s : Reader A} (b : Bool) → Steady low r → Steady low s → Steady low (cond b r s)
@@ -206,7 +206,7 @@ steady-test : {low : ℕ} (b : Bool) (q : Refusal) → Tested low q → Steady l
 steady-test true q is = steady-give tt
 steady-test false q is = steady-refuse q is
 
-steady-atMost : {low : ℕ} (n m : ℕ) (q : Refusal) → Tested low q → Steady low (atMost n m q)
+pub steady-atMost : {low : ℕ} (n m : ℕ) (q : Refusal) → Tested low q → Steady low (atMost n m q)
 steady-atMost n m q is = steady-test (leb n m) q is
 
 -- bytes are missing
@@ -224,7 +224,7 @@ short-there : (b : Bool) (at place : ℕ) → cond b (Truncated at) Overflow ≡
 short-there true at place e = cc
 short-there false at place e = absurd (let z : _≡_ {A = ℕ} 0 1 = cc in omega arith)
 
-steady-run : {low : ℕ} (n : ℕ) → n < 2 ^ 64 - 128 → Steady low (run n)
+pub steady-run : {low : ℕ} (n : ℕ) → n < 2 ^ 64 - 128 → Steady low (run n)
 steady-run n few = record { more = λ at s t h. go at s t (leb n (length s)) refl; lacks = λ at s place h e. lack at s place (leb n (length s)) refl e; overflows = λ at s h e. far at s (leb n (length s)) e }
   where
     far : (at : ℕ) (s : Bytes) (b : Bool) → piece b n at s ≡ refused Overflow → 128 < at + length s
@@ -248,12 +248,12 @@ steady-run n few = record { more = λ at s t h. go at s t (leb n (length s)) ref
         let few : length s < n = leb-false n (length s) is in
         record { from = omega arith; wanted = n; fewer = omega arith; enough = λ t k. (let there : n ≤ length (s ++ t) = omega arith in let on : place < at + n = omega arith in rw (all-there at s t there) on) }
 
-steady-many : {A : Type 0} {low : ℕ} {r : Reader A} (n : ℕ) → Steady low r → Steady low (many n r)
+pub steady-many : {A : Type 0} {low : ℕ} {r : Reader A} (n : ℕ) → Steady low r → Steady low (many n r)
 steady-many zero one = steady-give []
 steady-many (suc n) one = steady-then one λ x. steady-then (steady-many n one) λ xs. steady-give _
 
 -- ## Fields
-steady-field : {low : ℕ} (n : ℕ) → ltb n (2 ^ 64 - 128) ≡ true → Steady low (field n)
+pub steady-field : {low : ℕ} (n : ℕ) → ltb n (2 ^ 64 - 128) ≡ true → Steady low (field n)
 steady-field n few = steady-then (steady-run n (ltb-true n (2 ^ 64 - 128) few)) λ bytes. steady-give _
 
 steady-groups : (high at : ℕ) (s t : Bytes) → Same at (at + length s) (groups high at s) (groups high at (s ++ t)) t
@@ -334,11 +334,11 @@ far-groups high at (x ∷ s) e = go (ltb high (2 ^ 57 - 1)) (ltb x 128) (λ e. f
     go true false rest e = other e
     go false low rest e = absurd (let z : _≡_ {A = ℕ} 0 1 = cc in omega arith)
 
-steady-number : {low : ℕ} → Steady low number
+pub steady-number : {low : ℕ} → Steady low number
 steady-number = record { more = λ at s t h. steady-groups 0 at s t; lacks = λ at s place h e. lack-groups 0 at s place e; overflows = λ at s h e. far-groups 0 at s e }
 
 -- behind a number, which is below 2^64 − 128
-steady-numbered : {B : Type 0} {low : ℕ} {f : ℕ → Reader B} → ((n : ℕ) → n < 2 ^ 64 - 128 → Steady low (f n)) → Steady low (number >>= f)
+pub steady-numbered : {B : Type 0} {low : ℕ} {f : ℕ → Reader B} → ((n : ℕ) → n < 2 ^ 64 - 128 → Steady low (f n)) → Steady low (number >>= f)
 steady-numbered two = steady-known (λ n. n < 2 ^ 64 - 128) steady-number (λ at s n to rest e. exact-number .sound {at = at} {s = s} {x = n} {to = to} {rest = rest} e .spelt .fits) two
 
 steady-content : (limit first size : ℕ) → size < 2 ^ 64 - 128 → Steady first (content limit first size)
@@ -346,7 +346,7 @@ steady-content limit first zero few = steady-give _
 steady-content limit first (suc n) few =
     steady-then (steady-atMost n limit (StringBytes first) (tested (StringBytes first) refl refl own)) λ _. steady-here λ place. steady-then (steady-run n (omega arith)) λ bytes. steady-give _
 
-steady-string : {low : ℕ} (limit : ℕ) → Steady low (string limit)
+pub steady-string : {low : ℕ} (limit : ℕ) → Steady low (string limit)
 steady-string limit = steady-here λ first. steady-numbered λ size few. steady-content limit first size few
 
 -- ## The header
@@ -370,10 +370,10 @@ steady-header = steady-then steady-before λ _. steady-here λ place. steady-the
 
 -- ## Lists and entries
 -- (an item may begin at any place)
-steady-counted : {low : ℕ} {A : Type 0} {r : Reader A} → ((low : ℕ) → Steady low r) → Steady low (counted r)
+pub steady-counted : {low : ℕ} {A : Type 0} {r : Reader A} → ((low : ℕ) → Steady low r) → Steady low (counted r)
 steady-counted one = steady-then steady-number λ n. steady-here λ place. steady-then (steady-many n (one place)) λ items. steady-give _
 
-steady-countedUpTo : {low : ℕ} {A : Type 0} {r : Reader A} (limit : ℕ) (refusal : ℕ → Refusal) → ((first : ℕ) → Tested first (refusal first)) → ((low : ℕ) → Steady low r) → Steady low (countedUpTo limit refusal r)
+pub steady-countedUpTo : {low : ℕ} {A : Type 0} {r : Reader A} (limit : ℕ) (refusal : ℕ → Refusal) → ((first : ℕ) → Tested first (refusal first)) → ((low : ℕ) → Steady low r) → Steady low (countedUpTo limit refusal r)
 steady-countedUpTo limit refusal is one =
     steady-here λ first.
     steady-then steady-number λ n.
@@ -396,16 +396,16 @@ steady-tagged limit place tag =
     (steady-pick (eqb tag 20) (steady-then (steady-always limit []) λ t. steady-give _)
     (steady-refuse (ConstantTag place) (tested (ConstantTag place) refl refl own))))))))
 
-steady-constant : {low : ℕ} (limit : ℕ) → Steady low (constant limit)
+pub steady-constant : {low : ℕ} (limit : ℕ) → Steady low (constant limit)
 steady-constant limit = steady-here λ place. steady-then (steady-field 1 refl) λ tag. steady-tagged limit place tag
 
-steady-upvalue : {low : ℕ} → Steady low upvalue
+pub steady-upvalue : {low : ℕ} → Steady low upvalue
 steady-upvalue = steady-then (steady-field 1 refl) λ instack. steady-then (steady-field 1 refl) λ idx. steady-then (steady-field 1 refl) λ kind. steady-give _
 
-steady-anchor : {low : ℕ} → Steady low anchor
+pub steady-anchor : {low : ℕ} → Steady low anchor
 steady-anchor = steady-then steady-number λ pc. steady-then steady-number λ line. steady-give _
 
-steady-local : {low : ℕ} (limit : ℕ) → Steady low (local limit)
+pub steady-local : {low : ℕ} (limit : ℕ) → Steady low (local limit)
 steady-local limit = steady-then (steady-always limit (63 ∷ [])) λ name. steady-then steady-number λ startpc. steady-then steady-number λ endpc. steady-give _
 
 -- ## Functions

@@ -28,6 +28,7 @@ pub mod Accepted
 pub mod Exactly
 pub mod ByC
 pub mod AtPlace
+pub mod PartsInOrder
 pub mod Printed
 pub mod Demand2C
 pub mod Nested
