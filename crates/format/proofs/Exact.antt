@@ -82,20 +82,21 @@ exact-as same one = record {
 pub exact-atMost : (n m : ℕ) (q : Refusal) → Exact (atMost n m q) (Given (n ≤ m))
 exact-atMost n m q = exact-as (λ _ _ _. (λ g. (g .0, leb→le n m (g .1)), λ g. (g .0, le→leb n m (g .1)))) (exact-test (leb n m) q)
 
+-- what is spelt is read: where the bytes are there a run is not cut short
+run-complete : (n at : ℕ) (bytes : Bytes) {x : Bytes} (rest : Bytes) → Run n at bytes x → run n at (bytes ++ rest) ≡ ok x (at + length bytes) rest
+run-complete n at bytes {x} rest g = back (leb n (length (bytes ++ rest))) (le→leb n (length (bytes ++ rest)) (rw length-append (omega arith)))
+  where
+    back : (b : Bool) → T b → piece b n at (bytes ++ rest) ≡ ok x (at + length bytes) rest
+    back true h = cc (take-at bytes rest n (g .1), drop-at bytes rest n (g .1))
+
 pub exact-run : (n : ℕ) → Exact (run n) (Run n)
-exact-run n = record {
-  sound = λ {at} {s} e. front (leb n (length s)) (leb→le n (length s)) e;
-  complete = λ {at} {bytes} rest g. back (leb n (length (bytes ++ rest))) (le→leb n (length (bytes ++ rest)) (rw length-append (omega arith))) at bytes rest g;
-}
+exact-run n = record { sound = λ {at} {s} e. front (leb n (length s)) (leb→le n (length s)) e; complete = λ {at} {bytes} rest g. run-complete n at bytes rest g }
   where
     front : {at : ℕ} {s : Bytes} {x : Bytes} {to : ℕ} {rest : Bytes} (b : Bool) → (T b → n ≤ length s) → piece b n at s ≡ ok x to rest → Split (Run n) at s x to rest
     front {at} {s} true le e =
         let size : length (take n s) ≡ n = length-take-le n s (le tt) in
         record { bytes = take n s; whole = cc (take-append-drop n s); place = cc; spelt = (cc, size) }
     front false le e = absurd (never e)
-
-    back : (b : Bool) → T b → (at : ℕ) (bytes : Bytes) {x : Bytes} (rest : Bytes) → Run n at bytes x → piece b n at (bytes ++ rest) ≡ ok x (at + length bytes) rest
-    back true h at bytes rest g = cc (take-at bytes rest n (g .1), drop-at bytes rest n (g .1))
 
 pub exact-many : {A : Type 0} {r : Reader A} {F : Form A} (n : ℕ) → Exact r F → Exact (many n r) (Many n F)
 exact-many zero one = exact-give []

@@ -1,7 +1,7 @@
 -- The shortest spelling of a number (`specs/Shortest.antt`).
+--     shortest-least       no spelling of the number is shorter
 --     shortest-spells      it spells the number
 --     shortest-below       it is made of bytes
---     shortest-least       no spelling of the number is shorter
 --     length-shortest      how many bytes it takes: suc m from 128 ^ m to below 128 ^ (suc m)
 --     length-bits          so it takes the number's bits divided by 7, rounded up: what the leading zeros of a u64 say
 -- Assumes nothing.
@@ -19,7 +19,7 @@ use Rattle.format.specs.GrammarFields.{base128, Number}
 use Rattle.format.specs.Shortest.{groupsOf, shortest}
 use Rattle.format.proofs.Below.{below-join, below-more}
 
--- ## It spells the number
+-- ## Groups
 base128-end : (xs : List ℕ) (high x : ℕ) → base128 high (xs ++ x ∷ []) ≡ base128 high xs * 128 + x
 base128-end [] high x = refl
 base128-end (y ∷ xs) high x = base128-end xs (high * 128 + y) x
@@ -33,22 +33,6 @@ groups-value : (f n : ℕ) → n ≤ f → base128 0 (groupsOf f n) ≡ n
 groups-value zero n h = omega arith
 groups-value (suc f) zero h = refl
 groups-value (suc f) (suc n) h = rw (base128-end (groupsOf f (suc n / 128)) 0 (suc n % 128), groups-value f (suc n / 128) (omega arith)) (omega arith)
-
-pub shortest-spells : (v at : ℕ) → v < 2 ^ 64 - 128 → Number at (shortest v) v
-unfolding shortest
-shortest-spells v at h = record {
-  more = groupsOf v (v / 128);
-  last = 128 + v % 128;
-  whole = refl;
-  small = groups-small v (v / 128);
-  closes = omega arith;
-  value = rw (groups-value v (v / 128) (omega arith)) (omega arith);
-  fits = h;
-}
-
-pub shortest-below : (v : ℕ) → Below 256 (shortest v)
-unfolding shortest
-shortest-below v = below-join 256 (groupsOf v (v / 128)) _ (below-more 128 256 (groupsOf v (v / 128)) (lit≤ tt) (groups-small v (v / 128))) (omega arith, tt)
 
 -- ## No spelling is shorter
 base128-bound : (more : List ℕ) (high : ℕ) → Below 128 more → base128 high more < suc high * 128 ^ length more
@@ -73,6 +57,23 @@ shortest-least at v bytes g =
     let top : v / 128 ≡ base128 0 (g .more) = omega (arith, g .value) in
     let few = groups-few v (v / 128) (length (g .more)) (omega arith) (omega (arith, b, top)) in
     rw (g .whole) (simp length-append (omega (arith, few)))
+
+-- ## It spells the number
+pub shortest-spells : (v at : ℕ) → v < 2 ^ 64 - 128 → Number at (shortest v) v
+unfolding shortest
+shortest-spells v at h = record {
+  more = groupsOf v (v / 128);
+  last = 128 + v % 128;
+  whole = refl;
+  small = groups-small v (v / 128);
+  closes = omega arith;
+  value = rw (groups-value v (v / 128) (omega arith)) (omega arith);
+  fits = h;
+}
+
+pub shortest-below : (v : ℕ) → Below 256 (shortest v)
+unfolding shortest
+shortest-below v = below-join 256 (groupsOf v (v / 128)) _ (below-more 128 256 (groupsOf v (v / 128)) (lit≤ tt) (groups-small v (v / 128))) (omega arith, tt)
 
 -- ## Its length
 pub groups-none : (f : ℕ) → groupsOf f 0 ≡ []

@@ -14,7 +14,8 @@ put-name-spec =
     (λ c. search needs)
     (λ c κs.
     let fits = rw (c .before .before .name .given .1) at (c .before .before .before .before .before .before .pre .1) in
-    (rw (c .before .before .name .given .1) at (c .before .before .before .before .before .before .pre .0), omega arith))
+    let stands = rw (c .before .before .name .given .1) at (c .before .before .before .before .before .before .pre .0) in
+    (omega (arith, stands), omega arith))
     (λ c. search needs)
     (λ c. let fits = rw (c .enum-told .given .1) at (c .before .before .before .before .pre .1) in omega arith)
     (λ c. search needs)

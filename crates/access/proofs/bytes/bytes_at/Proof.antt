@@ -16,7 +16,7 @@ bytes-at-spec =
     (λ c.
     let a = c .before .before .before .before .args in
     let all : a .len - 0 ≡ a .len = omega arith in
-    rw (all, c .before .before .bytes-from .ensures))
+    ap (λ n. take n (c .before .before .bytes-from .result .now)) all ∙ ap (take (a .len)) (c .before .before .bytes-from .ensures))
     (λ c.
     let a = c .before .before .before .args in
     let t = c .if1 .left in

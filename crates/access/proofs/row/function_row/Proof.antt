@@ -6,6 +6,12 @@ use Rattle.access.proofs.RowLaws.{row-refused, row-none, row-some}
 use Rattle.access.proofs.row.function_row.Statement.{statement}
 use Rattle.access.proofs.row.function_row.Tie as tie
 
+-- the row that was found is the function's own
+found : tie.Need-returns-3
+found c =
+    let a = c .before .before .before .before .before .before .before .before .args in
+    row-some (a .function) (read (a .limits) (a .s .now)) _ (sym (c .before .before .before .before .decoded2 .given .1) ∙ c .before .before .before .before .before .before .decode-chunk-lua54 .ensures) _ (c .before .found .given .1)
+
 pub function-row-spec : {M : Type 1} → statement M
 function-row-spec =
     tie.close
@@ -17,6 +23,4 @@ function-row-spec =
     (λ c.
     let a = c .before .before .before .before .before .before .before .args in
     row-none (a .function) (read (a .limits) (a .s .now)) _ (sym (c .before .before .before .decoded2 .given .1) ∙ c .before .before .before .before .before .decode-chunk-lua54 .ensures) (c .enum-told .given .1))
-    (λ c.
-    let a = c .before .before .before .before .before .before .before .before .args in
-    row-some (a .function) (read (a .limits) (a .s .now)) _ (sym (c .before .before .before .before .decoded2 .given .1) ∙ c .before .before .before .before .before .before .decode-chunk-lua54 .ensures) _ (c .before .found .given .1)))
+    found)

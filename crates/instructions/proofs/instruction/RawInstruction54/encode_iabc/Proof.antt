@@ -1,5 +1,6 @@
 -- `RawInstruction54::encode_iabc` meets its contract: the fields, or-ed together, are added (`Words.antt`). Assumes nothing.
 use mathlib.Core.Path.{ap}
+use Prim.Native.Nat.{_<_}
 use native.Mathlib.Omega.{arith}
 use borrow.Author.Needs.{needs}
 use borrow.Author.Tests.{lt-ltb, le-ltb}
@@ -12,8 +13,9 @@ use Rattle.instructions.proofs.instruction.RawInstruction54.encode_iabc
 word : tie.Need-returns
 word c =
     let s = c .before .before in
-    rw (c .before .number .ensures, lt-ltb _ _ (c .if1 .taken))
-    (ap Word (abc _ (omega (arith, number-lt (s .args .opcode))) _ (omega arith) _ _ _ (c .if1 .taken) (omega arith) (omega arith)))
+    let bit : s .args .k < 2 = omega arith in
+    rw (c .before .number .ensures, lt-ltb _ _ bit)
+    (ap Word (abc _ (omega (arith, number-lt (s .args .opcode))) _ (omega arith) _ _ _ bit (omega arith) (omega arith)))
 
 pub encode-iabc-spec : {M : Type 1} → statement M
 encode-iabc-spec =
