@@ -1,12 +1,11 @@
 -- What a call behind C returns: 0 where it answered, else number and place of its refusal, which can be got back.
---     numbered         01's numbers are 1 to 28
 --     zero-exactly     0 is returned exactly where the call answered
 --     answered         where 0 is returned, what stands in the array is the answer
 --     array-kept       where something else is, the array is as it was
 --     coded-number     a refusal's number is what is returned modulo 256
 --     coded-place      its place is the rest, divided by 256, less one; there is none where that rest is 0
---     coded-apart      so two refusals whose places are below 2^32 and that return the same have the same number and place
--- Refused by these: eight bits for the number and the place without one (`coded-place`), a refusal with the number 0 or 256 (`zero-exactly`, `numbered`), an array that is touched on a refusal (`array-kept`).
+--     coded-apart      so two refusals whose places are below 2^32 and that return the same are the same
+-- Refused by these: eight bits for the number and the place without one (`coded-place`), a refusal with the number 0 or 256 (`zero-exactly`, `numbers`), an array that is touched on a refusal (`array-kept`).
 -- Assumes nothing.
 use mathlib.Core.Path.{_≡_, refl, sym, _∙_, ap}
 use mathlib.Core.Bool.{Bool, true, false, cond}
@@ -17,45 +16,11 @@ use native.Mathlib.Omega.{arith}
 use lib.Dec.{leb}
 use borrow.Author.Tests.{lt-leb}
 use Rattle.format.specs.declared.refusal.Refusal.{Refusal}
-use Rattle.format.specs.declared.refusal.Refusal.the-variants as q
 use Rattle.format.specs.declared.refusal.Place.{Place}
 use Rattle.format.specs.declared.refusal.Place.the-variants.{At, None}
 use Rattle.format.specs.Refusals.{reported}
+use Rattle.format.proofs.RefusalNumbers.{told-apart, numbers}
 use Rattle.boundary.specs.Status.{withPlace, coded, Answer, done, refuses, status, written}
-
--- ## 01's numbers
-abbrev Numbered : ℕ → Type 0
-Numbered n = (1 ≤ n) × (n ≤ 28)
-
-pub numbered : (r : Refusal) → Numbered (reported r .number)
-numbered (q.Truncated at) = omega arith
-numbered q.Overflow = omega arith
-numbered q.VarintOverflow = omega arith
-numbered (q.Signature at) = omega arith
-numbered (q.Version at) = omega arith
-numbered (q.LuacData at) = omega arith
-numbered (q.InstructionSize at) = omega arith
-numbered (q.LuaIntegerSize at) = omega arith
-numbered (q.LuaNumberSize at) = omega arith
-numbered (q.LuacInt at) = omega arith
-numbered (q.LuacNum at) = omega arith
-numbered (q.ConstantTag at) = omega arith
-numbered (q.StringBytes at) = omega arith
-numbered (q.Instructions at) = omega arith
-numbered (q.TotalInstructions at) = omega arith
-numbered (q.Constants at) = omega arith
-numbered (q.Upvalues at) = omega arith
-numbered (q.Prototypes at) = omega arith
-numbered (q.NestingDepth at) = omega arith
-numbered (q.TotalPrototypes at) = omega arith
-numbered q.LimitAboveCeiling = omega arith
-numbered q.InputBytes = omega arith
-numbered q.NoFunction = omega arith
-numbered q.NoEntry = omega arith
-numbered q.LineTooLarge = omega arith
-numbered q.LentSpace = omega arith
-numbered q.FieldRange = omega arith
-numbered q.NoOpcode = omega arith
 
 -- ## 0 exactly where the call answered
 some-number : (n : ℕ) (p : Place) → 1 ≤ n → 1 ≤ withPlace n p
@@ -72,7 +37,7 @@ Done (refuses r) = ⊥
 
 pub zero-exactly : (a : Answer) → (status a ≡ 0) ↔ Done a
 zero-exactly (done l) = (λ e. tt, λ d. refl)
-zero-exactly (refuses r) = (λ e. let h = some-number (reported r .number) (reported r .place) (numbered r .0) in absurd (omega (arith, e)), λ d. absurd d)
+zero-exactly (refuses r) = (λ e. let h = some-number (reported r .number) (reported r .place) (numbers r .0) in absurd (omega (arith, e)), λ d. absurd d)
 
 pub answered : (a : Answer) (old : List ℕ) → status a ≡ 0 → a ≡ done (written a old)
 answered (done l) old e = refl
@@ -97,7 +62,7 @@ parted n (At at) h = go (leb (2 ^ 32) at)
     go false = omega arith
 
 below : (r : Refusal) → reported r .number < 256
-below r = let h = numbered r in omega arith
+below r = let h = numbers r in omega arith
 
 pub coded-number : (r : Refusal) → coded r % 256 ≡ reported r .number
 coded-number r = parted (reported r .number) (reported r .place) (below r) .0
@@ -118,8 +83,8 @@ place-apart (At a) (At b) s t e =
     let same : a ≡ b = omega arith in
     ap At same
 
-pub coded-apart : (p r : Refusal) → Small (reported p .place) → Small (reported r .place) → coded p ≡ coded r → reported p ≡ reported r
+pub coded-apart : (p r : Refusal) → Small (reported p .place) → Small (reported r .place) → coded p ≡ coded r → p ≡ r
 coded-apart p r s t e =
     let number = sym (coded-number p) ∙ ap (λ c. c % 256) e ∙ coded-number r in
     let place = place-apart (reported p .place) (reported r .place) s t (sym (coded-place p) ∙ ap (λ c. c / 256) e ∙ coded-place r) in
-    λ i. record { number = number i; place = place i }
+    told-apart p r λ i. record { number = number i; place = place i }

@@ -1,7 +1,7 @@
 -- The two refusals that every call tests first, exactly; and what tells a refusal's and a warning's report.
 --     twenty-one           a call begins with 21 exactly where `within_ceilings` says no: a limit is above its ceiling
 --     twenty-two           with 22 exactly where it says yes and the file is longer than the input limit
---     warned-apart         code and place of a warning tell it (`report_warning`; of a refusal number and place do, `report_refusal`: Numbers.antt). A warning is no refusal: what is warned of is read
+--     warned-apart         code and place of a warning tell it (`report_warning`; of a refusal number and place do, `report_refusal`: crates/format/proofs/RefusalNumbers.antt). A warning is no refusal: what is warned of is read
 -- Assumes nothing.
 use mathlib.Core.Path.{_≡_, refl, sym, _∙_, ap}
 use mathlib.Core.Bool.{Bool, true, false, cond}

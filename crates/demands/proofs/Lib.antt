@@ -20,7 +20,6 @@ pub mod Order
 pub mod CutShort
 pub mod Trap
 pub mod Backwards
-pub mod Numbers
 pub mod AtOneByte
 pub mod ByLimits
 pub mod Promise

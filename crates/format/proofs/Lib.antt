@@ -1,4 +1,5 @@
 pub mod RefusalCases
+pub mod RefusalNumbers
 pub mod LimitCases
 pub mod Byte31
 pub mod Distinct
