@@ -3,6 +3,8 @@
 
     python3 docs/believed.py             lines by demand, and in all
     python3 docs/believed.py files       the same, file by file
+    python3 docs/believed.py table       the table of docs/PROOF.md: the files in reading order, with their lines
+    python3 docs/believed.py check       is that table in docs/PROOF.md, and does every theorem stand where PROOF.md says? Exit status 1 if not
     python3 docs/believed.py unreached   definitions in specs/ that no promise reaches (inner contracts use them)
 
 A promise is a public theorem of the files in PROMISES: its statement counts, not its proof. From the names in a
@@ -25,6 +27,23 @@ PROMISES = {
                  'instructions/Macros', 'instructions/Created', 'opcodes/Opcodes', 'lines/Ldebug:same-line'],
     'demand 3': ['demands/Demand3', 'demands/ShownAt:shown-at', 'demands/Same:header-fixed same-exactly', 'demands/Complete'],
 }
+# the table of docs/PROOF.md: what a group of files says, and the files; what is reached and named nowhere here comes last
+GROUPS = [
+    ('the grammar of a chunk under limits, and the reading; no reader in it', 'format/specs: Form GrammarFields GrammarHeader Reading GrammarChunk Limits'),
+    ("the Rust's reader as a function, with every refusal and place", 'format/specs: Read ReadFields ReadHeader ReadChunk Refusals Warnings'),
+    ('the archive copy', 'format/specs: Shortest Copy'),
+    ('what each call on a chunk answers, and leaves in lent memory', 'access/specs: Asked; show_chunk/specs: Summaries Fields; show_entry/specs: Entries; show_local/specs: Locals; index/specs: Index; copy/specs: Copied; lent/specs: Over'),
+    ("how the code's values show places, strings, constants, warnings", 'cursor/specs: Shown; reader/specs: Shown; header/specs: Shown; lists/specs: Shown; entries/specs: Shown; decode/specs: Decoded'),
+    ('the line of an instruction', 'lines/specs: Lines'),
+    ('the findings of an instruction and of a chunk, the stop, the verdict; the same as loops, as the Rust has them', 'rules/specs: Rules Findings Rust; format/specs: Any; validator/specs: Answers; finding_plan/specs: Validated; finding_array/specs: Blank'),
+    ('instruction words; lopcodes.h', 'opcodes/specs: Table Lopcodes; instructions/specs: Word; instructions/proofs: Ranges Words Macros Created'),
+    ('for who links from C: limits, refusals and answers as numbers; parts at a place, with the readers of a function in two parts', 'boundary/specs: Status; boundary/proofs: Numbers; numbers/specs: Numbers Words; finding_list/specs: FindingNumbers; parts_at/specs: PartNumbers; prototype/specs: Front Parts PartsShown; lists/specs: Readers'),
+    ('what `chunklist` prints', 'listing/specs: Listing; listing_text/specs: Lines; format/specs: Ascii; print/specs: Output'),
+    ("Lua's own loader, dumper and line lookup, close to the C", 'format/specs: Lundump LundumpFunctions Ldump LdumpFunctions; lines/specs: Ldebug; format/proofs: LundumpParts LundumpChunk LundumpBack LdumpChunk LdumpWhole Every'),
+    ("words of demand 1's statements: a call's conditions in order; what a refusal is about", 'demands/proofs: Refused Causes InOrder Early Order AtOneByte CutShort ByLimits Exactly Accepted ByC AtPlace PartsInOrder Printed Demand1; format/proofs: RefusalNumbers'),
+    ("words of demand 2's statements: a whole contract", 'demands/proofs: Promise Demand2 Demand2C'),
+    ("words of demand 3's statements: what is shown, what is set aside", 'demands/proofs: Demand3 Calls Written Same Alike Together Complete ShownAt EntriesAt Nested; format/proofs: Located; entries/proofs: Strings'),
+]
 WORD = re.compile(r'[^\s(){};,\[\]]+')
 HEAD = re.compile(r'^( *)(abbrev |unfoldable )?(pub )?(record |data )?(\S+)')
 
@@ -162,22 +181,74 @@ def promises(places):
     return roots
 
 
+def table(every):
+    count = collections.Counter(key for key, _ in every)
+    rows, named = [], set()
+    for says, places in GROUPS:
+        files, total = [], 0
+        for part in places.split('; '):
+            folder, modules = part.split(': ')
+            crate, kind = folder.split('/')
+            shown = []
+            for m in modules.split():
+                named.add((crate, kind, m))
+                total += count[(crate, kind, m)]
+                shown.append(f'{m} {count[(crate, kind, m)]}')
+            files.append(f'crates/{folder}: ' + ', '.join(shown))
+        rows.append(f'| {says} | {total} | {"; ".join(files)} |')
+    left = sorted(k for k in count if k not in named)
+    if left:
+        rows.append(f'| else | {sum(count[k] for k in left)} | {"; ".join("crates/" + "/".join(k) + " " + str(count[k]) for k in left)} |')
+    return '\n'.join(['| says | lines | files, with the lines of each |', '|---|--:|---|'] + rows + [f'| **in all** | **{len(every)}** | |'])
+
+
+def cited(text):
+    """The theorems that PROOF.md cites: behind a file's name, in backticks, up to the next file."""
+    bad = []
+    for line in text.split('\n'):
+        if not line.startswith('|'):
+            continue
+        folder, f = 'demands/proofs', None
+        for m in re.finditer(r'(crates/(\w+)/proofs/)?(\w+)\.antt|\|(?=[^|]*Demand3)|`([^`]+)`', line):
+            if m.group(3):
+                if m.group(1):
+                    folder = m.group(2) + '/proofs'
+                crate, kind = folder.split('/')
+                f = FILES.get((crate, kind, m.group(3))) or FILES.get(('demands', kind, m.group(3)))
+                if not f:
+                    bad.append(f'no file {m.group(3)}.antt in crates/{folder}')
+            elif m.group(4) and f and re.fullmatch(r'[a-z0-9]+(-[a-z0-9]+)+', m.group(4)) and m.group(4) not in f.items:
+                bad.append(f'{m.group(4)} is not in {os.path.relpath(f.path, ROOT)}')
+    return bad
+
+
 def main(words):
     every, all_roots = set(), []
     by = {}
+    counts = []
     for demand, names in PROMISES.items():
         roots = promises(names)
         all_roots += roots
         by[demand] = lines_of(reached(roots))
-        print(f'{demand}: {len(roots)} promises reach {len(by[demand])} lines of definitions')
+        counts.append(f'{demand}: {len(roots)} promises reach {len(by[demand])} lines of definitions')
         every |= by[demand]
-    print(f'in all: {len(every)} lines')
-    if words[:1] == ['files']:
+    counts.append(f'in all: {len(every)} lines')
+    word = words[0] if words else ''
+    if word == 'table':
+        print(table(every))
+        return
+    if word == 'check':
+        text = open(os.path.join(ROOT, 'docs/PROOF.md'), encoding='utf-8').read()
+        bad = cited(text) + [c for c in counts + [table(every)] if c not in text]
+        print('\n'.join(bad) if bad else 'docs/PROOF.md is true of the sources')
+        sys.exit(1 if bad else 0)
+    print('\n'.join(counts))
+    if word == 'files':
         for demand, lines in list(by.items()) + [('in all', every)]:
             print(f'\n{demand}')
             for key, k in sorted(collections.Counter(key for key, _ in lines).items()):
                 print(f'{k:6d}  crates/{key[0]}/{key[1]}/{key[2].replace(".", "/")}.antt')
-    if words[:1] == ['unreached']:
+    if word == 'unreached':
         seen = reached(all_roots)
         for key, f in sorted(FILES.items()):
             if key[1] == 'specs':
