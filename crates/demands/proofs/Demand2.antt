@@ -5,18 +5,20 @@
 -- Each line is an equation with a definition that mirrors the Rust, and antt holds it to be the contract's own clause, word for word. That the definitions are the Rust's was compared by running, since it cannot be
 -- proved: crates/vectors replays the kept answers of the unchanged Rust, oracle/findings asks it. What is compared there is said with each group.
 --     as-the-rust      validation as validator.rs has it, a list and a flag, on every chunk that is read. CALL-as-the-rust: so the promises of the calls that validate, said by the Rust's list and flag
---     as-lua-loads     the format against Lua's C: what Lua's own loader takes is read, and the reading is what it loads
+--     as-lua-loads     the format against Lua's C: what Lua's own loader takes is read, and the reading is what it loads; as-read-loads: and back
+--     as-lua-dumps     what the copying call writes is what Lua's own dumper writes; as-lua-strips: with strip
 -- Assumes nothing.
 use mathlib.Core.Path.{_≡_, refl, ap, sym, _∙_}
-use Prim.Native.Nat.{ℕ, _<_, _≤_}
-use mathlib.Core.Bool.{true}
+use Prim.Native.Nat.{ℕ, suc, _<_, _≤_}
+use mathlib.Core.Bool.{true, false}
 use mathlib.Core.List.{List, [], _∷_, _++_}
+use mathlib.Core.Option.{none}
 use lib.ListN.{length, take, drop}
 use denote.Ref.{now}
 use Rattle.format.specs.declared.limits.ResourceLimits.{ResourceLimits}
 use Rattle.format.specs.declared.refusal.Refusal.{Refusal}
 use Rattle.format.specs.Reading.{Reading}
-use Rattle.format.specs.Form.{Bytes}
+use Rattle.format.specs.Form.{Bytes, Below}
 use Rattle.format.specs.Limits as limits
 use Rattle.format.specs.Limits.{withinCeilings}
 use Rattle.format.specs.Refusals.{reported}
@@ -24,6 +26,12 @@ use Rattle.format.specs.Warnings.{warned}
 use Rattle.format.specs.GrammarChunk.{Loaded, outermost, reading}
 use Rattle.format.specs.ReadChunk.{Outcome, shown, refusal, read}
 use Rattle.format.specs.LundumpFunctions.{Undump}
+use Rattle.format.specs.Copy.{copy}
+use Rattle.format.specs.LdumpFunctions.{«luaU_dump»}
+use Rattle.format.proofs.Every.{All}
+use Rattle.format.proofs.ReadChunkLaws.{read-sound}
+use Rattle.format.proofs.LundumpBack.{Loadable, LoadedAs, read-is-loaded}
+use Rattle.format.proofs.LdumpWhole.{sourceOf, AsLua, AsStripped, copy-as-dumped, copy-as-stripped}
 use Rattle.format.proofs.LundumpChunk.{FunctionsWithin, loaded-is-read}
 use Rattle.access.specs.Asked.{functionOf, entryOf}
 use Rattle.index.specs.Index.{shownIndex, indexWritten}
@@ -75,6 +83,7 @@ use Rattle.finding_array.proofs.chunk_findings as chunk-findings-call
 use Rattle.instructions.proofs.instruction.RawInstruction54.decode as decode-call
 use Rattle.instructions.proofs.instruction.RawInstruction54.encode as encode-call
 use Rattle.listing.proofs.listing as listing-call
+use Rattle.demands.proofs.Written.{Writes, by-reading}
 use Rattle.demands.proofs.Promise.{Promise, PromiseWhere}
 use Rattle.lent.specs.Over.{over}
 
@@ -271,3 +280,24 @@ validate-chunk-lua54-as-the-rust = coe 0 1 (i. Promise validate-chunk-lua54-call
 pub as-lua-loads : (L : ResourceLimits) (left : ℕ) (front trailing : Bytes) (m : Loaded) → Undump left 0 front m → FunctionsWithin L outermost (m .functions)
     → withinCeilings L ≡ true → length (front ++ trailing) ≤ L .«max_input_bytes» → read L (front ++ trailing) ≡ shown (reading L m (length front) trailing)
 as-lua-loads = loaded-is-read
+
+-- and back: of a chunk of format 0 that is read, what Lua can load (ints, and no empty string constant) it loads, with the functions of the reading. (A slice's numbers are bytes: Slices.antt)
+pub as-read-loads : (L : ResourceLimits) (chunk : Bytes) (r : Reading) → read L chunk ≡ shown r → Below 256 chunk → r .header .format ≡ 0 → All Loadable (r .functions)
+    → LoadedAs (suc (L .«max_nesting_depth»)) chunk r
+as-read-loads L chunk r e = read-is-loaded L chunk r (read-sound L chunk r e)
+
+-- ## Lua's own dumper (crates/format/specs/LdumpFunctions.antt, after ldump.c)
+-- what `encode_chunk_lua54` writes (Written.antt) is what `luaU_dump` writes and the trailing bytes, where functions are as Lua would have them (`AsLua`), or stripped
+written-copy : (L : ResourceLimits) (chunk old written : Bytes) (r : Reading) → Writes L chunk old written → read L chunk ≡ shown r → written ≡ copy r
+written-copy L chunk old written r w e =
+    let k = by-reading L chunk old written w in
+    let same : k .reading ≡ r = (let both = sym (k .is) ∙ e in cc) in
+    k .bytes ∙ ap copy same
+
+pub as-lua-dumps : (L : ResourceLimits) (chunk old written : Bytes) (r : Reading) → Writes L chunk old written → read L chunk ≡ shown r → All (AsLua (r .functions)) (r .functions)
+    → written ≡ «luaU_dump» false (r .functions) ++ r .trailing
+as-lua-dumps L chunk old written r w e a = written-copy L chunk old written r w e ∙ copy-as-dumped L chunk r (read-sound L chunk r e) a
+
+pub as-lua-strips : (L : ResourceLimits) (chunk old written : Bytes) (r : Reading) → Writes L chunk old written → read L chunk ≡ shown r → sourceOf (r .functions) 0 ≡ none → All AsStripped (r .functions)
+    → written ≡ «luaU_dump» true (r .functions) ++ r .trailing
+as-lua-strips L chunk old written r w e source a = written-copy L chunk old written r w e ∙ copy-as-stripped L chunk r (read-sound L chunk r e) source a
