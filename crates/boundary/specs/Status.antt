@@ -3,19 +3,23 @@
 --     coded q              a refusal: 01's number in the low eight bits; above them the place and one, or 0 where there is no place. (A place of 2^32 or more would be left out. A refusal of a chunk has none: crates/demands/proofs/Demand1.antt, `places`. A part asked for at such a place can have one.)
 --     status a             what a call returns: 0, or the refusal
 --     written a old        what then stands in the array that held `old`
+--     admitted L s a       the answer a behind 21 and 22: of the calls that do not read the whole chunk
 --     complement z         a signed number in 64 bits
 use mathlib.Core.Bool.{cond}
 use mathlib.Core.List.{List}
 use Prim.Native.Nat.{ℕ, _+_, _*_, _^_}
 use lib.Dec.{leb}
-use lib.ListN.{getD}
+use lib.ListN.{length, getD}
 use lib.IntN.{ℤ}
 use mir.Syntax.{w64}
 use mir.Val.{ofZ}
 use Rattle.format.specs.declared.limits.ResourceLimits.{ResourceLimits}
 use Rattle.format.specs.declared.refusal.Refusal.{Refusal}
+use Rattle.format.specs.declared.refusal.Refusal.the-variants.{LimitAboveCeiling, InputBytes}
 use Rattle.format.specs.declared.refusal.Place.{Place}
 use Rattle.format.specs.declared.refusal.Place.the-variants as place
+use Rattle.format.specs.Form.{Bytes}
+use Rattle.format.specs.Limits.{withinCeilings}
 use Rattle.format.specs.Refusals.{reported}
 
 abbrev pub limitsOf : List ℕ → ResourceLimits
@@ -50,6 +54,10 @@ status (refuses q) = coded q
 abbrev pub written : Answer → List ℕ → List ℕ
 written (done l) old = l
 written (refuses q) old = old
+
+-- 21 where a limit is above its ceiling, else 22 where the chunk is longer than the input limit, else the answer (01, 'Order'; `read` of crates/format/specs/ReadChunk.antt begins so)
+abbrev pub admitted : ResourceLimits → Bytes → Answer → Answer
+admitted l s a = cond (withinCeilings l) (cond (leb (length s) (l .«max_input_bytes»)) a (refuses InputBytes)) (refuses LimitAboveCeiling)
 
 -- the two's complement, as the language has it: z itself from 0 up, and 2^64 + z below
 abbrev pub complement : ℤ → ℕ

@@ -3,7 +3,7 @@ pub mod signed;
 
 ghost use mathlib.Core.Path.{_≡_};
 ghost use mathlib.Core.List.{[], _∷_};
-ghost use Rattle.boundary.specs.Status.{limitsOf, withPlace, coded};
+ghost use Rattle.boundary.specs.Status.{limitsOf, withPlace, coded, done, status, admitted};
 use format::limits::ResourceLimits;
 use format::refusal::Place;
 use format::refusal::Refusal;
@@ -47,6 +47,22 @@ pub fn refused(q: Refusal) -> u64
     let report = report_refusal(q);
     let place = report.place;
     with_place(report.number as u32, place)
+}
+
+// 0, or 21 where a limit is above its ceiling, or 22 where the chunk is longer than the input limit. Ruled out: 22 before 21, a chunk as long as the limit refused.
+pub fn tested(chunk: &[u8], limits: &[u64; 9]) -> u64
+    ensures { λ r. ⌜ r ≡ status (admitted (limitsOf (now (limits .entry))) (now (chunk .entry)) (done [])) ⌝ }
+{
+    let l = limits_of(limits);
+    let within = l.within_ceilings();
+    let longest = l.max_input_bytes;
+    if !within {
+        return refused(Refusal::LimitAboveCeiling);
+    }
+    if longest < chunk.len() {
+        return refused(Refusal::InputBytes);
+    }
+    0
 }
 
 // One number in an array, and two.

@@ -41,9 +41,9 @@ use Rattle.entries.specs.Shown.{upvalueResult}
 use Rattle.prototype.specs.Parts.{head, tail}
 use Rattle.prototype.specs.PartsShown.{headResult, tailResult}
 use Rattle.access.proofs.Whole.{all-nth, whole}
-use Rattle.boundary.specs.Status.{limitsOf, Answer, done, refuses, complement}
+use Rattle.boundary.specs.Status.{limitsOf, Answer, done, refuses, complement, admitted}
 use Rattle.numbers.specs.Numbers.{presentNumber, placeNumber, lengthNumber, stringNumbers, constantNumbers}
-use Rattle.parts_at.specs.PartNumbers.{upTo, localNumbersAt, ofHead, ofTail, ofWordAt, ofConstantAt, ofUpvalueAt, ofDeltaAt, ofAnchorAt, ofLocalAt, ofStringAt, admitted, headAt, tailAt, wordAt, constantAt, upvalueAt, deltaAt, anchorAt, localAt, stringAt}
+use Rattle.parts_at.specs.PartNumbers.{upTo, localNumbersAt, ofHead, ofTail, ofWordAt, ofConstantAt, ofUpvalueAt, ofDeltaAt, ofAnchorAt, ofLocalAt, ofStringAt, headAt, tailAt, wordAt, constantAt, upvalueAt, deltaAt, anchorAt, localAt, stringAt}
 use Rattle.demands.proofs.Nested.{lastEnd, sourceAt, Parted, all-parted}
 use Rattle.demands.proofs.EntriesAt.{behind, last-of, stepped, entries-shown, run-bytes}
 

@@ -1,13 +1,10 @@
 -- What is answered of a part that is read at a place: its numbers, and the place behind it.
---     admitted limits chunk a                          the answer a behind 21 and 22, which every call tests first
 --     headAt limits place chunk, tailAt ..             a function before and behind the functions that nest in it
 --     wordAt limits place chunk, constantAt ..         an entry
 -- Bytes before the place are not looked at. `head` counts the instructions of the functions before; here there are none.
-use mathlib.Core.Bool.{cond}
 use mathlib.Core.List.{List, [], _∷_, _++_}
 use Prim.Native.Nat.{ℕ}
-use lib.Dec.{leb}
-use lib.ListN.{length, drop}
+use lib.ListN.{drop}
 use mir.Syntax.{w8}
 use mir.Val.{toZ}
 use Rattle.reader.specs.declared.field.U8Result.{U8Result}
@@ -31,10 +28,7 @@ use Rattle.prototype.specs.declared.parts.HeadResult.the-variants as head
 use Rattle.prototype.specs.declared.parts.Tail.{Tail}
 use Rattle.prototype.specs.declared.parts.TailResult.{TailResult}
 use Rattle.prototype.specs.declared.parts.TailResult.the-variants as tail
-use Rattle.format.specs.declared.limits.ResourceLimits.{ResourceLimits}
-use Rattle.format.specs.declared.refusal.Refusal.the-variants.{LimitAboveCeiling, InputBytes}
 use Rattle.format.specs.Form.{Bytes}
-use Rattle.format.specs.Limits.{withinCeilings}
 use Rattle.format.specs.ReadFields as fields
 use Rattle.format.specs.ReadChunk as chunk
 use Rattle.reader.specs.Shown.{u8Result, u32Result, stringResult}
@@ -43,7 +37,7 @@ use Rattle.lists.specs.Shown.{constantResult, anchorResult, localResult}
 use Rattle.entries.specs.Shown.{upvalueResult}
 use Rattle.prototype.specs.Parts as parts
 use Rattle.prototype.specs.PartsShown.{headResult, tailResult}
-use Rattle.boundary.specs.Status.{limitsOf, Answer, done, refuses, complement}
+use Rattle.boundary.specs.Status.{limitsOf, Answer, done, refuses, admitted, complement}
 use Rattle.numbers.specs.Numbers.{presentNumber, placeNumber, lengthNumber, stringNumbers, constantNumbers, upvalueNumbers, anchorNumbers}
 
 -- numbers, and the place behind
@@ -131,11 +125,7 @@ abbrev pub ofStringAt : StringResult → Answer
 ofStringAt (string.Ok t to) = done (upTo (stringNumbers t) (to .at))
 ofStringAt (string.Err q) = refuses q
 
--- ## What each call answers
--- 21 where a limit is above its ceiling, else 22 where the chunk is longer than the input limit, else the answer (01, 'Order'; `read` of crates/format/specs/ReadChunk.antt begins so)
-abbrev pub admitted : ResourceLimits → Bytes → Answer → Answer
-admitted l s a = cond (withinCeilings l) (cond (leb (length s) (l .«max_input_bytes»)) a (refuses InputBytes)) (refuses LimitAboveCeiling)
-
+-- ## What each call answers, behind 21 and 22
 abbrev pub headAt : List ℕ → ℕ → Bytes → Answer
 headAt limits place s = admitted (limitsOf limits) s (ofHead (headResult (parts.head (limitsOf limits) 0 place (drop place s))))
 

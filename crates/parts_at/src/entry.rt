@@ -2,9 +2,9 @@
 ghost use mathlib.Core.Path.{_≡_};
 ghost use Rattle.boundary.specs.Status.{status, written};
 ghost use Rattle.parts_at.specs.PartNumbers.{upTo, deltaNumber, localNumbersAt, wordAt, constantAt, upvalueAt, deltaAt, anchorAt, localAt, stringAt};
-use crate::tested;
 use boundary::limits_of;
 use boundary::refused;
+use boundary::tested;
 use boundary::two;
 use cursor::Cursor;
 use entries::code::UpvalueResult;

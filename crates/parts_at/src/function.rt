@@ -2,9 +2,9 @@
 ghost use mathlib.Core.Path.{_≡_};
 ghost use Rattle.boundary.specs.Status.{status, written};
 ghost use Rattle.parts_at.specs.PartNumbers.{headNumbers, tailNumbers, headAt, tailAt};
-use crate::tested;
 use boundary::limits_of;
 use boundary::refused;
+use boundary::tested;
 use cursor::Cursor;
 use numbers::strings::length_number;
 use numbers::strings::place_number;

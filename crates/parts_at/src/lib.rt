@@ -4,27 +4,3 @@
 // held against theirs. Where no such part begins at the place, the answer is what the bytes there spell; behind the end of the chunk there are none.
 pub mod entry;
 pub mod function;
-
-ghost use mathlib.Core.Path.{_≡_};
-ghost use mathlib.Core.List.{[]};
-ghost use Rattle.boundary.specs.Status.{limitsOf, done, status};
-ghost use Rattle.parts_at.specs.PartNumbers.{admitted};
-use boundary::limits_of;
-use boundary::refused;
-use format::refusal::Refusal;
-
-// 0, or 21 where a limit is above its ceiling, or 22 where the chunk is longer than the input limit. Ruled out: 22 before 21, a chunk as long as the limit refused.
-fn tested(chunk: &[u8], limits: &[u64; 9]) -> u64
-    ensures { λ r. ⌜ r ≡ status (admitted (limitsOf (now (limits .entry))) (now (chunk .entry)) (done [])) ⌝ }
-{
-    let l = limits_of(limits);
-    let within = l.within_ceilings();
-    let longest = l.max_input_bytes;
-    if !within {
-        return refused(Refusal::LimitAboveCeiling);
-    }
-    if longest < chunk.len() {
-        return refused(Refusal::InputBytes);
-    }
-    0
-}

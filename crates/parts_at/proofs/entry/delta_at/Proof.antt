@@ -8,7 +8,7 @@ use Rattle.reader.specs.Shown.{u8Result}
 use Rattle.boundary.specs.Status.{limitsOf}
 use Rattle.boundary.proofs.Calls.{call-refuses, call-answers}
 use Rattle.parts_at.specs.PartNumbers.{ofDeltaAt}
-use Rattle.parts_at.proofs.Admitted.{stops, goes-on}
+use Rattle.boundary.proofs.Admitted.{stops, goes-on}
 use Rattle.parts_at.proofs.entry.delta_at.Statement.{statement}
 use Rattle.parts_at.proofs.entry.delta_at.Tie as tie
 

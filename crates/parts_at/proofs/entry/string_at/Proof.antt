@@ -7,7 +7,7 @@ use Rattle.reader.specs.Shown.{stringResult}
 use Rattle.boundary.specs.Status.{limitsOf}
 use Rattle.boundary.proofs.Calls.{call-refuses, call-answers}
 use Rattle.parts_at.specs.PartNumbers.{upTo, ofStringAt}
-use Rattle.parts_at.proofs.Admitted.{stops, goes-on}
+use Rattle.boundary.proofs.Admitted.{stops, goes-on}
 use Rattle.parts_at.proofs.entry.string_at.Statement.{statement}
 use Rattle.parts_at.proofs.entry.string_at.Tie as tie
 

@@ -7,7 +7,7 @@ use Rattle.prototype.specs.PartsShown.{tailResult}
 use Rattle.boundary.specs.Status.{limitsOf}
 use Rattle.boundary.proofs.Calls.{call-refuses, call-answers}
 use Rattle.parts_at.specs.PartNumbers.{ofTail}
-use Rattle.parts_at.proofs.Admitted.{stops, goes-on}
+use Rattle.boundary.proofs.Admitted.{stops, goes-on}
 use Rattle.parts_at.proofs.function.tail_at.Statement.{statement}
 use Rattle.parts_at.proofs.function.tail_at.Tie as tie
 

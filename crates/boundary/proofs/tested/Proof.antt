@@ -1,9 +1,9 @@
--- `parts_at::tested` meets its contract: by its two tests. Assumes nothing.
+-- `boundary::tested` meets its contract: by its two tests. Assumes nothing.
 use borrow.Author.Needs.{needs}
 use borrow.Author.Tests.{not-true, not-false}
-use Rattle.parts_at.proofs.Admitted.{above, longer, passes}
-use Rattle.parts_at.proofs.tested.Statement.{statement}
-use Rattle.parts_at.proofs.tested.Tie as tie
+use Rattle.boundary.proofs.Admitted.{above, longer, passes}
+use Rattle.boundary.proofs.tested.Statement.{statement}
+use Rattle.boundary.proofs.tested.Tie as tie
 
 pub tested-spec : {M : Type 1} → statement M
 tested-spec =

@@ -15,8 +15,7 @@ use Rattle.format.specs.declared.limits.ResourceLimits.{ResourceLimits}
 use Rattle.format.specs.declared.refusal.Refusal.the-variants.{LimitAboveCeiling, InputBytes}
 use Rattle.format.specs.Form.{Bytes}
 use Rattle.format.specs.Limits.{withinCeilings}
-use Rattle.boundary.specs.Status.{Answer, done, refuses, coded, status, written}
-use Rattle.parts_at.specs.PartNumbers.{admitted}
+use Rattle.boundary.specs.Status.{Answer, done, refuses, coded, status, written, admitted}
 
 -- ## The test
 module _ (s : Bytes) {l L : ResourceLimits} (is : l ≡ L) {w : Bool} (within : w ≡ withinCeilings l) where
