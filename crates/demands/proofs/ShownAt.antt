@@ -1,6 +1,6 @@
 -- The calls at a place (crates/parts_at/specs/PartNumbers.antt) show a chunk that is read. For function k of its reading, p:
 --     head      at `start`, `head_at` shows p's source as it is spelt, its lines, its three bytes, and count and place of its words, constants, upvalues and nested functions
---     source    the source as it is spelt: absent where p's is that of its parent (main, which has none before it, has its own or none)
+--     source    the source as it is spelt: absent where p's is that of its parent (main, which has none before it, has its own or none); one that is spelt stands in p, behind its start (`own`)
 --     tail      behind the functions that nest in p (`lastEnd`: at the end of the last one; where there is none, where they would begin), `tail_at` shows count and place of its deltas, anchors, locals and names, and p's end
 --     words ..  from a list's place on, each entry at the place that the call before gave as the one behind (`stepped`), the call shows entry i
 -- `head_at` counts the instructions of this function alone, and holds them against the total: on a chunk that is read that test passes, as all before are counted in there.
@@ -44,6 +44,7 @@ use Rattle.access.proofs.Whole.{all-nth, whole}
 use Rattle.boundary.specs.Status.{limitsOf, Answer, done, refuses, complement, admitted}
 use Rattle.numbers.specs.Numbers.{presentNumber, placeNumber, lengthNumber, stringNumbers, constantNumbers}
 use Rattle.parts_at.specs.PartNumbers.{upTo, localNumbersAt, ofHead, ofTail, ofWordAt, ofConstantAt, ofUpvalueAt, ofDeltaAt, ofAnchorAt, ofLocalAt, ofStringAt, headAt, tailAt, wordAt, constantAt, upvalueAt, deltaAt, anchorAt, localAt, stringAt}
+use Rattle.demands.proofs.SpeltHere.{Behind, head-behind}
 use Rattle.demands.proofs.Nested.{lastEnd, sourceAt, Parted, all-parted}
 use Rattle.demands.proofs.EntriesAt.{behind, last-of, stepped, entries-shown, run-bytes}
 
@@ -117,6 +118,7 @@ Entries {A} call Shown place xs = (i : ℕ) (x : A) → getElem? xs i ≡ some x
 pub record ShownAt (l : List ℕ) (s : Bytes) (fs : List Prototype) (k : ℕ) (p : Prototype) : Type 0 where
   pub spelt : Option LuaString
   pub source : p .source-name ≡ inherit spelt (sourceAt (p .parent) (take k fs))
+  pub own : Behind (p .start) spelt
   pub head : headAt l (p .start) s ≡ done (headShown spelt p)
   pub tail : tailAt l (lastEnd k (p .places .protos) (drop (suc k) fs)) s ≡ done (tailShown p)
   pub words : Entries (λ at. wordAt l at s) (Numbered (λ w. w ∷ [])) (p .places .instructions) (p .instructions)
@@ -217,6 +219,7 @@ module _ (l : List ℕ) (s : Bytes) (r : Reading) (is : read (limitsOf l) s ≡ 
     shown-at = record {
       spelt = parted .first .front .source;
       source = ap (λ q. q .source-name) (parted .is) ∙ ap (inherit (parted .first .front .source)) (parted .source);
+      own = head-behind (limitsOf l) 0 .holds (parted .at-start .is);
       head = head-is;
       tail = tail-is;
       words = λ i x e. entries-shown s (field 4) (exact-field 4) (λ at. wordAt l at s) (Numbered (λ w. w ∷ [])) (λ at x to rest e. numbered (x ∷ []) to _ (ap (λ o. ofWordAt (u32Result o)) e)) (length (p .instructions)) (located .instructions) i e;
