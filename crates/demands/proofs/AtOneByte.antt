@@ -31,7 +31,7 @@ use Rattle.prototype.specs.Front.{Front, front}
 use Rattle.prototype.proofs.Flat.{in-parts}
 use Rattle.demands.proofs.Causes.{causeOf, enters, LastNumber, Ends}
 use Rattle.demands.proofs.Order.{Decided, in-byte-order}
-use Rattle.demands.proofs.Refused.{unless, first, byReader}
+use Rattle.demands.proofs.Refused.{alone, unless, first, byReader}
 
 -- ## 2 before 1
 -- n bytes are wanted at a place
@@ -98,10 +98,6 @@ module _ (L : ResourceLimits) where
   nineteen-then-twenty zero w at s = refl
   nineteen-then-twenty (suc left) w at s = go (leb (w .number) (L .«max_total_prototypes»)) (function L left w)
     where
-      alone : (o : Option Report) → o ≡ first (o ∷ [])
-      alone none = refl
-      alone (some r) = refl
-
       go : (few : Bool) (g : Reader (List Prototype)) → byReader ((test few (q.TotalPrototypes at) >> g) at s) ≡ first (unless few (placed 20 at) ∷ byReader (g at s) ∷ [])
       go true g = alone (byReader (g at s))
       go false g = refl

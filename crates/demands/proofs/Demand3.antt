@@ -46,7 +46,7 @@ use Rattle.show_chunk.specs.declared.summary.SummaryAnswer.the-variants as summ
 use Rattle.show_chunk.specs.Summaries.{shownSummary}
 use Rattle.demands.proofs.Calls.{Shows, shows, Refuses, refuses}
 use Rattle.copy.specs.declared.whole.CopyAnswer.{CopyAnswer}
-use Rattle.demands.proofs.Written.{Copying, Writes, by-reading, writes}
+use Rattle.demands.proofs.Written.{Copying, Writes, by-reading, written-is-copy, writes}
 use Rattle.demands.proofs.Same.{SameButFor, same-exactly}
 use Rattle.demands.proofs.Alike.{AnswerAlike, EqualAsShown}
 use Rattle.demands.proofs.Together.{Summarised, alike-exactly}
@@ -161,11 +161,8 @@ pub shortest-spelling : (at n : ℕ) (bytes : Bytes) → Number at bytes n → l
 shortest-spelling = shortest-least
 
 -- what the call writes of a chunk that belongs is the copy of its reading
-written-is-copy : (L : ResourceLimits) (chunk old written : Bytes) (b : Belongs L chunk) → Writes L chunk old written → written ≡ copy (b .reading)
-written-is-copy L chunk old written b w =
-    let k = by-reading L chunk old written w in
-    let same : k .reading ≡ b .reading = (let both = sym (k .is) ∙ given b in cc) in
-    k .bytes ∙ ap copy same
+copy-written : (L : ResourceLimits) (chunk old written : Bytes) (b : Belongs L chunk) → Writes L chunk old written → written ≡ copy (b .reading)
+copy-written L chunk old written b w = written-is-copy L chunk old written (b .reading) w (given b)
 
 -- after a call on a chunk that belongs, the copy is written wherever there is room
 pub copy-is-written : (L : ResourceLimits) (chunk old : Bytes) (r : CopyAnswer) (new : Bytes) → Copying L chunk old r new → (b : Belongs L chunk) → length (copy (b .reading)) ≤ length old → Writes L chunk old (copy (b .reading))
@@ -178,7 +175,7 @@ written-belongs L chunk old written w = let k = by-reading L chunk old written w
 -- What the call writes is read again, whatever stood in the space that it was lent.
 pub written-is-read : (L : ResourceLimits) (chunk old written : Bytes) (b : Belongs L chunk) → Writes L chunk old written → 1 ≤ L .«max_string_bytes» → length written ≤ L .«max_input_bytes» → ReadAgain L (b .reading) written
 written-is-read L chunk old written b w string input =
-    let is = written-is-copy L chunk old written b w in
+    let is = copy-written L chunk old written b w in
     rw is (copy-is-read L chunk b (w .call .below) string (rw (← is) input))
 
 -- ## 5. Copying the copy gives the same bytes
@@ -195,14 +192,14 @@ pub written-again : (L M : ResourceLimits) (chunk old written old′ again : Byt
 written-again L M chunk old written old′ again w v =
     let b = written-belongs L chunk old written w in
     let d = written-belongs M written old′ again v in
-    written-is-copy M written old′ again d v ∙ copied-again L M chunk written b (w .call .below) (written-is-copy L chunk old written b w) d
+    copy-written M written old′ again d v ∙ copied-again L M chunk written b (w .call .below) (copy-written L chunk old written b w) d
 
 -- and under the premises of 4 it does write it, wherever it is lent as much space
 pub written-once-more : (L : ResourceLimits) (chunk old written old′ : Bytes) → Writes L chunk old written → 1 ≤ L .«max_string_bytes» → length written ≤ L .«max_input_bytes» → length written ≤ length old′
     → Writes L written old′ written
 written-once-more L chunk old written old′ w string input room =
     let b = written-belongs L chunk old written w in
-    let is = written-is-copy L chunk old written b w in
+    let is = copy-written L chunk old written b w in
     let again = written-is-read L chunk old written b w string input .belongs in
     let below : Below 256 written = rw is (copy-below L chunk (b .reading) (b .is) (w .call .below)) in
     let same = copied-again L L chunk written b (w .call .below) is again in
@@ -218,7 +215,7 @@ equal-copies L M s t b d below below′ =
 -- what the call writes of each
 pub equal-written : (L M : ResourceLimits) (s t old old′ u v : Bytes) (b : Belongs L s) (d : Belongs M t) → Writes L s old u → Writes M t old′ v → u ≡ v ↔ SameButFor (b .reading) (d .reading)
 equal-written L M s t old old′ u v b d w x =
-    let here = written-is-copy L s old u b w in
-    let there = written-is-copy M t old′ v d x in
+    let here = copy-written L s old u b w in
+    let there = copy-written M t old′ v d x in
     let law = equal-copies L M s t b d (w .call .below) (x .call .below) in
     (λ same. law .0 (sym here ∙ same ∙ there), λ same. here ∙ law .1 same ∙ sym there)

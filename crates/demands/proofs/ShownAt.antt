@@ -40,10 +40,10 @@ use Rattle.lists.proofs.DebugInfo.{local-named}
 use Rattle.entries.specs.Shown.{upvalueResult}
 use Rattle.prototype.specs.Parts.{head, tail}
 use Rattle.prototype.specs.PartsShown.{headResult, tailResult}
-use Rattle.access.proofs.Whole.{all-nth, whole}
 use Rattle.boundary.specs.Status.{limitsOf, Answer, done, refuses, complement, admitted}
 use Rattle.numbers.specs.Numbers.{presentNumber, placeNumber, lengthNumber, stringNumbers, constantNumbers}
 use Rattle.parts_at.specs.PartNumbers.{upTo, localNumbersAt, ofHead, ofTail, ofWordAt, ofConstantAt, ofUpvalueAt, ofDeltaAt, ofAnchorAt, ofLocalAt, ofStringAt, headAt, tailAt, wordAt, constantAt, upvalueAt, deltaAt, anchorAt, localAt, stringAt}
+use Rattle.demands.proofs.Calls as calls
 use Rattle.demands.proofs.SpeltHere.{Behind, head-behind}
 use Rattle.demands.proofs.Nested.{lastEnd, sourceAt, Parted, all-parted}
 use Rattle.demands.proofs.EntriesAt.{behind, last-of, stepped, entries-shown, run-bytes}
@@ -196,7 +196,7 @@ module _ (l : List ℕ) (s : Bytes) (r : Reading) (is : read (limitsOf l) s ≡ 
 
   module _ (k : ℕ) {p : Prototype} (there : getElem? (r .functions) k ≡ some p) where
     located : Located (limitsOf l) s p
-    located = all-nth (Located (limitsOf l) s) (r .functions) (whole (limitsOf l) s r is .located) k there
+    located = calls.located (limitsOf l) s r is k p there
 
     parted : Parted (limitsOf l) s (take k (r .functions)) p (drop (suc k) (r .functions))
     parted = all-parted (limitsOf l) s r is k there
