@@ -18,10 +18,9 @@ use mir.Syntax.{w8}
 use mir.Val.{toZ}
 use borrow.Author.Tests.{le-leb}
 use Rattle.format.specs.declared.limits.ResourceLimits.{ResourceLimits}
-use Rattle.format.specs.declared.refusal.Refusal.{Refusal}
 use Rattle.format.specs.declared.refusal.Refusal.the-variants as refusals
 use Rattle.format.specs.declared.refusal.Report.{Report}
-use Rattle.format.specs.Refusals.{bare, reported}
+use Rattle.format.specs.Refusals.{bare}
 use Rattle.format.specs.Form.{Bytes}
 use Rattle.format.specs.Reading.{Reading, Prototype, LocalVar}
 use Rattle.format.specs.ReadChunk.{Outcome, shown, refusal, read}

@@ -20,7 +20,7 @@ use Rattle.format.specs.Refusals.{reported}
 use Rattle.format.specs.Form.{Bytes, Form}
 use Rattle.format.specs.Reading.{Prototype}
 use Rattle.format.specs.GrammarHeader.{signature, luacData, luacInt, luacNum}
-use Rattle.format.specs.GrammarChunk.{inherit, Where, after, within, Loaded}
+use Rattle.format.specs.GrammarChunk.{inherit, Where, after, within}
 use Rattle.format.specs.Read.{Read, ok, refused, Reader, next, _>>=_, _>>_, give, here, refuse, test, atMost, run, many}
 use Rattle.format.specs.ReadFields.{field, groups, number, content, string}
 use Rattle.format.specs.ReadHeader.{sameBytes, expect, beforeFormat, behindFormat, header}

@@ -43,13 +43,10 @@ use Rattle.copy.specs.Copied.{shownLength, shownCopy, copyWritten}
 use Rattle.rules.specs.declared.finding.Finding.{Finding}
 use Rattle.rules.specs.Findings.{Listing, chunkFindings, verdict}
 use Rattle.rules.specs.Rust as rust
-use Rattle.validator.specs.declared.verdict.VerdictAnswer.{VerdictAnswer}
 use Rattle.validator.specs.declared.verdict.VerdictAnswer.the-variants as verdicts
-use Rattle.validator.specs.declared.verdict.CountAnswer.{CountAnswer}
 use Rattle.validator.specs.declared.verdict.CountAnswer.the-variants as counts
 use Rattle.validator.specs.Answers.{shownVerdict, shownCount}
 use Rattle.validator.proofs.Chunk.{findings-are}
-use Rattle.finding_plan.specs.declared.FindingsAnswer.{FindingsAnswer}
 use Rattle.finding_plan.specs.declared.FindingsAnswer.the-variants as answers
 use Rattle.finding_plan.specs.Validated.{listingAnswer, shownFindings, findingsWritten}
 use Rattle.finding_array.specs.Blank.{LONGEST, blankList}

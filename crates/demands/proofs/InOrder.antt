@@ -4,7 +4,7 @@
 --     Lack r at s p    a file that is cut short (1) lacks bytes: so many are wanted at the refusal's place p, there are fewer; with more, but fewer than these, it is the same, and with as many it is not 1 at that place
 -- (And 2 is met behind byte 128 alone: a number is below 2^64 − 128, so place plus size is below 2^64 up to there.)
 -- Assumes nothing.
-use mathlib.Core.Path.{_≡_, refl, sym, _∙_, ap}
+use mathlib.Core.Path.{_≡_, refl, _∙_, ap}
 use mathlib.Core.Bool.{Bool, true, false, cond}
 use mathlib.Core.List.{List, [], _∷_, _++_}
 use Prim.Native.Nat.{ℕ, zero, suc, _+_, _-_, _*_, _%_, _≤_, _<_, _^_}

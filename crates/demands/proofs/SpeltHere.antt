@@ -3,9 +3,9 @@
 --     string-behind, head-behind
 -- Assumes nothing.
 use mathlib.Core.Path.{_≡_, ap}
-use mathlib.Core.List.{[], _∷_, _++_}
+use mathlib.Core.List.{[], _∷_}
 use mathlib.Core.Option.{Option, none, some}
-use Prim.Native.Nat.{ℕ, zero, suc, _+_, _<_}
+use Prim.Native.Nat.{ℕ, zero, suc, _<_}
 use native.Mathlib.Omega.{arith}
 use lib.ListN.{length, drop, length-append}
 use Rattle.format.specs.declared.limits.ResourceLimits.{ResourceLimits}
@@ -13,12 +13,12 @@ use Rattle.format.specs.declared.refusal.Refusal.{Refusal}
 use Rattle.format.specs.declared.refusal.Refusal.the-variants.{StringBytes}
 use Rattle.format.specs.Form.{Bytes}
 use Rattle.format.specs.GrammarFields.{LuaString}
-use Rattle.format.specs.Read.{Read, ok, Reader, atMost}
+use Rattle.format.specs.Read.{atMost}
 use Rattle.format.specs.ReadFields.{number, content, string}
-use Rattle.format.proofs.Exact.{Exact, exact-give, exact-then, exact-atMost, exact-run}
+use Rattle.format.proofs.Exact.{exact-give, exact-then, exact-atMost, exact-run}
 use Rattle.format.proofs.ExactFields.{exact-field, exact-number, exact-string}
 use Rattle.format.proofs.Located.{AtPlace, any, at-give, at-here, at-then}
-use Rattle.prototype.specs.Parts.{Head, head}
+use Rattle.prototype.specs.Parts.{head}
 use Rattle.prototype.proofs.FrontAnswers.{exact-front}
 use Rattle.prototype.proofs.HeadAnswers.{exact-lists}
 use Rattle.counted.proofs.Within.{exact-protosCount}

@@ -20,7 +20,7 @@ use Rattle.format.specs.Read.{Read, ok, refused, Reader, next, _>>=_, _>>_, giv
 use Rattle.format.specs.ReadFields.{byte, number}
 use Rattle.format.specs.ReadChunk.{countedUpTo}
 use Rattle.demands.proofs.Causes.{LastNumber}
-use Rattle.demands.proofs.Order.{Decided, InByteOrder}
+use Rattle.demands.proofs.Order.{InByteOrder}
 
 abbrev pub items : {A : Type 0} → ℕ → Reader A → Reader (Listed A)
 items n r = do
