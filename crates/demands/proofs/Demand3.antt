@@ -6,6 +6,7 @@
 --     1  summary-exactly          `chunk_summary` answers with a summary exactly where the chunk belongs
 --        refused-exactly          and exactly where it does not, every call refuses it, all with one refusal, and lent memory stays as it was (`Refuses`, `Calls.antt`)
 --     2  shown-is-the-reading     where it belongs, what every call shows is its part of that reading (`Shows`, `Calls.antt`)
+--        shown-at-places          and so do the calls at a place
 --        (`Complete.antt`: `Shows` and `Refuses` leave no call out: where they are the same, every call answers alike)
 --        together                 and the summary, the fields and the entries together show the whole of it, but for parts that are named (`Together.antt`)
 --     3  reading-unique           and it has no other
@@ -16,21 +17,23 @@
 --     5  written-again            on what it wrote, it writes the same
 --        written-once-more        and it does write, wherever it is lent as much space
 --     6  equal-written            what it writes of two scripts is equal exactly when their readings are the same but for what the demand sets aside
--- The same of the definitions (the reader `read` of specs/ReadChunk.antt, the copy `copy` of specs/Copy.antt): read-exactly, copy-is-read, copy-of-copy, equal-copies. There `Below 256` says of a list that its numbers are
+-- The same of the definitions (the reader `read` of crates/format/specs/ReadChunk.antt, the copy `copy` of Copy.antt there): read-exactly, copy-is-read, copy-of-copy, equal-copies. There `Below 256` says of a list that its numbers are
 -- bytes, since lists of the definitions may hold any number. Of the calls it is not asked: a slice's are bytes (`Slices.antt`), and `Writes` has it from there.
 -- Assumes nothing.
 use mathlib.Core.Path.{_≡_, refl, sym, _∙_, ap, subst}
 use mathlib.Core.Logic.{_↔_}
 use mathlib.Core.Bool.{true}
+use mathlib.Core.List.{List}
+use mathlib.Core.Option.{some}
 use Prim.Native.Nat.{ℕ, _≤_}
 use native.Mathlib.Omega.{arith}
-use lib.ListN.{length}
+use lib.ListN.{length, getElem?}
 use Rattle.format.specs.declared.limits.ResourceLimits.{ResourceLimits}
 use Rattle.format.specs.declared.refusal.Refusal.{Refusal}
 use Rattle.format.specs.Form.{Bytes, Below}
 use Rattle.format.specs.GrammarFields.{Number}
 use Rattle.format.specs.Limits.{withinCeilings}
-use Rattle.format.specs.Reading.{Reading}
+use Rattle.format.specs.Reading.{Reading, Prototype}
 use Rattle.format.specs.GrammarChunk.{reading, Chunk}
 use Rattle.format.specs.ReadChunk.{Outcome, shown, refusal, read}
 use Rattle.format.specs.Shortest.{shortest}
@@ -40,6 +43,7 @@ use Rattle.format.proofs.WiderChunk.{main-wider, above, above-left, above-right
 use Rattle.format.proofs.CopyChunk.{copy-belongs, copy-same, copy-below}
 use Rattle.format.proofs.CopyChunk as copies
 use Rattle.format.proofs.ReadChunkLaws.{read-sound, read-within, read-complete, chunk-unique}
+use Rattle.boundary.specs.Status.{limitsOf}
 use Rattle.decode.specs.declared.summary.Summary.{Summary}
 use Rattle.show_chunk.specs.declared.summary.SummaryAnswer.{SummaryAnswer}
 use Rattle.show_chunk.specs.declared.summary.SummaryAnswer.the-variants as summary-answer
@@ -50,6 +54,7 @@ use Rattle.demands.proofs.Written.{Copying, Writes, by-reading, written
 use Rattle.demands.proofs.Same.{SameButFor, same-exactly}
 use Rattle.demands.proofs.Alike.{AnswerAlike, EqualAsShown}
 use Rattle.demands.proofs.Together.{Summarised, alike-exactly}
+use Rattle.demands.proofs.ShownAt.{ShownAt, shown-at}
 
 -- ## 1. Read exactly when it belongs
 -- the limits are within their ceilings, the chunk is no longer than the input limit, and it belongs under the limits to the grammar
@@ -108,6 +113,10 @@ refused-exactly L chunk = (λ f b. never (f .by-all .summary) (ap shownSummary (
 -- verdict and findings, the copy).
 pub shown-is-the-reading : (L : ResourceLimits) (chunk : Bytes) (b : Belongs L chunk) → Shows L chunk (b .reading)
 shown-is-the-reading L chunk b = shows L chunk (b .reading) (given b)
+
+-- So do the calls at a place, from where a function begins and its lists stand in the reading (`ShownAt.antt`).
+pub shown-at-places : (l : List ℕ) (chunk : Bytes) (b : Belongs (limitsOf l) chunk) (k : ℕ) {p : Prototype} → getElem? (b .reading .functions) k ≡ some p → ShownAt l chunk (b .reading .functions) k p
+shown-at-places l chunk b k there = shown-at l chunk (b .reading) (given b) k there
 
 -- Together the summary, the fields and the entries show the reading: of two chunks, whatever limits each is read under, these calls answer alike exactly where the readings are equal, but for what none of them shows
 -- (`Alike.antt`; crates/format/specs/Reading.antt). `Summarised` is what holds after a call of `chunk_summary` (`Together.antt`): with its answer it has that the chunk is bytes.
