@@ -18,10 +18,9 @@ use mir.Syntax.{w8}
 use mir.Val.{toZ}
 use borrow.Author.Tests.{le-leb}
 use Rattle.format.specs.declared.limits.ResourceLimits.{ResourceLimits}
-use Rattle.format.specs.declared.refusal.Refusal.{Refusal}
 use Rattle.format.specs.declared.refusal.Refusal.the-variants as refusals
 use Rattle.format.specs.declared.refusal.Report.{Report}
-use Rattle.format.specs.Refusals.{bare, reported}
+use Rattle.format.specs.Refusals.{bare}
 use Rattle.format.specs.Form.{Bytes}
 use Rattle.format.specs.Reading.{Reading, Prototype, LocalVar}
 use Rattle.format.specs.ReadChunk.{Outcome, shown, refusal, read}
@@ -60,7 +59,7 @@ use Rattle.instructions.specs.declared.instruction.RawInstruction54.{RawInstruc
 use Rattle.instructions.specs.declared.instruction.Encoded.{Encoded}
 use Rattle.instructions.specs.declared.instruction.Encoded.the-variants as encoded-answer
 use Rattle.instructions.specs.Word.{encoded}
-use Rattle.demands.proofs.Refused.{unless, missing, first, andThen, ofChunk, noFunction, ofFunction, noEntry, largeLine, ofLocal, longName, tooLong, inEncoded}
+use Rattle.demands.proofs.Refused.{nothing-later, unless, missing, first, ofChunk, noFunction, ofFunction, noEntry, largeLine, ofLocal, longName, tooLong, inEncoded}
 use Rattle.demands.proofs.Refused.{forChunk, forReading, forSpace, forFunction, forLine, forEntry, forLocal, forWord}
 use Rattle.demands.proofs.Demand1.{after, order, encode}
 
@@ -97,11 +96,7 @@ module _ (L : ResourceLimits) (s : Bytes) where
   by-reading later e = is-read later (read L s) refl (order L s later ∙ e)
 
   pub chunk-read : first (forChunk L s) ≡ none → Accepted L s (λ r. Unit {0})
-  chunk-read e = let a = is-read (λ r. []) (read L s) refl (order L s (λ r. []) ∙ ap (λ qs. first (ofChunk L s qs)) (none-later (read L s)) ∙ e) in record { reading = a .reading; is = a .is; shows = tt }
-    where
-      none-later : (o : Outcome) → andThen o (λ r. []) ≡ []
-      none-later (shown r) = refl
-      none-later (refusal q) = refl
+  chunk-read e = let a = is-read (λ r. []) (read L s) refl (order L s (λ r. []) ∙ ap (λ qs. first (ofChunk L s qs)) (nothing-later (read L s)) ∙ e) in record { reading = a .reading; is = a .is; shows = tt }
 
   -- ## Calls on a chunk as a whole
   module _ (fine : first (forChunk L s) ≡ none) where

@@ -7,7 +7,7 @@
 --     nineteen-at-once, twenty-at-once     of a whole chunk: the file that ends at the place of 19 or 20 is refused so, and so it is with any bytes behind
 -- (1 to 20 at one byte meet nowhere else: 4 to 12 want their bytes first, 13 to 18 their number, and a missing byte is 1.)
 -- Assumes nothing.
-use mathlib.Core.Path.{_≡_, refl, sym, _∙_, ap}
+use mathlib.Core.Path.{_≡_, refl, _∙_, ap}
 use mathlib.Core.Bool.{Bool, true, false, _||_, cond}
 use mathlib.Core.List.{List, [], _∷_, _++_}
 use mathlib.Core.Option.{Option, none, some}
@@ -24,14 +24,14 @@ use Rattle.format.specs.Refusals.{placed, bare, reported}
 use Rattle.format.specs.Form.{Bytes}
 use Rattle.format.specs.Reading.{Prototype}
 use Rattle.format.specs.GrammarChunk.{Where}
-use Rattle.format.specs.Read.{Read, ok, refused, Reader, next, _>>=_, _>>_, here, refuse, test, atMost, piece, run}
+use Rattle.format.specs.Read.{ok, refused, Reader, next, _>>=_, _>>_, here, refuse, test, atMost, piece, run}
 use Rattle.format.specs.ReadFields.{groups, number}
 use Rattle.format.specs.ReadChunk.{body, function, main}
 use Rattle.prototype.specs.Front.{Front, front}
 use Rattle.prototype.proofs.Flat.{in-parts}
 use Rattle.demands.proofs.Causes.{causeOf, enters, LastNumber, Ends}
-use Rattle.demands.proofs.Order.{Decided, in-byte-order}
-use Rattle.demands.proofs.Refused.{unless, first, byReader}
+use Rattle.demands.proofs.Order.{in-byte-order}
+use Rattle.demands.proofs.Refused.{alone, unless, first, byReader}
 
 -- ## 2 before 1
 -- n bytes are wanted at a place
@@ -98,10 +98,6 @@ module _ (L : ResourceLimits) where
   nineteen-then-twenty zero w at s = refl
   nineteen-then-twenty (suc left) w at s = go (leb (w .number) (L .«max_total_prototypes»)) (function L left w)
     where
-      alone : (o : Option Report) → o ≡ first (o ∷ [])
-      alone none = refl
-      alone (some r) = refl
-
       go : (few : Bool) (g : Reader (List Prototype)) → byReader ((test few (q.TotalPrototypes at) >> g) at s) ≡ first (unless few (placed 20 at) ∷ byReader (g at s) ∷ [])
       go true g = alone (byReader (g at s))
       go false g = refl

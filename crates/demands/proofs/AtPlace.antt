@@ -4,7 +4,7 @@
 use mathlib.Core.Path.{_≡_, refl, _∙_}
 use mathlib.Core.Bool.{Bool, true, false, cond}
 use mathlib.Core.List.{List, [], _∷_}
-use mathlib.Core.Option.{Option, none, some}
+use mathlib.Core.Option.{Option}
 use Prim.Native.Nat.{ℕ}
 use lib.Dec.{leb}
 use lib.ListN.{length, drop}
@@ -13,7 +13,7 @@ use Rattle.format.specs.declared.refusal.Refusal.the-variants.{LimitAboveCeilin
 use Rattle.format.specs.declared.refusal.Report.{Report}
 use Rattle.format.specs.declared.entry.UpvalueDesc.{UpvalueDesc}
 use Rattle.format.specs.declared.entry.AbsLineInfo.{AbsLineInfo}
-use Rattle.format.specs.Refusals.{bare, reported}
+use Rattle.format.specs.Refusals.{bare}
 use Rattle.format.specs.Form.{Bytes}
 use Rattle.format.specs.Limits.{withinCeilings}
 use Rattle.format.specs.GrammarFields.{LuaString}
@@ -27,10 +27,10 @@ use Rattle.lists.specs.Shown.{constantResult, anchorResult, localResult}
 use Rattle.entries.specs.Shown.{upvalueResult}
 use Rattle.prototype.specs.Parts as parts
 use Rattle.prototype.specs.PartsShown.{headResult, tailResult}
-use Rattle.boundary.specs.Status.{limitsOf, Answer, done, refuses}
+use Rattle.boundary.specs.Status.{limitsOf, Answer, refuses}
 use Rattle.parts_at.specs.PartNumbers.{ofHead, ofTail, ofWordAt, ofConstantAt, ofUpvalueAt, ofDeltaAt, ofAnchorAt, ofLocalAt, ofStringAt}
 use Rattle.parts_at.specs.PartNumbers.{headAt, tailAt, wordAt, constantAt, upvalueAt, deltaAt, anchorAt, localAt, stringAt}
-use Rattle.demands.proofs.Refused.{unless, first, byReader}
+use Rattle.demands.proofs.Refused.{alone, unless, first, byReader}
 use Rattle.demands.proofs.ByC.{inAnswer, InC, law}
 
 -- the reader of a part, at the place
@@ -49,10 +49,6 @@ module _ (limits : List ℕ) (place : ℕ) (s : Bytes) where
     part : InC (cond (withinCeilings L) (cond (leb (length s) (L .«max_input_bytes»)) (answer (r place (drop place s))) (refuses InputBytes)) (refuses LimitAboveCeiling)) (forPart limits place s r)
     part = law _ _ (by (withinCeilings L) (leb (length s) (L .«max_input_bytes»)) (r place (drop place s)))
       where
-        alone : (q : Option Report) → q ≡ first (q ∷ [])
-        alone none = refl
-        alone (some q) = refl
-
         by : (within short : Bool) (o : Read A) → inAnswer (cond within (cond short (answer o) (refuses InputBytes)) (refuses LimitAboveCeiling)) ≡ first (unless within (bare 21) ∷ unless short (bare 22) ∷ byReader o ∷ [])
         by true true o = same o ∙ alone (byReader o)
         by true false o = refl

@@ -5,20 +5,19 @@
 -- (What `backwards` refuses it does not refuse at the front that ends with the cause, and what `latest` refuses there it does not refuse with any bytes behind: each part of `Decided` is wanted.)
 -- Assumes nothing.
 use mathlib.Core.Path.{_≡_, refl, ap}
-use mathlib.Core.Bool.{Bool, true, false, cond}
+use mathlib.Core.Bool.{cond}
 use mathlib.Core.List.{List, [], _∷_, _++_}
-use Prim.Native.Nat.{ℕ, _+_, _≤_, _<_}
+use Prim.Native.Nat.{ℕ, _+_, _<_}
 use native.Mathlib.Omega.{arith}
 use lib.Dec.{leb}
 use lib.ListN.{length}
 use Rattle.format.specs.declared.limits.ResourceLimits.{ResourceLimits}
-use Rattle.format.specs.declared.refusal.Refusal.{Refusal}
 use Rattle.format.specs.declared.refusal.Refusal.the-variants.{Truncated, Constants, Upvalues}
 use Rattle.format.specs.Form.{Bytes}
 use Rattle.format.specs.Read.{Read, ok, refused, Reader, next, _>>=_, _>>_, give, here, atMost, many}
 use Rattle.format.specs.ReadFields.{number, byte}
 use Rattle.demands.proofs.Causes.{LastNumber}
-use Rattle.demands.proofs.Order.{Decided, InByteOrder}
+use Rattle.demands.proofs.Order.{InByteOrder}
 use Rattle.demands.proofs.Trap.{at-once}
 
 -- ## When both are read

@@ -3,12 +3,11 @@
 --     InC a qs             so it is of a call whose answer is a and whose conditions are qs, in 01's order
 --     law                  it is enough that the refusal in the answer is the first of the conditions
 --     findings-kept        a call that refuses leaves its list as it was. (Rows, copy and name: Demand1.antt, `index-kept`, `copy-kept`, `local-kept`, of the same definitions.)
---     offending-shown      what the list shows of a finding's rule is its offending number
--- (`lafzimdo_decode` has no condition: its contract says that it returns 0. crates/boundary/proofs/Numbers.antt: 0 is returned nowhere else, and number and place can be got back.)
+-- (crates/boundary/proofs/Numbers.antt: 0 is returned nowhere else, and number and place can be got back.)
 -- Assumes nothing.
 use mathlib.Core.Path.{_≡_, refl, sym, _∙_, ap}
 use mathlib.Core.Bool.{Bool, true, false, cond}
-use mathlib.Core.List.{List, [], _∷_, _++_}
+use mathlib.Core.List.{List, [], _++_}
 use mathlib.Core.Option.{Option, none, some}
 use Prim.Native.Nat.{ℕ, _/_}
 use native.Mathlib.Omega.{arith}
@@ -16,10 +15,9 @@ use lib.Dec.{leb}
 use lib.IntN.{ℤ}
 use lib.ListN.{length, drop}
 use Rattle.format.specs.declared.limits.ResourceLimits.{ResourceLimits}
-use Rattle.format.specs.declared.refusal.Refusal.{Refusal}
 use Rattle.format.specs.declared.refusal.Refusal.the-variants.{LentSpace}
 use Rattle.format.specs.declared.refusal.Report.{Report}
-use Rattle.format.specs.Refusals.{bare, reported}
+use Rattle.format.specs.Refusals.{reported}
 use Rattle.format.specs.Form.{Bytes}
 use Rattle.format.specs.ReadChunk.{Outcome, shown, refusal, read}
 use Rattle.format.specs.Copy.{copy}
@@ -55,9 +53,6 @@ use Rattle.show_entry.specs.Entries.{shownWord, shownConstant, shownUpvalue, sh
 use Rattle.show_local.specs.declared.LocalAnswer.{LocalAnswer}
 use Rattle.show_local.specs.declared.LocalAnswer.the-variants as local-answer
 use Rattle.show_local.specs.Locals.{shownLocal}
-use Rattle.rules.specs.declared.finding.Rule.{Rule}
-use Rattle.rules.specs.declared.finding.Rule.the-variants as rule
-use Rattle.rules.specs.Rules.{offending}
 use Rattle.rules.specs.Findings.{chunkFindings, verdict}
 use Rattle.validator.specs.declared.verdict.VerdictAnswer.{VerdictAnswer}
 use Rattle.validator.specs.declared.verdict.VerdictAnswer.the-variants as verdict-answer
@@ -67,14 +62,13 @@ use Rattle.validator.specs.Answers.{shownVerdict, shownCount}
 use Rattle.finding_plan.specs.declared.FindingsAnswer.{FindingsAnswer}
 use Rattle.finding_plan.specs.declared.FindingsAnswer.the-variants as findings-answer
 use Rattle.finding_plan.specs.Validated.{shownFindings}
-use Rattle.finding_plan.specs.Inner.Found.{foundIn}
 use Rattle.instructions.specs.declared.instruction.Encoded.{Encoded}
 use Rattle.instructions.specs.declared.instruction.Encoded.the-variants as encoded-answer
-use Rattle.instructions.specs.Word.{encoded}
-use Rattle.boundary.specs.Status.{limitsOf, withPlace, Answer, done, refuses, status, written, complement}
+use Rattle.instructions.specs.Word.{decoded, encoded}
+use Rattle.boundary.specs.Status.{limitsOf, withPlace, Answer, done, refuses, status, written}
 use Rattle.numbers.specs.Numbers.{ofSummary, ofFields, ofLine, ofWord, ofConstant, ofUpvalue, ofDelta, ofAnchor, ofLocal, ofName, ofIndex, ofCopy, ofVerdict, ofCount}
-use Rattle.numbers.specs.Words.{spelt, ofEncoded}
-use Rattle.finding_list.specs.FindingNumbers.{offendingNumber, listNumbers, ofFindings, numbersWritten}
+use Rattle.numbers.specs.Words.{wordNumbers, spelt, ofEncoded}
+use Rattle.finding_list.specs.FindingNumbers.{listNumbers, ofFindings, numbersWritten}
 use Rattle.demands.proofs.Refused.{first, forChunk, forSpace, forFunction, forLine, forEntry, forLocal, forWord}
 use Rattle.demands.proofs.Refused.{inSummary, inFields, inWord, inConstant, inUpvalue, inDelta, inAnchor, inName, inLocal, inLine, inIndex, inCopy, inVerdict, inCount, inFindings, inEncoded}
 use Rattle.demands.proofs.Demand1 as calls
@@ -220,6 +214,10 @@ module _ (limits : List ℕ) (s : Bytes) where
     pub lafzimdo-local : (space : ℕ) → InC (ofLocal (shownLocal space (entryOf (λ p. p .loc-vars) f i (read L s)))) (forLocal L s f i space)
     lafzimdo-local space = law _ _ (of-local (shownLocal space (entryOf (λ p. p .loc-vars) f i (read L s))) ∙ calls.local L s f i space)
 
+-- decoding has no condition
+pub lafzimdo-decode : (w : ℕ) → InC (done (wordNumbers (decoded w))) []
+lafzimdo-decode w = law _ _ refl
+
 -- 28 where the opcode is above 82, then 27
 pub lafzimdo-encode : (op a k b c bx : ℕ) (sbx : ℤ) (ax : ℕ) (sj : ℤ) → InC (ofEncoded (encoded (spelt op a k b c bx sbx ax sj))) (forWord (spelt op a k b c bx sbx ax sj))
 lafzimdo-encode op a k b c bx sbx ax sj = law _ _ (of-encoded (encoded (spelt op a k b c bx sbx ax sj)) ∙ calls.encode (spelt op a k b c bx sbx ax sj))
@@ -234,13 +232,3 @@ findings-kept old (shown r) q e = sym (all-or-none old (shown r)) ∙ by (leb (l
     by true e = absurd (let z : _≡_ {A = ℕ} 0 1 = cc in omega arith)
     by false e = refl
 findings-kept old (refusal p) q e = refl
-
--- the offending number of a finding's rule, as the list shows it: a signed number in 64 bits
-pub offending-shown : (r : Rule) → offendingNumber r ≡ complement (offending r)
-offending-shown (rule.Opcode n) = refl
-offending-shown (rule.Register n) = refl
-offending-shown (rule.Constant n) = refl
-offending-shown (rule.Upvalue n) = refl
-offending-shown (rule.TableUpvalue n) = refl
-offending-shown (rule.Prototype n) = refl
-offending-shown (rule.Jump z) = refl

@@ -8,7 +8,7 @@
 use mathlib.Core.Path.{_≡_, refl, sym, _∙_, ap, subst}
 use mathlib.Core.Bool.{Bool, true, false, cond}
 use mathlib.Core.List.{List, [], _∷_, _++_}
-use Prim.Native.Nat.{ℕ, zero, suc, _+_, _≤_, _<_}
+use Prim.Native.Nat.{ℕ, zero, suc, _+_, _≤_}
 use native.Mathlib.Omega.{arith}
 use lib.Dec.{leb, eqb}
 use lib.ListN.{length}
@@ -24,7 +24,7 @@ use Rattle.format.specs.GrammarChunk.{inherit, Where, after, within, Loaded}
 use Rattle.format.specs.Read.{Read, ok, refused, Reader, next, _>>=_, _>>_, give, here, refuse, test, atMost, run, many}
 use Rattle.format.specs.ReadFields.{field, number, content, string}
 use Rattle.format.specs.ReadHeader.{header}
-use Rattle.format.specs.ReadChunk.{counted, countedUpTo, always, tagged, constant, upvalue, anchor, local, forest, body, function, main, Outcome, shown, refusal, outcome, read}
+use Rattle.format.specs.ReadChunk.{counted, countedUpTo, always, constant, upvalue, anchor, local, forest, body, function, main, shown, refusal, outcome, read}
 use Rattle.demands.proofs.AtOneByte.{enter}
 
 -- 13 to 20

@@ -11,7 +11,6 @@ use Rattle.format.specs.declared.limits.ResourceLimits.{ResourceLimits}
 use Rattle.format.specs.declared.refusal.Refusal.{Refusal}
 use Rattle.format.specs.declared.refusal.Place.{Place}
 use Rattle.format.specs.declared.refusal.Place.the-variants.{At, None}
-use Rattle.format.specs.declared.refusal.Report.{Report}
 use Rattle.format.specs.Refusals.{reported}
 use Rattle.format.specs.Form.{Bytes, Below}
 use Rattle.format.specs.GrammarFields.{base128, Number}

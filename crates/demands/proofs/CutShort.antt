@@ -1,23 +1,23 @@
--- A file that is refused with 1 is cut short: at the refusal's place more bytes are wanted than there are, and with as many it is not 1 at that place.
+-- A file that is refused with 1 is cut short: at the refusal's place more bytes are wanted than there are; with more, but fewer than these, it is still refused so, and with as many it is not 1 at that place.
 --     cut-short            of the reader of a chunk (`Lack`: InOrder.antt)
 --     read-cut-short       of what every call begins with
 --     overflow-far         2 is met behind byte 128 alone, where place plus size can be 2^64
---     not-all-cut-short    a reader that calls what it refuses cut short, though nothing is missing, is not so
+--     not-all-cut-short    a reader that calls what it refuses cut short at a fixed place, though nothing is missing, is not so
+-- (Continued.antt: and some bytes behind end it. A reader that calls every file cut short where it ends lacks bytes in this sense, but does not continue.)
 -- Assumes nothing.
 use mathlib.Core.Path.{_≡_, refl, sym, _∙_, ap}
-use mathlib.Core.Bool.{Bool, true, false}
-use mathlib.Core.List.{List, [], _∷_, _++_}
+use mathlib.Core.Bool.{true}
+use mathlib.Core.List.{[], _∷_, _++_}
 use Prim.Native.Nat.{ℕ, _+_, _≤_, _<_}
 use native.Mathlib.Omega.{arith}
 use lib.ListN.{length, replicate, length-replicate}
 use Rattle.format.specs.declared.limits.ResourceLimits.{ResourceLimits}
-use Rattle.format.specs.declared.refusal.Refusal.{Refusal}
 use Rattle.format.specs.declared.refusal.Refusal.the-variants.{Truncated, Overflow}
 use Rattle.format.specs.Form.{Bytes}
 use Rattle.format.specs.Limits.{withinCeilings}
 use Rattle.format.specs.Read.{Read, ok, refused, Reader, next, _>>=_, atMost}
 use Rattle.format.specs.ReadFields.{number}
-use Rattle.format.specs.ReadChunk.{Outcome, shown, refusal, main, read}
+use Rattle.format.specs.ReadChunk.{refusal, outcome, main, read}
 use Rattle.demands.proofs.InOrder.{Past, Lack, steady-main}
 use Rattle.demands.proofs.Order.{by-main, by-refusal}
 
@@ -31,6 +31,7 @@ overflow-far L s e = let h = steady-main {low = 0} L .overflows 0 s (omega arith
 pub record Missing (L : ResourceLimits) (s : Bytes) (place : ℕ) : Type 0 where
   pub wanted : ℕ
   pub fewer : length s < place + wanted
+  pub still : (t : Bytes) → length (s ++ t) < place + wanted → length (s ++ t) ≤ L .«max_input_bytes» → read L (s ++ t) ≡ refusal (Truncated place)
   pub enough : (t : Bytes) → place + wanted ≤ length (s ++ t) → length (s ++ t) ≤ L .«max_input_bytes» → read L (s ++ t) ≡ refusal (Truncated place) → ⊥
 
 pub read-cut-short : (L : ResourceLimits) → withinCeilings L ≡ true → (s : Bytes) (place : ℕ) → length s ≤ L .«max_input_bytes» → read L s ≡ refusal (Truncated place) → Missing L s place
@@ -40,6 +41,7 @@ read-cut-short L within s place short e =
     record {
       wanted = l .wanted;
       fewer = omega arith;
+      still = λ t h fits. by-main L within (s ++ t) fits ∙ ap (outcome L) (l .still t (omega arith));
       enough = λ t h fits again. other (main L 0 (s ++ t)) (l .enough t (omega arith)) (by-refusal L within (Truncated place) (main L 0 (s ++ t)) (sym (by-main L within (s ++ t) fits) ∙ again));
     }
   where

@@ -13,7 +13,7 @@ use mathlib.Core.Path.{_≡_, refl, sym, _∙_, ap}
 use mathlib.Core.Bool.{Bool, true, false, cond}
 use mathlib.Core.List.{List, [], _∷_, _++_}
 use mathlib.Core.Option.{Option, none, some}
-use Prim.Native.Nat.{ℕ, _≤_, _<_, _^_}
+use Prim.Native.Nat.{ℕ, _≤_, _^_}
 use native.Mathlib.Omega.{arith}
 use native.Mathlib.Nat.{zero-add}
 use lib.Dec.{leb, ltb}
@@ -61,7 +61,7 @@ use Rattle.instructions.proofs.Ranges.{inRange, isWord, ranges}
 use Rattle.decode.proofs.Summaries.{input-ceiling}
 use Rattle.demands.proofs.InOrder.{Inside, inside-more}
 use Rattle.demands.proofs.Order.{in-byte-order}
-use Rattle.demands.proofs.Refused.{unless, missing, first, byReader, ofChunk, andThen, noFunction, ofFunction, noEntry, largeLine, ofLocal, longName, tooLong, noOpcode, outOfRange}
+use Rattle.demands.proofs.Refused.{alone, nothing-later, unless, missing, first, byReader, ofChunk, andThen, noFunction, ofFunction, noEntry, largeLine, ofLocal, longName, tooLong, noOpcode, outOfRange}
 use Rattle.demands.proofs.Refused.{forChunk, forSpace, forFunction, forLine, forEntry, forLocal, forWord}
 use Rattle.demands.proofs.Refused.{inSummary, inFields, inWord, inConstant, inUpvalue, inDelta, inAnchor, inName, inLocal, inLine, inIndex, inCopy, inVerdict, inCount, inFindings, inEncoded}
 
@@ -91,10 +91,6 @@ places L s q = go (withinCeilings L) refl (leb (length s) (L .«max_input_bytes�
 abbrev pub after : Outcome → (Reading → List (Option Report)) → Option Report
 after (shown r) later = first (later r)
 after (refusal q) later = some (reported q)
-
-nothing-later : (o : Outcome) → andThen o (λ r. []) ≡ []
-nothing-later (shown r) = refl
-nothing-later (refusal q) = refl
 
 never : {A : Type 0} {q : Report} → none ≡ some q → A
 never e = absurd (let z : _≡_ {A = ℕ} 0 1 = cc in omega arith)
@@ -299,10 +295,6 @@ by-mode IABx o r = range-only (ltb (r .bx) 131072) _
 by-mode IAsBx o r = handed (r .sbx +ℤ pos 65535) 131072 (encodedIABx o (r .a)) (λ n. range-only (ltb n 131072) _)
 by-mode IAx o r = range-only (ltb (r .ax) (2 ^ 25)) _
 by-mode IsJ o r = handed (r .sj +ℤ pos 16777215) (2 ^ 25) (encodedIAx o) (λ n. range-only (ltb n (2 ^ 25)) _)
-
-alone : (q : Option Report) → q ≡ first (q ∷ [])
-alone none = refl
-alone (some q) = refl
 
 module _ (r : RawInstruction54) where
   -- the word of an opcode's mode

@@ -26,7 +26,6 @@ use Rattle.format.specs.Warnings.{warned}
 use Rattle.format.specs.GrammarChunk.{Loaded, outermost, reading}
 use Rattle.format.specs.ReadChunk.{Outcome, shown, refusal, read}
 use Rattle.format.specs.LundumpFunctions.{Undump}
-use Rattle.format.specs.Copy.{copy}
 use Rattle.format.specs.LdumpFunctions.{«luaU_dump»}
 use Rattle.format.proofs.Every.{All}
 use Rattle.format.proofs.ReadChunkLaws.{read-sound}
@@ -44,13 +43,10 @@ use Rattle.copy.specs.Copied.{shownLength, shownCopy, copyWritten}
 use Rattle.rules.specs.declared.finding.Finding.{Finding}
 use Rattle.rules.specs.Findings.{Listing, chunkFindings, verdict}
 use Rattle.rules.specs.Rust as rust
-use Rattle.validator.specs.declared.verdict.VerdictAnswer.{VerdictAnswer}
 use Rattle.validator.specs.declared.verdict.VerdictAnswer.the-variants as verdicts
-use Rattle.validator.specs.declared.verdict.CountAnswer.{CountAnswer}
 use Rattle.validator.specs.declared.verdict.CountAnswer.the-variants as counts
 use Rattle.validator.specs.Answers.{shownVerdict, shownCount}
 use Rattle.validator.proofs.Chunk.{findings-are}
-use Rattle.finding_plan.specs.declared.FindingsAnswer.{FindingsAnswer}
 use Rattle.finding_plan.specs.declared.FindingsAnswer.the-variants as answers
 use Rattle.finding_plan.specs.Validated.{listingAnswer, shownFindings, findingsWritten}
 use Rattle.finding_array.specs.Blank.{LONGEST, blankList}
@@ -83,7 +79,7 @@ use Rattle.finding_array.proofs.chunk_findings as chunk-findings-call
 use Rattle.instructions.proofs.instruction.RawInstruction54.decode as decode-call
 use Rattle.instructions.proofs.instruction.RawInstruction54.encode as encode-call
 use Rattle.listing.proofs.listing as listing-call
-use Rattle.demands.proofs.Written.{Writes, by-reading}
+use Rattle.demands.proofs.Written.{Writes, written-is-copy}
 use Rattle.demands.proofs.Promise.{Promise, PromiseWhere}
 use Rattle.lent.specs.Over.{over}
 
@@ -288,16 +284,10 @@ as-read-loads L chunk r e = read-is-loaded L chunk r (read-sound L chunk r e)
 
 -- ## Lua's own dumper (crates/format/specs/LdumpFunctions.antt, after ldump.c)
 -- what `encode_chunk_lua54` writes (Written.antt) is what `luaU_dump` writes and the trailing bytes, where functions are as Lua would have them (`AsLua`), or stripped
-written-copy : (L : ResourceLimits) (chunk old written : Bytes) (r : Reading) → Writes L chunk old written → read L chunk ≡ shown r → written ≡ copy r
-written-copy L chunk old written r w e =
-    let k = by-reading L chunk old written w in
-    let same : k .reading ≡ r = (let both = sym (k .is) ∙ e in cc) in
-    k .bytes ∙ ap copy same
-
 pub as-lua-dumps : (L : ResourceLimits) (chunk old written : Bytes) (r : Reading) → Writes L chunk old written → read L chunk ≡ shown r → All (AsLua (r .functions)) (r .functions)
     → written ≡ «luaU_dump» false (r .functions) ++ r .trailing
-as-lua-dumps L chunk old written r w e a = written-copy L chunk old written r w e ∙ copy-as-dumped L chunk r (read-sound L chunk r e) a
+as-lua-dumps L chunk old written r w e a = written-is-copy L chunk old written r w e ∙ copy-as-dumped L chunk r (read-sound L chunk r e) a
 
 pub as-lua-strips : (L : ResourceLimits) (chunk old written : Bytes) (r : Reading) → Writes L chunk old written → read L chunk ≡ shown r → sourceOf (r .functions) 0 ≡ none → All AsStripped (r .functions)
     → written ≡ «luaU_dump» true (r .functions) ++ r .trailing
-as-lua-strips L chunk old written r w e source a = written-copy L chunk old written r w e ∙ copy-as-stripped L chunk r (read-sound L chunk r e) source a
+as-lua-strips L chunk old written r w e source a = written-is-copy L chunk old written r w e ∙ copy-as-stripped L chunk r (read-sound L chunk r e) source a

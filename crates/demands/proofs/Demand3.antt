@@ -6,6 +6,7 @@
 --     1  summary-exactly          `chunk_summary` answers with a summary exactly where the chunk belongs
 --        refused-exactly          and exactly where it does not, every call refuses it, all with one refusal, and lent memory stays as it was (`Refuses`, `Calls.antt`)
 --     2  shown-is-the-reading     where it belongs, what every call shows is its part of that reading (`Shows`, `Calls.antt`)
+--        shown-at-places          and so do the calls at a place
 --        (`Complete.antt`: `Shows` and `Refuses` leave no call out: where they are the same, every call answers alike)
 --        together                 and the summary, the fields and the entries together show the whole of it, but for parts that are named (`Together.antt`)
 --     3  reading-unique           and it has no other
@@ -16,21 +17,23 @@
 --     5  written-again            on what it wrote, it writes the same
 --        written-once-more        and it does write, wherever it is lent as much space
 --     6  equal-written            what it writes of two scripts is equal exactly when their readings are the same but for what the demand sets aside
--- The same of the definitions (the reader `read` of specs/ReadChunk.antt, the copy `copy` of specs/Copy.antt): read-exactly, copy-is-read, copy-of-copy, equal-copies. There `Below 256` says of a list that its numbers are
+-- The same of the definitions (the reader `read` of crates/format/specs/ReadChunk.antt, the copy `copy` of Copy.antt there): read-exactly, copy-is-read, copy-of-copy, equal-copies. There `Below 256` says of a list that its numbers are
 -- bytes, since lists of the definitions may hold any number. Of the calls it is not asked: a slice's are bytes (`Slices.antt`), and `Writes` has it from there.
 -- Assumes nothing.
 use mathlib.Core.Path.{_≡_, refl, sym, _∙_, ap, subst}
 use mathlib.Core.Logic.{_↔_}
 use mathlib.Core.Bool.{true}
+use mathlib.Core.List.{List}
+use mathlib.Core.Option.{some}
 use Prim.Native.Nat.{ℕ, _≤_}
 use native.Mathlib.Omega.{arith}
-use lib.ListN.{length}
+use lib.ListN.{length, getElem?}
 use Rattle.format.specs.declared.limits.ResourceLimits.{ResourceLimits}
 use Rattle.format.specs.declared.refusal.Refusal.{Refusal}
 use Rattle.format.specs.Form.{Bytes, Below}
 use Rattle.format.specs.GrammarFields.{Number}
 use Rattle.format.specs.Limits.{withinCeilings}
-use Rattle.format.specs.Reading.{Reading}
+use Rattle.format.specs.Reading.{Reading, Prototype}
 use Rattle.format.specs.GrammarChunk.{reading, Chunk}
 use Rattle.format.specs.ReadChunk.{Outcome, shown, refusal, read}
 use Rattle.format.specs.Shortest.{shortest}
@@ -40,16 +43,18 @@ use Rattle.format.proofs.WiderChunk.{main-wider, above, above-left, above-right
 use Rattle.format.proofs.CopyChunk.{copy-belongs, copy-same, copy-below}
 use Rattle.format.proofs.CopyChunk as copies
 use Rattle.format.proofs.ReadChunkLaws.{read-sound, read-within, read-complete, chunk-unique}
+use Rattle.boundary.specs.Status.{limitsOf}
 use Rattle.decode.specs.declared.summary.Summary.{Summary}
 use Rattle.show_chunk.specs.declared.summary.SummaryAnswer.{SummaryAnswer}
 use Rattle.show_chunk.specs.declared.summary.SummaryAnswer.the-variants as summary-answer
 use Rattle.show_chunk.specs.Summaries.{shownSummary}
 use Rattle.demands.proofs.Calls.{Shows, shows, Refuses, refuses}
 use Rattle.copy.specs.declared.whole.CopyAnswer.{CopyAnswer}
-use Rattle.demands.proofs.Written.{Copying, Writes, by-reading, writes}
+use Rattle.demands.proofs.Written.{Copying, Writes, by-reading, written-is-copy, writes}
 use Rattle.demands.proofs.Same.{SameButFor, same-exactly}
 use Rattle.demands.proofs.Alike.{AnswerAlike, EqualAsShown}
 use Rattle.demands.proofs.Together.{Summarised, alike-exactly}
+use Rattle.demands.proofs.ShownAt.{ShownAt, shown-at}
 
 -- ## 1. Read exactly when it belongs
 -- the limits are within their ceilings, the chunk is no longer than the input limit, and it belongs under the limits to the grammar
@@ -109,6 +114,10 @@ refused-exactly L chunk = (λ f b. never (f .by-all .summary) (ap shownSummary (
 pub shown-is-the-reading : (L : ResourceLimits) (chunk : Bytes) (b : Belongs L chunk) → Shows L chunk (b .reading)
 shown-is-the-reading L chunk b = shows L chunk (b .reading) (given b)
 
+-- So do the calls at a place, from where a function begins and its lists stand in the reading (`ShownAt.antt`).
+pub shown-at-places : (l : List ℕ) (chunk : Bytes) (b : Belongs (limitsOf l) chunk) (k : ℕ) {p : Prototype} → getElem? (b .reading .functions) k ≡ some p → ShownAt l chunk (b .reading .functions) k p
+shown-at-places l chunk b k there = shown-at l chunk (b .reading) (given b) k there
+
 -- Together the summary, the fields and the entries show the reading: of two chunks, whatever limits each is read under, these calls answer alike exactly where the readings are equal, but for what none of them shows
 -- (`Alike.antt`; crates/format/specs/Reading.antt). `Summarised` is what holds after a call of `chunk_summary` (`Together.antt`): with its answer it has that the chunk is bytes.
 pub together : (L M : ResourceLimits) (s t : Bytes) (x y : SummaryAnswer) → Summarised L s x → Summarised M t y → (b : Belongs L s) (d : Belongs M t) → AnswerAlike L s M t ↔ EqualAsShown (b .reading) (d .reading)
@@ -161,11 +170,8 @@ pub shortest-spelling : (at n : ℕ) (bytes : Bytes) → Number at bytes n → l
 shortest-spelling = shortest-least
 
 -- what the call writes of a chunk that belongs is the copy of its reading
-written-is-copy : (L : ResourceLimits) (chunk old written : Bytes) (b : Belongs L chunk) → Writes L chunk old written → written ≡ copy (b .reading)
-written-is-copy L chunk old written b w =
-    let k = by-reading L chunk old written w in
-    let same : k .reading ≡ b .reading = (let both = sym (k .is) ∙ given b in cc) in
-    k .bytes ∙ ap copy same
+copy-written : (L : ResourceLimits) (chunk old written : Bytes) (b : Belongs L chunk) → Writes L chunk old written → written ≡ copy (b .reading)
+copy-written L chunk old written b w = written-is-copy L chunk old written (b .reading) w (given b)
 
 -- after a call on a chunk that belongs, the copy is written wherever there is room
 pub copy-is-written : (L : ResourceLimits) (chunk old : Bytes) (r : CopyAnswer) (new : Bytes) → Copying L chunk old r new → (b : Belongs L chunk) → length (copy (b .reading)) ≤ length old → Writes L chunk old (copy (b .reading))
@@ -178,7 +184,7 @@ written-belongs L chunk old written w = let k = by-reading L chunk old written w
 -- What the call writes is read again, whatever stood in the space that it was lent.
 pub written-is-read : (L : ResourceLimits) (chunk old written : Bytes) (b : Belongs L chunk) → Writes L chunk old written → 1 ≤ L .«max_string_bytes» → length written ≤ L .«max_input_bytes» → ReadAgain L (b .reading) written
 written-is-read L chunk old written b w string input =
-    let is = written-is-copy L chunk old written b w in
+    let is = copy-written L chunk old written b w in
     rw is (copy-is-read L chunk b (w .call .below) string (rw (← is) input))
 
 -- ## 5. Copying the copy gives the same bytes
@@ -195,14 +201,14 @@ pub written-again : (L M : ResourceLimits) (chunk old written old′ again : Byt
 written-again L M chunk old written old′ again w v =
     let b = written-belongs L chunk old written w in
     let d = written-belongs M written old′ again v in
-    written-is-copy M written old′ again d v ∙ copied-again L M chunk written b (w .call .below) (written-is-copy L chunk old written b w) d
+    copy-written M written old′ again d v ∙ copied-again L M chunk written b (w .call .below) (copy-written L chunk old written b w) d
 
 -- and under the premises of 4 it does write it, wherever it is lent as much space
 pub written-once-more : (L : ResourceLimits) (chunk old written old′ : Bytes) → Writes L chunk old written → 1 ≤ L .«max_string_bytes» → length written ≤ L .«max_input_bytes» → length written ≤ length old′
     → Writes L written old′ written
 written-once-more L chunk old written old′ w string input room =
     let b = written-belongs L chunk old written w in
-    let is = written-is-copy L chunk old written b w in
+    let is = copy-written L chunk old written b w in
     let again = written-is-read L chunk old written b w string input .belongs in
     let below : Below 256 written = rw is (copy-below L chunk (b .reading) (b .is) (w .call .below)) in
     let same = copied-again L L chunk written b (w .call .below) is again in
@@ -218,7 +224,7 @@ equal-copies L M s t b d below below′ =
 -- what the call writes of each
 pub equal-written : (L M : ResourceLimits) (s t old old′ u v : Bytes) (b : Belongs L s) (d : Belongs M t) → Writes L s old u → Writes M t old′ v → u ≡ v ↔ SameButFor (b .reading) (d .reading)
 equal-written L M s t old old′ u v b d w x =
-    let here = written-is-copy L s old u b w in
-    let there = written-is-copy M t old′ v d x in
+    let here = copy-written L s old u b w in
+    let there = copy-written M t old′ v d x in
     let law = equal-copies L M s t b d (w .call .below) (x .call .below) in
     (λ same. law .0 (sym here ∙ same ∙ there), λ same. here ∙ law .1 same ∙ sym there)

@@ -4,12 +4,11 @@
 use mathlib.Core.Path.{_≡_, refl, sym, _∙_, ap, subst}
 use mathlib.Core.Bool.{Bool, true, false, cond}
 use mathlib.Core.List.{List, [], _∷_, _++_, append-assoc, append-nil}
-use Prim.Native.Nat.{ℕ, zero, suc, _+_, _-_, _*_, _%_, _≤_, _<_, _^_}
+use Prim.Native.Nat.{ℕ, zero, suc, _+_, _-_, _*_, _%_, _<_, _^_}
 use native.Mathlib.Omega.{arith}
 use native.Mathlib.Nat.{add-zero}
 use lib.Dec.{T, leb, ltb, eqb}
-use lib.ListN.{length, take, drop, length-append, take-append-drop}
-use lib.Seq.{length-take-le}
+use lib.ListN.{length, length-append}
 use borrow.Author.Tests.{ltb-true, ltb-false, leb-true, leb-false, eqb-false}
 use Rattle.format.specs.declared.limits.ResourceLimits.{ResourceLimits}
 use Rattle.format.specs.declared.refusal.Refusal.{Refusal}
@@ -18,16 +17,16 @@ use Rattle.format.specs.Form.{Bytes, Below, Form, Run}
 use Rattle.format.specs.GrammarFields.{base128, little, Number, Field}
 use Rattle.format.specs.Reading.{Prototype}
 use Rattle.format.specs.GrammarHeader.{signature, luacData, luacInt, luacNum}
-use Rattle.format.specs.GrammarChunk.{inherit, Where, after, within}
-use Rattle.format.specs.Read.{Read, ok, refused, Reader, next, _>>=_, _>>_, give, here, refuse, test, atMost, short, piece, run, many}
-use Rattle.format.specs.ReadFields.{field, byte, groups, number, content, string}
+use Rattle.format.specs.GrammarChunk.{Where, after}
+use Rattle.format.specs.Read.{Read, ok, refused, Reader, next, _>>=_, _>>_, give, here, refuse, test, atMost, piece, run, many}
+use Rattle.format.specs.ReadFields.{field, groups, number, content, string}
 use Rattle.format.specs.ReadHeader.{sameBytes, expect, beforeFormat, behindFormat, header}
 use Rattle.format.specs.ReadChunk.{counted, countedUpTo, always, tagged, constant, upvalue, anchor, local, forest, body, function, main}
-use Rattle.format.proofs.Exact.{Exact, Split, exact-here, exact-place, exact-then, exact-atMost, exact-test, exact-run, exact-many}
-use Rattle.format.proofs.ExactFields.{exact-field, exact-number, exact-string, exact-content}
+use Rattle.format.proofs.Exact.{Exact, Split, exact-place, exact-then, exact-atMost, exact-run, exact-many}
+use Rattle.format.proofs.ExactFields.{exact-field, exact-number, exact-string}
 use Rattle.format.proofs.ExactHeader.{same-refl, exact-expect, exact-before, exact-behind, exact-header}
 use Rattle.format.proofs.ExactChunk.{exact-counted, exact-countedUpTo, exact-always, exact-constant, exact-upvalue, exact-anchor, exact-local, exact-forest, exact-function, exact-refuse}
-use Rattle.demands.proofs.Causes.{Cause, unlike, noTag, above, upTo, enters, tooLarge, missing, causeOf, LastNumber, TooLarge, NoneOf, tags, Ends}
+use Rattle.demands.proofs.Causes.{Cause, unlike, noTag, above, upTo, enters, tooLarge, missing, causeOf, LastNumber, TooLarge, Ends}
 
 -- an acceptance is no refusal
 no : {A P : Type 0} {x : A} {to : ℕ} {rest : Bytes} {p : Refusal} → ok x to rest ≡ refused p → P

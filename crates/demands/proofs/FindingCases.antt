@@ -6,7 +6,7 @@
 use mathlib.Core.Path.{_≡_, refl}
 use mathlib.Core.List.{List, [], _∷_, _++_, map}
 use Prim.Native.Nat.{ℕ}
-use lib.ListN.{length, replicate}
+use lib.ListN.{replicate}
 use Rattle.format.specs.declared.refusal.Refusal.the-variants.{LentSpace}
 use Rattle.format.specs.Form.{Bytes}
 use Rattle.format.specs.Limits.{ceilings}

@@ -1,10 +1,10 @@
 -- The reader goes through the bytes from the front and ends at the first refusal: what stands behind never changes it. One law for each way to make a reader.
 --     Steady low r     from a place on that is at least `low`: with more bytes behind, r gives the same; it goes forward, never behind the end; and it refuses by 1 to 20
 --                      alone, with a place that is at most the end. Only 1 and 2 (bytes are missing) can go away with more bytes
---     Lack r at s p    a file that is cut short (1) lacks bytes: so many are wanted at the refusal's place p, there are fewer, and with as many it is not 1 at that place
+--     Lack r at s p    a file that is cut short (1) lacks bytes: so many are wanted at the refusal's place p, there are fewer; with more, but fewer than these, it is the same, and with as many it is not 1 at that place
 -- (And 2 is met behind byte 128 alone: a number is below 2^64 − 128, so place plus size is below 2^64 up to there.)
 -- Assumes nothing.
-use mathlib.Core.Path.{_≡_, refl, sym, _∙_, ap}
+use mathlib.Core.Path.{_≡_, refl, _∙_, ap}
 use mathlib.Core.Bool.{Bool, true, false, cond}
 use mathlib.Core.List.{List, [], _∷_, _++_}
 use Prim.Native.Nat.{ℕ, zero, suc, _+_, _-_, _*_, _%_, _≤_, _<_, _^_}
@@ -12,7 +12,7 @@ use native.Mathlib.Omega.{arith}
 use lib.Dec.{leb, ltb, eqb}
 use lib.ListN.{length, take, drop, length-append, length-drop}
 use lib.Seq.{take-append-le, drop-append-le}
-use borrow.Author.Tests.{ltb-true, ltb-false, leb-true, leb-false, le-leb}
+use borrow.Author.Tests.{ltb-true, ltb-false, leb-true, leb-false, le-leb, lt-leb}
 use Rattle.format.specs.declared.limits.ResourceLimits.{ResourceLimits}
 use Rattle.format.specs.declared.refusal.Refusal.{Refusal}
 use Rattle.format.specs.declared.refusal.Refusal.the-variants.{
@@ -98,6 +98,7 @@ pub record Lack {A : Type 0} (r : Reader A) (at : ℕ) (s : Bytes) (place : ℕ)
   pub from : at ≤ place
   pub wanted : ℕ
   pub fewer : at + length s < place + wanted
+  pub still : (t : Bytes) → at + length (s ++ t) < place + wanted → r at (s ++ t) ≡ refused (Truncated place)
   pub enough : (t : Bytes) → place + wanted ≤ at + length (s ++ t) → Past place (r at (s ++ t))
 
 pub record Steady {A : Type 0} (low : ℕ) (r : Reader A) : Type 0 where
@@ -125,7 +126,7 @@ steady-give x = record { more = λ at s t h. record { same = refl; forward = own
 pub steady-here : {B : Type 0} {low : ℕ} {f : ℕ → Reader B} → ((place : ℕ) → Steady place (f place)) → Steady low (here >>= f)
 steady-here two = record {
   more = λ at s t h. two at .more at s t own;
-  lacks = λ at s place h e. (let l = two at .lacks at s place own e in record { from = l .from; wanted = l .wanted; fewer = l .fewer; enough = l .enough });
+  lacks = λ at s place h e. (let l = two at .lacks at s place own e in record { from = l .from; wanted = l .wanted; fewer = l .fewer; still = l .still; enough = l .enough });
   overflows = λ at s h e. two at .overflows at s own e;
 }
 
@@ -180,11 +181,12 @@ steady-known {A} {B} {low} {r} {f} Known one known two = record {
           from = omega arith;
           wanted = l .wanted;
           fewer = omega arith;
+          still = λ t k. rw (g t .same) (l .still t (omega (arith, length-append s t, length-append rest t)));
           enough = λ t k. rw (g t .same) (l .enough t (omega (arith, length-append s t, length-append rest t)));
         }
     short at s place h (refused q) is e =
         let l = one .lacks at s place h (is ∙ (let same : q ≡ Truncated place = cc in ap refused same)) in
-        record { from = l .from; wanted = l .wanted; fewer = l .fewer; enough = λ t k. past at place (s ++ t) h (r at (s ++ t)) refl (l .enough t k) }
+        record { from = l .from; wanted = l .wanted; fewer = l .fewer; still = λ t k. ap (λ o. next o f) (l .still t k); enough = λ t k. past at place (s ++ t) h (r at (s ++ t)) refl (l .enough t k) }
 
     long : (at : ℕ) (s : Bytes) → low ≤ at → (o : Read A) → r at s ≡ o → next o f ≡ refused Overflow → 128 < at + length s
     long at s h (ok x mid rest) is e =
@@ -246,7 +248,7 @@ steady-run n few = record { more = λ at s t h. go at s t (leb n (length s)) ref
     lack at s place false is e =
         let same : at ≡ place = short-there (ltb (at + n) (2 ^ 64)) at place cc in
         let few : length s < n = leb-false n (length s) is in
-        record { from = omega arith; wanted = n; fewer = omega arith; enough = λ t k. (let there : n ≤ length (s ++ t) = omega arith in let on : place < at + n = omega arith in rw (all-there at s t there) on) }
+        record { from = omega arith; wanted = n; fewer = omega arith; still = λ t k. (let less : length (s ++ t) < n = omega arith in rw (lt-leb n (length (s ++ t)) less) e); enough = λ t k. (let there : n ≤ length (s ++ t) = omega arith in let on : place < at + n = omega arith in rw (all-there at s t there) on) }
 
 pub steady-many : {A : Type 0} {low : ℕ} {r : Reader A} (n : ℕ) → Steady low r → Steady low (many n r)
 steady-many zero one = steady-give []
@@ -307,8 +309,12 @@ past-byte high at x t = go (ltb high (2 ^ 57 - 1)) (ltb x 128) (groups (high * 1
 lack-groups : (high at : ℕ) (s : Bytes) (place : ℕ) → groups high at s ≡ refused (Truncated place) → Lack (groups high) at s place
 lack-groups high at [] place e =
     let same : at ≡ place = short-there (ltb (at + 1) (2 ^ 64)) at place cc in
-    record { from = omega arith; wanted = 1; fewer = omega arith; enough = λ t k. there t (omega arith) same }
+    record { from = omega arith; wanted = 1; fewer = omega arith; still = λ t k. none-there t (omega arith); enough = λ t k. there t (omega arith) same }
   where
+    none-there : (t : Bytes) → length t < 1 → groups high at t ≡ refused (Truncated place)
+    none-there [] k = e
+    none-there (x ∷ t) k = absurd (omega arith)
+
     there : (t : Bytes) → 1 ≤ length t → {place : ℕ} → at ≡ place → Past place (groups high at t)
     there [] k same = absurd (omega arith)
     there (x ∷ t) k same = rw (← same) (past-byte high at x t)
@@ -320,7 +326,7 @@ lack-groups high at (x ∷ s) place e = go (ltb high (2 ^ 57 - 1)) refl (ltb x 1
         let k = rest e in
         let from = k .from in
         let fewer = k .fewer in
-        record { from = omega arith; wanted = k .wanted; fewer = omega arith; enough = λ t h. rw (f, l) (k .enough t (omega arith)) }
+        record { from = omega arith; wanted = k .wanted; fewer = omega arith; still = λ t h. rw (f, l) (k .still t (omega arith)); enough = λ t h. rw (f, l) (k .enough t (omega arith)) }
     go true f false l rest e = other e
     go false f low l rest e = absurd (let z : _≡_ {A = ℕ} 0 1 = cc in omega arith)
 

@@ -18,6 +18,7 @@ pub mod Causes
 pub mod Early
 pub mod Order
 pub mod CutShort
+pub mod Continued
 pub mod Trap
 pub mod Backwards
 pub mod AtOneByte
@@ -32,4 +33,5 @@ pub mod Printed
 pub mod Demand2C
 pub mod Nested
 pub mod EntriesAt
+pub mod SpeltHere
 pub mod ShownAt

@@ -1,13 +1,12 @@
 -- Each function of a chunk that is read is found again in two parts: its head where it begins, its tail behind the functions that nest in it.
 --     lastEnd k place ps             of the functions ps, the end of the last one that nests in function k; the place itself where none does
---     sourceAt k ps                  the source of function k, where ps are the functions from main on; none where there is no such function
 --     Parted L s before p later      the function p, with those before it and those behind it, is found so; the head as one that no instruction of another function comes before
 --     all-parted                     so it is with every function of a chunk that is read
 -- Assumes nothing.
 use mathlib.Core.Path.{_≡_, refl, sym, _∙_, ap, subst}
 use mathlib.Core.Bool.{false, cond}
 use mathlib.Core.List.{List, [], _∷_, _++_, append-nil, append-assoc}
-use mathlib.Core.Option.{Option, none, some}
+use mathlib.Core.Option.{some}
 use Prim.Native.Nat.{ℕ, zero, suc, _+_, _≤_, _<_}
 use native.Mathlib.Omega.{arith}
 use lib.Dec.{eqb}
@@ -16,7 +15,6 @@ use borrow.Author.Tests.{eq-eqb, ne-eqb}
 use Rattle.format.specs.declared.limits.ResourceLimits.{ResourceLimits}
 use Rattle.format.specs.declared.refusal.Refusal.the-variants.{TotalPrototypes, Prototypes}
 use Rattle.format.specs.Form.{Bytes, Form}
-use Rattle.format.specs.GrammarFields.{LuaString}
 use Rattle.format.specs.Reading.{Reading, Prototype}
 use Rattle.format.specs.GrammarChunk.{Where, after, Loaded, reading}
 use Rattle.format.specs.Read.{Read, ok, refused, Reader}
@@ -27,6 +25,7 @@ use Rattle.format.proofs.ExactFields.{exact-field, exact-number}
 use Rattle.format.proofs.ExactHeader.{exact-header}
 use Rattle.format.proofs.ExactChunk.{exact-forest, exact-function}
 use Rattle.format.proofs.Located.{Found, AtPlace, any, at-give, at-refuse, at-here, at-then}
+use Rattle.format.proofs.LdumpWhole.{sourceOf}
 use Rattle.format.proofs.ReadChunkLaws.{read-sound, main-complete}
 use Rattle.lists.specs.Readers.{protosCount}
 use Rattle.counted.proofs.Within.{exact-protosCount}
@@ -44,17 +43,12 @@ abbrev pub lastEnd : ℕ → ℕ → List Prototype → ℕ
 lastEnd k place [] = place
 lastEnd k place (p ∷ ps) = lastEnd k (cond (eqb (p .parent) k) (p .end) place) ps
 
-abbrev pub sourceAt : ℕ → List Prototype → Option LuaString
-sourceAt k [] = none
-sourceAt zero (p ∷ ps) = p .source-name
-sourceAt (suc k) (p ∷ ps) = sourceAt k ps
-
 pub record Parted (L : ResourceLimits) (s : Bytes) (before : List Prototype) (p : Prototype) (later : List Prototype) : Type 0 where
   pub place : Where
   pub first : Head
   pub rest : Tail
   pub is : p ≡ prototypeOf place (p .start) first rest (p .end)
-  pub source : place .source ≡ sourceAt (p .parent) before
+  pub source : place .source ≡ sourceOf before (p .parent)
   pub at-start : Found s (head L 0) (p .start) first
   pub trailing : Bytes
   pub behind-nested : tail (L .«max_string_bytes») (lastEnd (length before) (p .places .protos) later) (drop (lastEnd (length before) (p .places .protos) later) s) ≡ ok rest (p .end) trailing
@@ -71,12 +65,12 @@ last-none : (k place : ℕ) (ps : List Prototype) → All (NotIn k) ps → lastE
 last-none k place [] a = refl
 last-none k place (p ∷ ps) a = rw (a .0) (last-none k place ps (a .1))
 
-source-append : (k : ℕ) (ps more : List Prototype) → k < length ps → sourceAt k (ps ++ more) ≡ sourceAt k ps
+source-append : (k : ℕ) (ps more : List Prototype) → k < length ps → sourceOf (ps ++ more) k ≡ sourceOf ps k
 source-append k [] more h = absurd (omega (arith, h))
 source-append zero (p ∷ ps) more h = refl
 source-append (suc k) (p ∷ ps) more h = source-append k ps more (omega (arith, h))
 
-source-last : (ps : List Prototype) (p : Prototype) → sourceAt (length ps) (ps ++ (p ∷ [])) ≡ p .source-name
+source-last : (ps : List Prototype) (p : Prototype) → sourceOf (ps ++ (p ∷ [])) (length ps) ≡ p .source-name
 source-last [] p = refl
 source-last (q ∷ ps) p = source-last ps p
 
@@ -114,7 +108,7 @@ module _ (L : ResourceLimits) (s : Bytes) where
 
   -- whatever functions come before those from w on
   abbrev EachFrom : Where → List Prototype → Type 0
-  EachFrom w ps = (before : List Prototype) → length before ≡ w .number → w .source ≡ sourceAt (w .parent) before → Each before ps
+  EachFrom w ps = (before : List Prototype) → length before ≡ w .number → w .source ≡ sourceOf before (w .parent) → Each before ps
 
   -- a function with all that nest in it, up to a place
   abbrev Top : Where → ℕ → List Prototype → Type 0
@@ -216,7 +210,7 @@ module _ (L : ResourceLimits) (s : Bytes) where
                 trailing = two .rest;
                 behind-nested = ap (λ at. tail (L .«max_string_bytes») at (drop at s)) place ∙ two .is ∙ ap (λ k. ok t k (two .rest)) (sym upto);
               },
-              others .0 (before ++ (p ∷ [])) (length-append before (p ∷ []) ∙ ap (λ n. n + 1) size) (sym (ap (λ k. sourceAt k (before ++ (p ∷ []))) (sym size) ∙ source-last before p)),
+              others .0 (before ++ (p ∷ [])) (length-append before (p ∷ []) ∙ ap (λ n. n + 1) size) (sym (ap (λ k. sourceOf (before ++ (p ∷ [])) k) (sym size) ∙ source-last before p)),
             ),
         (refl, upto, all-map (λ y k. k .0) nested (others .1)),
       )

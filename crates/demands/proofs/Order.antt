@@ -7,15 +7,14 @@
 --     decided-early        the same of `read`, with which every call on a chunk begins: 21 and 22 first
 -- Readers that are not in byte order: Trap.antt, Backwards.antt.
 -- Assumes nothing.
-use mathlib.Core.Path.{_≡_, refl, sym, _∙_, ap}
-use mathlib.Core.Bool.{Bool, true, false, cond}
-use mathlib.Core.List.{List, [], _∷_, _++_}
+use mathlib.Core.Path.{_≡_, sym, _∙_, ap}
+use mathlib.Core.Bool.{true}
+use mathlib.Core.List.{[], _++_}
 use Prim.Native.Nat.{ℕ, _+_, _≤_, _<_}
 use native.Mathlib.Omega.{arith}
 use native.Mathlib.Nat.{zero-add}
-use lib.Dec.{leb}
 use lib.ListN.{length, length-append}
-use borrow.Author.Tests.{leb-true, le-leb}
+use borrow.Author.Tests.{le-leb}
 use Rattle.format.specs.declared.limits.ResourceLimits.{ResourceLimits}
 use Rattle.format.specs.declared.refusal.Refusal.{Refusal}
 use Rattle.format.specs.Refusals.{reported}
@@ -23,7 +22,7 @@ use Rattle.format.specs.Form.{Bytes}
 use Rattle.format.specs.Limits.{withinCeilings}
 use Rattle.format.specs.GrammarChunk.{Loaded}
 use Rattle.format.specs.Read.{Read, ok, refused, Reader}
-use Rattle.format.specs.ReadChunk.{Outcome, shown, refusal, outcome, main, read}
+use Rattle.format.specs.ReadChunk.{refusal, outcome, main, read}
 use Rattle.demands.proofs.InOrder.{ByFile, StillRefused, Steady, steady-main}
 use Rattle.demands.proofs.Causes.{causeOf, Ends}
 use Rattle.demands.proofs.Early.{Early, early-main}

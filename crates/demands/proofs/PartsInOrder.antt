@@ -2,23 +2,22 @@
 --     head-decided, tail-decided, word-decided, ..     one for each call at a place
 -- Assumes nothing.
 use mathlib.Core.Path.{_≡_, refl}
-use mathlib.Core.List.{List, [], _∷_}
 use Prim.Native.Nat.{ℕ, _+_}
 use lib.Dec.{leb}
 use borrow.Author.Tests.{leb-false}
 use Rattle.format.specs.declared.limits.ResourceLimits.{ResourceLimits}
 use Rattle.format.specs.declared.refusal.Refusal.{Refusal}
 use Rattle.format.specs.declared.refusal.Refusal.the-variants as q
-use Rattle.format.specs.Form.{Bytes, Form, Then, Is, Here, Given}
-use Rattle.format.specs.Read.{Read, refused, Reader, next, _>>=_, give, here}
+use Rattle.format.specs.Form.{Bytes, Form, Then, Is, Here}
+use Rattle.format.specs.Read.{refused, Reader, next, _>>=_, give, here}
 use Rattle.format.specs.ReadFields as fields
 use Rattle.format.specs.ReadChunk as chunk
 use Rattle.format.proofs.Exact.{Exact, exact-give, exact-here, exact-then, exact-atMost, exact-run, exact-many}
 use Rattle.format.proofs.ExactFields.{exact-field, exact-number, exact-string}
 use Rattle.format.proofs.ExactChunk.{exact-counted, exact-countedUpTo, exact-constant, exact-upvalue, exact-anchor, exact-local}
-use Rattle.lists.specs.Readers.{RawLocal, rawLocal, Count, protosCount, code, lineInfo}
-use Rattle.prototype.specs.Front.{Front, lines, sizes, front}
-use Rattle.prototype.specs.Parts.{Head, Tail, headLists, head, tail}
+use Rattle.lists.specs.Readers.{rawLocal, protosCount, code}
+use Rattle.prototype.specs.Front.{front}
+use Rattle.prototype.specs.Parts.{head, tail}
 use Rattle.demands.proofs.InOrder.{
   Steady,
   tested,

@@ -2,9 +2,9 @@
 --     printed-refusal      the line of the first condition that holds; its first letter is r
 --     printed-chunk        where none holds, the chunk's lines; the first letter is c. So each is printed exactly where it should be
 -- Assumes nothing.
-use mathlib.Core.Path.{_≡_, refl, sym, _∙_, ap}
+use mathlib.Core.Path.{_≡_, refl, _∙_, ap}
 use mathlib.Core.List.{List, [], _∷_, _++_}
-use mathlib.Core.Option.{Option, none, some}
+use mathlib.Core.Option.{none, some}
 use Prim.Native.Nat.{ℕ}
 use native.Mathlib.Omega.{arith}
 use lib.ListN.{length, getD}
@@ -12,28 +12,25 @@ use Rattle.format.specs.declared.refusal.Refusal.{Refusal}
 use Rattle.format.specs.declared.refusal.Report.{Report}
 use Rattle.format.specs.Refusals.{reported}
 use Rattle.format.specs.Form.{Bytes}
+use Rattle.format.specs.Ascii.{ascii}
 use Rattle.format.specs.Reading.{Reading}
 use Rattle.format.specs.ReadChunk.{Outcome, shown, refusal, read}
 use Rattle.rules.specs.Findings.{chunkFindings, verdict}
 use Rattle.listing_text.specs.Lines.{decimal, atPlace, firstLine, refusalLine}
 use Rattle.listing.specs.Listing.{listLimits, chunkLines, listed, listing}
-use Rattle.demands.proofs.Refused.{first, andThen, ofChunk, forChunk}
+use Rattle.demands.proofs.Refused.{nothing-later, first, ofChunk, forChunk}
 use Rattle.demands.proofs.Demand1.{after, order}
 use Rattle.demands.proofs.Accepted.{Accepted, chunk-read}
 
 -- `refused `, the number, and ` at ` with the place, if there is one
 abbrev pub reportLine : Report → List ℕ
-reportLine r = ((114 ∷ 101 ∷ 102 ∷ 117 ∷ 115 ∷ 101 ∷ 100 ∷ 32 ∷ []) ++ decimal (r .number)) ++ (atPlace (r .place) ++ (10 ∷ []))
+reportLine r = (ascii "refused " ++ decimal (r .number)) ++ (atPlace (r .place) ++ (10 ∷ []))
 
 module _ (s : Bytes) where
   pub printed-refusal : (r : Report) → first (forChunk listLimits s) ≡ some r → (listing s ≡ reportLine r) × (getD (listing s) 0 0 ≡ 114)
   unfolding refusalLine
-  printed-refusal r e = by (read listLimits s) (order listLimits s (λ r. []) ∙ ap (λ qs. first (ofChunk listLimits s qs)) (none-later (read listLimits s)) ∙ e)
+  printed-refusal r e = by (read listLimits s) (order listLimits s (λ r. []) ∙ ap (λ qs. first (ofChunk listLimits s qs)) (nothing-later (read listLimits s)) ∙ e)
     where
-      none-later : (o : Outcome) → andThen o (λ r. []) ≡ []
-      none-later (shown r) = refl
-      none-later (refusal q) = refl
-
       line : (q : Refusal) → refusalLine q ≡ reportLine (reported q)
       line q = refl
 

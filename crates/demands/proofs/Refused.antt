@@ -4,6 +4,7 @@
 --     noFunction ..    23, 24, 25 and 26, of a chunk that is read
 --     forChunk ..      all conditions of a call, in their order
 --     inSummary ..     the refusal in an answer
+use mathlib.Core.Path.{_≡_, refl}
 use mathlib.Core.Bool.{Bool, cond}
 use mathlib.Core.List.{List, [], _∷_}
 use mathlib.Core.Option.{Option, none, some}
@@ -119,6 +120,17 @@ noOpcode (option.Some o) = none
 abbrev pub outOfRange : OptionOpcode54 → RawInstruction54 → Option Report
 outOfRange option.None r = none
 outOfRange (option.Some o) r = unless (inRange (modeOf o) r) (bare 27)
+
+-- ## Two laws
+-- one condition alone
+pub alone : (q : Option Report) → q ≡ first (q ∷ [])
+alone none = refl
+alone (some q) = refl
+
+-- nothing is tested of what is read
+pub nothing-later : (o : Outcome) → andThen o (λ r. []) ≡ []
+nothing-later (shown r) = refl
+nothing-later (refusal q) = refl
 
 -- ## The conditions of each call, in 01's order
 module _ (L : ResourceLimits) (s : Bytes) where

@@ -1,6 +1,6 @@
 -- A wrong reader: 01's trap 'cut short reported before a limit'. It looks for a list's items first, and tests the count's limit behind them.
 --     accepts-the-same     it accepts exactly what the right one accepts, so that demand 3 says nothing of it
---     not-the-trap         it is not in byte order (Order.antt)
+--     not-the-trap         it is not in byte order (Order.antt); `in-order`: the right one is
 -- Assumes nothing.
 use mathlib.Core.Path.{_≡_, refl, sym, _∙_, ap}
 use mathlib.Core.Bool.{Bool, true, false}
@@ -19,8 +19,11 @@ use Rattle.format.specs.GrammarChunk.{Listed}
 use Rattle.format.specs.Read.{Read, ok, refused, Reader, next, _>>=_, _>>_, give, here, test, atMost, many}
 use Rattle.format.specs.ReadFields.{byte, number}
 use Rattle.format.specs.ReadChunk.{countedUpTo}
+use Rattle.format.proofs.ExactFields.{exact-field}
 use Rattle.demands.proofs.Causes.{LastNumber}
-use Rattle.demands.proofs.Order.{Decided, InByteOrder}
+use Rattle.demands.proofs.InOrder.{tested, own, steady-field, steady-countedUpTo}
+use Rattle.demands.proofs.Early.{early-field, early-countedUpTo}
+use Rattle.demands.proofs.Order.{decided, InByteOrder}
 
 abbrev pub items : {A : Type 0} → ℕ → Reader A → Reader (Listed A)
 items n r = do
@@ -60,7 +63,13 @@ module _ {A : Type 0} (limit : ℕ) (refusal : ℕ → Refusal) (r : Reader A) (
   pub accepts-the-same : (s : Bytes) (x : Listed A) (to : ℕ) (rest : Bytes) → (countedUpTo limit refusal r at s ≡ ok x to rest) ↔ (late limit refusal r at s ≡ ok x to rest)
   accepts-the-same s x to rest = by-number (number at s) x to rest
 
--- ## It is not in byte order
+-- ## The right one is in byte order, under its own limit
+pub in-order : (L : ResourceLimits) → InByteOrder L (countedUpTo (L .«max_constants_per_proto») q.Constants byte)
+in-order L s p e =
+    let limit = L .«max_constants_per_proto» in
+    decided L (countedUpTo limit q.Constants byte) (steady-countedUpTo limit q.Constants (λ first. tested (q.Constants first) refl refl own) λ low. steady-field 1 refl) (early-countedUpTo L limit q.Constants (λ place. refl) (exact-field 1) (early-field L 1)) 0 s p e
+
+-- ## The wrong one is not, whatever the limits: with a limit of 0 for the constants the two differ in the order alone
 -- a list of one item, under a limit of 0
 pub cut-short-first : (late 0 q.Constants byte 0 (0x81 ∷ []) ≡ refused (q.Truncated 1)) × (late 0 q.Constants byte 0 (0x81 ∷ 0 ∷ []) ≡ refused (q.Constants 0))
 cut-short-first = (refl, refl)

@@ -3,7 +3,7 @@
 --                                  Two equations are its contract (crates/copy/src/lib.rt); that the chunk is bytes is the law of slices (`Slices.antt`)
 --     copying-met                  the code meets the contract that says so, for every input
 --     Writes L chunk old b         a call on the chunk under L, lent space that held `old`, answers a length, and so many bytes at the front are then b
---     by-reading                   these bytes are the copy of the chunk's reading
+--     by-reading, written-is-copy  these bytes are the copy of the chunk's reading
 --     writes                       a chunk that is read has its copy written wherever there is room
 -- Assumes nothing.
 use mathlib.Core.Path.{_≡_, refl, sym, _∙_, ap}
@@ -84,6 +84,13 @@ by-reading L chunk old written w = from (read L chunk) refl (sym (w .call .answe
     from : (o : Outcome) → read L chunk ≡ o → shownCopy (length old) o ≡ copy-answer.Ok (w .len) → take (w .len) (copyWritten old o) ≡ written → ByReading L chunk written
     from (shown r) is a b = room r is (leb (length (copy r)) (length old)) a b
     from (refusal q) is a b = absurd (let z : _≡_ {A = ℕ} 0 1 = cc in omega arith)
+
+-- of the reading that it has
+pub written-is-copy : (L : ResourceLimits) (chunk old written : Bytes) (r : Reading) → Writes L chunk old written → read L chunk ≡ shown r → written ≡ copy r
+written-is-copy L chunk old written r w e =
+    let k = by-reading L chunk old written w in
+    let same : k .reading ≡ r = (let both = sym (k .is) ∙ e in cc) in
+    k .bytes ∙ ap copy same
 
 pub writes : (L : ResourceLimits) (chunk old : Bytes) (r : Reading) → Below 256 chunk → read L chunk ≡ shown r → length (copy r) ≤ length old → Writes L chunk old (copy r)
 writes L chunk old r below is room =
