@@ -1,7 +1,7 @@
 -- A function that was read, and the copy's bytes of it and of all that nest in it.
 --     made             a function's bytes are those of its two parts, with those of the nested functions between them
 --     Single, Several  one function, n functions: what the copy makes of them, whatever follows, and that it is at most twice as long
---     function-single  so it is with every function that is read
+--     entered-single   so it is with every function that is read
 -- Assumes nothing.
 use mathlib.Core.Path.{_≡_, refl, sym, _∙_, ap, ap₂}
 use mathlib.Core.Bool.{Bool, true, false, true≢false, cond}

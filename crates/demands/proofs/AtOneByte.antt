@@ -86,11 +86,11 @@ module _ (L : ResourceLimits) where
   function-enters (suc left) w = refl
 
   -- no level is left
-  abbrev tooDeep : ℕ → ℕ → Option Report
+  abbrev pub tooDeep : ℕ → ℕ → Option Report
   tooDeep zero at = some (placed 19 at)
   tooDeep (suc left) at = none
 
-  abbrev inside : ℕ → Where → ℕ → Bytes → Option Report
+  abbrev pub inside : ℕ → Where → ℕ → Bytes → Option Report
   inside zero w at s = none
   inside (suc left) w at s = byReader (function L left w at s)
 

@@ -33,7 +33,7 @@ pub data Cause : Type 0 where
   tooLarge : Cause
   missing : Cause
 
--- by 01's number, at a place (01, 'Who can cause a refusal' and 'header.rs'). 13: a size is one more than the content's length. 15: the sum is above its limit, and the count itself is not above its own, or it were 14
+-- by 01's number, at a place (01, 'Who can cause a refusal' and 'header.rs'). 13: a size is one more than the content's length. 15: the count itself is not above its own limit, or it were 14 (that the sum is above the other is not said here: AtOneByte.antt, `fifteen-next`)
 abbrev pub byNumber : ResourceLimits → ℕ → ℕ → Cause
 byNumber L n at =
     cond (eqb n 3) tooLarge

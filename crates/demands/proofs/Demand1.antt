@@ -7,7 +7,7 @@
 --     summary ..       the order of a call's refusals
 --     ..-kept          a call that refuses leaves lent memory as it was
 -- Order.antt: 1 to 20 come in the order of the bytes, each for its cause (Causes.antt); AtOneByte.antt: at one byte. CutShort.antt: 1 lacks bytes. ByLimits.antt: 1 to 12 are the file's, 13 to 20 the limits'.
--- crates/format/proofs/RefusalNumbers.antt: the numbers. Exactly.antt: 21 and 22. Accepted.antt: where no condition holds, the answer is Ok. ByC.antt, AtPlace.antt (PartsInOrder.antt): the calls behind C. Printed.antt: what `chunklist` prints.
+-- crates/format/proofs/RefusalNumbers.antt: the numbers. Exactly.antt: 21 and 22. Accepted.antt: where no condition holds, the answer is Ok. ByC.antt, RefusedAt.antt (PartsInOrder.antt): the calls behind C. Printed.antt: what `chunklist` prints.
 -- Assumes nothing.
 use mathlib.Core.Path.{_≡_, refl, sym, _∙_, ap}
 use mathlib.Core.Bool.{Bool, true, false, cond}

@@ -26,12 +26,8 @@ use Rattle.format.specs.Limits.{withinCeilings}
 use Rattle.format.specs.GrammarChunk.{Loaded}
 use Rattle.format.specs.Read.{Read, ok, refused}
 use Rattle.format.specs.ReadChunk.{Outcome, shown, refusal, outcome, main, read}
+use Rattle.format.proofs.OrderCases.{refusedWith}
 use Rattle.demands.proofs.Order.{in-byte-order}
-
--- number and place of the refusal that every call begins with, if any
-abbrev pub refusedWith : Outcome → Option Report
-refusedWith (shown r) = none
-refusedWith (refusal q) = some (reported q)
 
 number-of : {r t : Report} → some r ≡ some t → r .number ≡ t .number
 number-of e = let same = e in cc

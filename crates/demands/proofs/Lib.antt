@@ -27,7 +27,7 @@ pub mod Promise
 pub mod Accepted
 pub mod Exactly
 pub mod ByC
-pub mod AtPlace
+pub mod RefusedAt
 pub mod PartsInOrder
 pub mod Printed
 pub mod Demand2C

@@ -1,4 +1,4 @@
--- The parts of a function, and entries, that are read at a place (AtPlace.antt): what their readers refuse is decided early (Order.antt), as in the reader of a chunk.
+-- The parts of a function, and entries, that are read at a place (RefusedAt.antt): what their readers refuse is decided early (Order.antt), as in the reader of a chunk.
 --     head-decided, tail-decided, word-decided, ..     one for each call at a place
 -- Assumes nothing.
 use mathlib.Core.Path.{_≡_, refl}

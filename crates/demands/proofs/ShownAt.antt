@@ -104,7 +104,7 @@ tailInNumbers p =
 abbrev pub Numbered : {A : Type 0} → (A → List ℕ) → A → Answer → Type 0
 Numbered numbers x a = a ≡ done (upTo (numbers x) (behind a))
 
--- a local variable, with its name as it is spelt: an absent one reads as `?`, at the place behind it
+-- a local variable, with its name as it is spelt: an absent one reads as `?`, at the place behind it. (Whether a `?` was spelt is not said here; crates/parts_at/proofs/Cases.antt has one of each)
 pub record LocalNumbered (l : LocalVar) (a : Answer) : Type 0 where
   pub spelt : Option LuaString
   pub after-name : ℕ

@@ -57,7 +57,7 @@ large : Bytes
 large = 1 ∷ replicate 8 0x7f
 
 -- ## Limits
--- the ceilings but for: instructions a function and in all, nesting, nested functions in all, string bytes, constants
+-- input 200, upvalues 1, diagnostics at their ceiling; the others as given: instructions a function and in all, nesting, nested functions in all, string bytes, constants
 limits : ℕ → ℕ → ℕ → ℕ → ℕ → ℕ → ResourceLimits
 limits own all nesting total bytes constants = record {
   «max_input_bytes» = 200;
@@ -145,11 +145,11 @@ cases =
     ∷ record { under = wide; input = small; result = none }
     ∷ []
 
--- number and place of a refusal
-refusedWith : Outcome → Option Report
+-- number and place of the refusal that every call begins with, if any
+abbrev pub refusedWith : Outcome → Option Report
 refusedWith (shown r) = none
 refusedWith (refusal q) = some (reported q)
 
 cases-hold : map (λ (c : Case). refusedWith (read (c .under) (c .input))) cases ≡ map (λ (c : Case). c .result) cases
-unfolding cases refusedWith read body function main nested one rest leaf small words chain large limits wide
+unfolding cases read body function main nested one rest leaf small words chain large limits wide
 cases-hold = refl

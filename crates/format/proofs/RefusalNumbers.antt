@@ -34,7 +34,7 @@ abbrev refusalOf : ℕ → Place → Refusal
 refusalOf n (At at) = withPlace n at
 refusalOf n None = withoutPlace n
 
-abbrev hasPlace : Place → Bool
+abbrev pub hasPlace : Place → Bool
 hasPlace (At at) = true
 hasPlace None = false
 

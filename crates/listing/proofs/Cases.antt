@@ -4,6 +4,7 @@ use mathlib.Core.Path.{_≡_, refl}
 use mathlib.Core.List.{List, [], _∷_, _++_, map}
 use Prim.Native.Nat.{ℕ}
 use lib.ListN.{replicate, take}
+use Rattle.format.specs.Ascii.{ascii}
 use Rattle.format.specs.Form.{Bytes}
 use Rattle.format.specs.ReadChunk.{body, function, read}
 use Rattle.rules.specs.Findings.{codeGroups, groups, limited, chunkFindings}
@@ -17,15 +18,12 @@ small =
     ∷ 0x78 ∷ 0x56 ∷ 0 ∷ 0 ∷ 0 ∷ 0 ∷ 0 ∷ 0 ∷ 0 ∷ 0 ∷ 0 ∷ 0 ∷ 0 ∷ 0x28 ∷ 0x77 ∷ 0x40
     ∷ 0 ∷ 0x80 ∷ 0x80 ∷ 0x80 ∷ 0 ∷ 0 ∷ 2 ∷ replicate 8 0x80
 
--- `chunk 46 functions 1 trailing 0 verdict valid-for-analysis`, `0 0 0 0 0 0 2 0 0 0`; and `refused 1 at 45`
+-- a chunk that is read, and the same cut short by a byte
 unfoldable pub cases : List (Bytes × List ℕ)
 unfolding small
-cases = (
-  small,
-  99 ∷ 104 ∷ 117 ∷ 110 ∷ 107 ∷ 32 ∷ 52 ∷ 54 ∷ 32 ∷ 102 ∷ 117 ∷ 110 ∷ 99 ∷ 116 ∷ 105 ∷ 111 ∷ 110 ∷ 115 ∷ 32 ∷ 49 ∷ 32 ∷ 116 ∷ 114 ∷ 97 ∷ 105 ∷ 108 ∷ 105 ∷ 110 ∷ 103 ∷ 32 ∷ 48 ∷ 32 ∷ 118 ∷ 101 ∷ 114 ∷ 100 ∷ 105 ∷ 99 ∷ 116 ∷ 32 ∷ 118 ∷ 97 ∷ 108 ∷ 105 ∷ 100 ∷ 45 ∷ 102 ∷ 111 ∷ 114 ∷ 45 ∷ 97 ∷ 110 ∷ 97 ∷ 108 ∷ 121 ∷ 115 ∷ 105 ∷ 115 ∷ 10
-      ∷ 48 ∷ 32 ∷ 48 ∷ 32 ∷ 48 ∷ 32 ∷ 48 ∷ 32 ∷ 48 ∷ 32 ∷ 48 ∷ 32 ∷ 50 ∷ 32 ∷ 48 ∷ 32 ∷ 48 ∷ 32 ∷ 48 ∷ 10 ∷ [],
-)
-    ∷ (take 45 small, 114 ∷ 101 ∷ 102 ∷ 117 ∷ 115 ∷ 101 ∷ 100 ∷ 32 ∷ 49 ∷ 32 ∷ 97 ∷ 116 ∷ 32 ∷ 52 ∷ 53 ∷ 10 ∷ [])
+cases =
+    (small, ascii "chunk 46 functions 1 trailing 0 verdict valid-for-analysis\n0 0 0 0 0 0 2 0 0 0\n")
+    ∷ (take 45 small, ascii "refused 1 at 45\n")
     ∷ []
 
 pub all-hold : map (λ c. listing (c .0)) cases ≡ map (λ c. c .1) cases

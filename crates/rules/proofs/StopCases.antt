@@ -69,75 +69,75 @@ abbrev pub twice : ℕ
 twice = 0x109
 
 -- and the findings of each, as instruction pc of function k
-abbrev pub warned : ℕ → ℕ → List Finding
-warned k pc = at k pc (Register 2 ∷ [])
+abbrev pub oneWarned : ℕ → ℕ → List Finding
+oneWarned k pc = at k pc (Register 2 ∷ [])
 
-abbrev pub erred : ℕ → ℕ → List Finding
-erred k pc = at k pc (Opcode 0x53 ∷ [])
+abbrev pub oneErred : ℕ → ℕ → List Finding
+oneErred k pc = at k pc (Opcode 0x53 ∷ [])
 
-abbrev pub both : ℕ → ℕ → List Finding
-both k pc = at k pc (Register 2 ∷ Upvalue 0 ∷ [])
+abbrev pub oneBoth : ℕ → ℕ → List Finding
+oneBoth k pc = at k pc (Register 2 ∷ Upvalue 0 ∷ [])
 
 pub record Case : Type 0 where
   pub max : ℕ
-  pub kept : ℕ
+  pub warnings : ℕ
   pub code : List (List ℕ)
   pub findings : List Finding
   pub stopped : Bool
   pub verdict : Verdict
 
 abbrev pub case : ℕ → ℕ → List (List ℕ) → List Finding → Bool → Verdict → Case
-case max kept code findings stopped v = record { max = max; kept = kept; code = code; findings = findings; stopped = stopped; verdict = v }
+case max warnings code findings stopped v = record { max = max; warnings = warnings; code = code; findings = findings; stopped = stopped; verdict = v }
 
 unfoldable pub cases : List Case
 cases =
     -- nothing to find; and one below the maximum, in two functions, the last with words behind
     case 3 0 ((fine ∷ []) ∷ []) [] false ValidForAnalysis
-    ∷ case 3 0 ((warns ∷ []) ∷ (fine ∷ warns ∷ fine ∷ []) ∷ []) (warned 0 0 ++ warned 1 1) false ValidForAnalysis
+    ∷ case 3 0 ((warns ∷ []) ∷ (fine ∷ warns ∷ fine ∷ []) ∷ []) (oneWarned 0 0 ++ oneWarned 1 1) false ValidForAnalysis
     -- a. exactly the maximum after the last instruction: no stop
-    ∷ case 3 0 ((warns ∷ warns ∷ warns ∷ []) ∷ []) (warned 0 0 ++ warned 0 1 ++ warned 0 2) false ValidForAnalysis
-    ∷ case 3 0 ((warns ∷ []) ∷ (warns ∷ fine ∷ warns ∷ []) ∷ []) (warned 0 0 ++ warned 1 0 ++ warned 1 2) false ValidForAnalysis
+    ∷ case 3 0 ((warns ∷ warns ∷ warns ∷ []) ∷ []) (oneWarned 0 0 ++ oneWarned 0 1 ++ oneWarned 0 2) false ValidForAnalysis
+    ∷ case 3 0 ((warns ∷ []) ∷ (warns ∷ fine ∷ warns ∷ []) ∷ []) (oneWarned 0 0 ++ oneWarned 1 0 ++ oneWarned 1 2) false ValidForAnalysis
     -- b. the maximum with an instruction behind, though it adds nothing: a stop
-    ∷ case 3 0 ((warns ∷ warns ∷ warns ∷ fine ∷ []) ∷ []) (warned 0 0 ++ warned 0 1 ++ warned 0 2) true Incomplete
+    ∷ case 3 0 ((warns ∷ warns ∷ warns ∷ fine ∷ []) ∷ []) (oneWarned 0 0 ++ oneWarned 0 1 ++ oneWarned 0 2) true Incomplete
     -- c. with a function behind, though it is empty: a stop
-    ∷ case 3 0 ((warns ∷ warns ∷ warns ∷ []) ∷ [] ∷ []) (warned 0 0 ++ warned 0 1 ++ warned 0 2) true Incomplete
-    ∷ case 3 0 ((warns ∷ []) ∷ (warns ∷ warns ∷ []) ∷ [] ∷ (warns ∷ []) ∷ []) (warned 0 0 ++ warned 1 0 ++ warned 1 1) true Incomplete
+    ∷ case 3 0 ((warns ∷ warns ∷ warns ∷ []) ∷ [] ∷ []) (oneWarned 0 0 ++ oneWarned 0 1 ++ oneWarned 0 2) true Incomplete
+    ∷ case 3 0 ((warns ∷ []) ∷ (warns ∷ warns ∷ []) ∷ [] ∷ (warns ∷ []) ∷ []) (oneWarned 0 0 ++ oneWarned 1 0 ++ oneWarned 1 1) true Incomplete
     -- d. one more than the maximum after the last instruction, which adds two: a stop, and invalid
-    ∷ case 3 0 ((warns ∷ warns ∷ twice ∷ []) ∷ []) (warned 0 0 ++ warned 0 1 ++ both 0 2) true Invalid
-    ∷ case 3 0 ((twice ∷ twice ∷ []) ∷ []) (both 0 0 ++ both 0 1) true Invalid
+    ∷ case 3 0 ((warns ∷ warns ∷ twice ∷ []) ∷ []) (oneWarned 0 0 ++ oneWarned 0 1 ++ oneBoth 0 2) true Invalid
+    ∷ case 3 0 ((twice ∷ twice ∷ []) ∷ []) (oneBoth 0 0 ++ oneBoth 0 1) true Invalid
     -- e. what stands behind the stop is not looked at: its error is not found
-    ∷ case 3 0 ((warns ∷ warns ∷ warns ∷ errs ∷ []) ∷ []) (warned 0 0 ++ warned 0 1 ++ warned 0 2) true Incomplete
-    ∷ case 3 0 ((warns ∷ warns ∷ warns ∷ []) ∷ (errs ∷ []) ∷ []) (warned 0 0 ++ warned 0 1 ++ warned 0 2) true Incomplete
+    ∷ case 3 0 ((warns ∷ warns ∷ warns ∷ errs ∷ []) ∷ []) (oneWarned 0 0 ++ oneWarned 0 1 ++ oneWarned 0 2) true Incomplete
+    ∷ case 3 0 ((warns ∷ warns ∷ warns ∷ []) ∷ (errs ∷ []) ∷ []) (oneWarned 0 0 ++ oneWarned 0 1 ++ oneWarned 0 2) true Incomplete
     -- f. exactly the maximum by an instruction that adds two, the last: no stop, and invalid for its error
-    ∷ case 4 0 ((twice ∷ twice ∷ []) ∷ []) (both 0 0 ++ both 0 1) false Invalid
-    ∷ case 3 0 ((warns ∷ twice ∷ []) ∷ []) (warned 0 0 ++ both 0 1) false Invalid
+    ∷ case 4 0 ((twice ∷ twice ∷ []) ∷ []) (oneBoth 0 0 ++ oneBoth 0 1) false Invalid
+    ∷ case 3 0 ((warns ∷ twice ∷ []) ∷ []) (oneWarned 0 0 ++ oneBoth 0 1) false Invalid
     -- g. an error before the stop: invalid
-    ∷ case 3 0 ((errs ∷ warns ∷ warns ∷ fine ∷ []) ∷ []) (erred 0 0 ++ warned 0 1 ++ warned 0 2) true Invalid
-    ∷ case 2 0 ((twice ∷ []) ∷ (errs ∷ []) ∷ []) (both 0 0) true Invalid
+    ∷ case 3 0 ((errs ∷ warns ∷ warns ∷ fine ∷ []) ∷ []) (oneErred 0 0 ++ oneWarned 0 1 ++ oneWarned 0 2) true Invalid
+    ∷ case 2 0 ((twice ∷ []) ∷ (errs ∷ []) ∷ []) (oneBoth 0 0) true Invalid
     -- h. the reading's warnings count, and are not among the findings: at the maximum with them, no stop
-    ∷ case 3 1 ((warns ∷ warns ∷ []) ∷ []) (warned 0 0 ++ warned 0 1) false ValidForAnalysis
-    ∷ case 3 2 ((warns ∷ []) ∷ []) (warned 0 0) false ValidForAnalysis
+    ∷ case 3 1 ((warns ∷ warns ∷ []) ∷ []) (oneWarned 0 0 ++ oneWarned 0 1) false ValidForAnalysis
+    ∷ case 3 2 ((warns ∷ []) ∷ []) (oneWarned 0 0) false ValidForAnalysis
     -- i. the same with an instruction, or a function, behind; and one more than the maximum: stops
-    ∷ case 3 1 ((warns ∷ warns ∷ fine ∷ []) ∷ []) (warned 0 0 ++ warned 0 1) true Incomplete
-    ∷ case 3 2 ((warns ∷ []) ∷ (fine ∷ []) ∷ []) (warned 0 0) true Incomplete
-    ∷ case 3 2 ((twice ∷ []) ∷ []) (both 0 0) true Invalid
+    ∷ case 3 1 ((warns ∷ warns ∷ fine ∷ []) ∷ []) (oneWarned 0 0 ++ oneWarned 0 1) true Incomplete
+    ∷ case 3 2 ((warns ∷ []) ∷ (fine ∷ []) ∷ []) (oneWarned 0 0) true Incomplete
+    ∷ case 3 2 ((twice ∷ []) ∷ []) (oneBoth 0 0) true Invalid
     -- j. warnings alone reach the maximum: nothing is looked at
     ∷ case 2 2 ((errs ∷ []) ∷ []) [] true Incomplete
     ∷ case 2 2 ([] ∷ []) [] true Incomplete
     ∷ []
 
-abbrev pub listing : Case → Listing
-listing c = record { findings = c .findings; stopped = c .stopped }
+abbrev pub expected : Case → Listing
+expected c = record { findings = c .findings; stopped = c .stopped }
 
-pub by-groups : map (λ c. limited (c .max) (c .kept) (groups 0 (map function (c .code)))) cases ≡ map listing cases
+pub by-groups : map (λ c. limited (c .max) (c .warnings) (groups 0 (map function (c .code)))) cases ≡ map expected cases
 unfolding cases limited groups codeGroups instruction decoded
 by-groups = refl
 
-pub by-loops : map (λ c. overChunk (c .max) (c .kept) (map function (c .code))) cases ≡ map listing cases
+pub by-loops : map (λ c. overChunk (c .max) (c .warnings) (map function (c .code))) cases ≡ map expected cases
 unfolding cases overChunk overFunctions overCode instruction decoded
 by-loops = refl
 
-pub verdicts : map (λ c. verdict (listing c)) cases ≡ map (λ c. c .verdict) cases
+pub verdicts : map (λ c. verdict (expected c)) cases ≡ map (λ c. c .verdict) cases
 unfolding cases
 verdicts = refl
 

@@ -16,13 +16,13 @@ use borrow.Author.Tests.{lt-ltb, le-ltb, le-leb, lt-leb}
 use Rattle.rules.specs.declared.finding.Finding.{Finding}
 use Rattle.rules.specs.Findings.{Listing, ended, prepend, limited}
 
-abbrev Groups : Type 0
+abbrev pub Groups : Type 0
 Groups = List (List Finding)
 
-abbrev stop : List Finding → Listing
+abbrev pub stop : List Finding → Listing
 stop l = record { findings = l; stopped = true }
 
-abbrev all-found : List Finding → Listing
+abbrev pub all-found : List Finding → Listing
 all-found l = record { findings = l; stopped = false }
 
 prepend-twice : (a b : List Finding) (l : Listing) → prepend a (prepend b l) ≡ prepend (a ++ b) l
