@@ -13,8 +13,9 @@ use crate::Opening;
 use crate::OpeningResult;
 use crate::open_chunk;
 use crate::outermost;
-use chunk::walk::WalkResult;
-use chunk::walk::read_function;
+use chunk::spot::SpotResult;
+use chunk::spot::find_function;
+use chunk::spot::row_at;
 use cursor::Cursor;
 use cursor::remaining;
 use format::header::Header;
@@ -162,7 +163,7 @@ pub fn decode_chunk_lua54(s: &[u8], limits: ResourceLimits, wanted: usize) -> De
         OpeningResult::Ok(opening) => {
             let place = outermost();
             let first = opening.next;
-            let functions = read_function(
+            let functions = find_function(
                 s,
                 limits,
                 place,
@@ -171,10 +172,11 @@ pub fn decode_chunk_lua54(s: &[u8], limits: ResourceLimits, wanted: usize) -> De
                 first,
             );
             match functions {
-                WalkResult::Err(refusal) => DecodedResult::Err(refusal),
-                WalkResult::Ok(walked) => {
+                SpotResult::Err(refusal) => DecodedResult::Err(refusal),
+                SpotResult::Ok(walked) => {
                     let next = walked.next;
-                    let row = walked.row;
+                    let spot = walked.spot;
+                    let row = row_at(s, limits, spot);
                     let summary = summarised(
                         s,
                         limits.max_diagnostics,

@@ -1,9 +1,10 @@
--- `decode::summary::decode_chunk_lua54` meets its contract: by what `open_chunk` and `read_function` showed (`BeforeMain.antt`). Assumes nothing.
+-- `decode::summary::decode_chunk_lua54` meets its contract: by what `open_chunk` and `find_function` showed (`BeforeMain.antt`), for the row that is read at the spot. Assumes nothing.
 use mathlib.Core.Path.{_≡_, sym, _∙_, ap}
 use Prim.Native.Nat.{_+_, _≤_}
 use native.Mathlib.Omega.{arith}
 use borrow.Author.Needs.{needs}
 use Rattle.format.specs.GrammarChunk.{outermost}
+use Rattle.chunk.specs.Inner.Spot.{rowed, rowedResult}
 use Rattle.decode.specs.declared.summary.DecodedResult.the-variants as decoded
 use Rattle.decode.specs.Inner.Decoded.{decodedResult}
 use Rattle.decode.proofs.Summaries.{in-ceilings}
@@ -11,8 +12,8 @@ use Rattle.decode.proofs.BeforeMain.{not-opened, in-limits, decoded-ref
 use Rattle.decode.proofs.summary.decode_chunk_lua54.Statement.{statement}
 use Rattle.decode.proofs.summary.decode_chunk_lua54.Tie as tie
 
-read-function-requires : tie.Need-read-function-requires
-read-function-requires c κs =
+find-function-requires : tie.Need-find-function-requires
+find-function-requires c κs =
     let p = c .before in
     let k = p .before .before in
     let o = k .before .before in
@@ -37,20 +38,21 @@ returns-2 c =
     let o = k .before .before in
     let a = o .before .before .args in
     decoded-refused (a .limits) (a .s .now) (k .begins2 .given .0 .0) (sym (k .begins2 .given .1) ∙ o .open-chunk .ensures)
-    (a .wanted) _ (sym (c .before .functions .given .1) ∙ f .read-function .ensures outermost (p .outermost .ensures))
+    (a .wanted) _ (ap (rowedResult (a .limits) (a .s .now)) (sym (c .before .functions .given .1)) ∙ f .find-function .ensures .0 outermost (p .outermost .ensures))
 
 returns-3 : tie.Need-returns-3
 returns-3 c =
-    let n = c .before .before .before in
+    let r = c .before in
+    let n = r .before .before .before in
     let f = n .before .before in
     let p = f .before .before in
     let k = p .before .before in
     let o = k .before .before in
     let a = o .before .before .args in
     let walked = n .functions2 .given .0 .0 in
-    ap (λ t. decoded.Ok (record { summary = t; row = walked .row })) (c .summarised .ensures)
+    (λ i. decoded.Ok (record { summary = c .summarised .ensures i; row = r .row-at .ensures i }))
     ∙ decoded-read (a .limits) (a .s .now) (k .begins2 .given .0 .0) (sym (k .begins2 .given .1) ∙ o .open-chunk .ensures)
-    (a .wanted) walked (sym (n .functions2 .given .1) ∙ f .read-function .ensures outermost (p .outermost .ensures))
+    (a .wanted) (rowed (a .limits) (a .s .now) walked) (ap (rowedResult (a .limits) (a .s .now)) (sym (n .functions2 .given .1)) ∙ f .find-function .ensures .0 outermost (p .outermost .ensures))
 
 pub decode-chunk-lua54-spec : {M : Type 1} → statement M
 decode-chunk-lua54-spec =
@@ -58,8 +60,9 @@ decode-chunk-lua54-spec =
     (tie.spec
     (λ c κs. search needs) (λ c. search needs) (λ c. search needs)
     (λ c κs. search needs)
-    read-function-requires
+    find-function-requires
     (λ c. search needs) (λ c. search needs)
+    (λ c κs. search needs)
     (λ c κs. search needs)
     returns
     returns-2
