@@ -174,7 +174,7 @@ finish wanted w at v t end ps to =
     let row = ap (λ row. cond (eqb wanted (w .number)) (option.Some row) (shownRow (lookup wanted (w .number + 1) ps))) (row-shown w at v t (end .at)) ∙ shown-pick (eqb wanted (w .number)) p (lookup wanted (w .number + 1) ps) in
     λ i. record { next = end; number = number i; instructions = instructions i; row = row i }
 
--- ## The answers of `read_function`
+-- ## The answers of a walk with rows
 module _ (s : Bytes) (L : ResourceLimits) (left wanted : ℕ) (place : Where) (w : grammar.Where) (stands : place ≡ shownWhere w) (at : ℕ) where
   abbrev pub whole : Read (List Prototype)
   whole = function L left w at (drop at s)

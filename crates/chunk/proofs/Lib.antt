@@ -1,3 +1,4 @@
 pub mod Forests
 pub mod Functions
+pub mod Spots
 pub mod Turns

@@ -1,4 +1,4 @@
--- The loop of `read_functions`: what it keeps, and what each of its turns and ends shows.
+-- The loop of a walk with rows: what it keeps, and what each of its turns and ends shows.
 -- Assumes nothing.
 use mathlib.Core.Path.{_≡_, refl, sym, _∙_, ap}
 use mathlib.Core.List.{List}

@@ -1,22 +1,14 @@
-// The walk over a chunk's functions: one pass that judges them all and brings back the row of one, by its number.
+// What a walk over a chunk's functions keeps: where the next one stands, and what was found.
 ghost use mathlib.Core.Path.{_≡_};
 ghost use mathlib.Core.Bool.{cond};
 ghost use Prim.Native.Nat.{_+_, _≤_};
 ghost use lib.Dec.{eqb};
-ghost use lib.ListN.{drop};
-ghost use Rattle.format.specs.GrammarChunk as grammar;
-ghost use Rattle.format.specs.ReadChunk.{forest, function};
 ghost use Rattle.prototype.specs.declared.row.OptionRow.the-variants as option;
-ghost use Rattle.chunk.specs.Inner.Walk.{shownWhere, entered, walkResult, inheritShown, insideShown, rowShown, orRow, finishedShown, againShown, joinedShown};
+ghost use Rattle.chunk.specs.Inner.Walk.{inheritShown, insideShown, rowShown, orRow, finishedShown, againShown, joinedShown};
 use cursor::Cursor;
-use format::limits::ResourceLimits;
 use format::refusal::Refusal;
 use prototype::parts::Head;
-use prototype::parts::HeadResult;
 use prototype::parts::Tail;
-use prototype::parts::TailResult;
-use prototype::parts::read_head;
-use prototype::parts::read_tail;
 use prototype::row::FunctionRow;
 use prototype::row::Lists;
 use prototype::row::OptionRow;
@@ -155,49 +147,6 @@ pub fn finished(
     }
 }
 
-// Reads a function and all that nest in it, at most `left` deep. Ruled out: nested functions that show their parent's row, a number that is given twice.
-pub fn read_function(
-    s: &[u8],
-    limits: ResourceLimits,
-    place: Where,
-    left: usize,
-    wanted: usize,
-    cursor: Cursor,
-) -> WalkResult
-    requires { ⌜ (limits .«max_total_prototypes» ≤ 16777216) × (limits .«max_total_instructions» ≤ 16777216) × (place .number ≤ 16777216) × (place .depth + left ≤ 200) ⌝ }
-    ensures { λ r. ⌜ ((w : grammar.Where) → place ≡ shownWhere w → r ≡ walkResult wanted w (function limits left w (cursor .at) (drop (cursor .at) (now (s .entry))))) ⌝ }
-{
-    let begins = read_head(s, limits, place.instructions, cursor);
-    match begins {
-        HeadResult::Err(refusal) => WalkResult::Err(refusal),
-        HeadResult::Ok {
-            head: head,
-            next: behind,
-        } => {
-            let first = inside(place, head);
-            let inner = read_functions(s, limits, first, head.protos.count, left, wanted, behind);
-            match inner {
-                WalkResult::Err(refusal) => WalkResult::Err(refusal),
-                WalkResult::Ok(nested) => {
-                    let ends = read_tail(s, limits.max_string_bytes, nested.next);
-                    match ends {
-                        TailResult::Err(refusal) => WalkResult::Err(refusal),
-                        TailResult::Ok { tail, next } => WalkResult::Ok(finished(
-                            place,
-                            cursor.at,
-                            head,
-                            tail,
-                            next,
-                            nested,
-                            wanted,
-                        )),
-                    }
-                }
-            }
-        }
-    }
-}
-
 // Where the next function stands, behind those that were read.
 pub fn again(first: Where, walked: Walked) -> Where
     ensures { λ r. ⌜ r ≡ againShown first walked ⌝ }
@@ -226,46 +175,4 @@ pub fn joined(before: Walked, later: Walked) -> Walked
         instructions: later.instructions,
         row: row,
     }
-}
-
-// Reads n functions one after the other, each nested in a function below which functions nest at most `left` deep.
-fn read_functions(
-    s: &[u8],
-    limits: ResourceLimits,
-    first: Where,
-    n: usize,
-    left: usize,
-    wanted: usize,
-    cursor: Cursor,
-) -> WalkResult
-    requires { ⌜ (limits .«max_total_prototypes» ≤ 16777216) × (limits .«max_total_instructions» ≤ 16777216) × (first .depth + left ≤ 201) ⌝ }
-    ensures { λ r. ⌜ ((w : grammar.Where) → first ≡ shownWhere w → r ≡ walkResult wanted w (forest n (entered limits left) w (cursor .at) (drop (cursor .at) (now (s .entry))))) ⌝ }
-{
-    let mut walked = Walked {
-        next: cursor,
-        number: first.number,
-        instructions: first.instructions,
-        row: OptionRow::None,
-    };
-    let mut more = n;
-    while more > 0 {
-        let at = walked.next.at;
-        if left == 0 {
-            return WalkResult::Err(Refusal::NestingDepth(at));
-        }
-        if limits.max_total_prototypes < walked.number {
-            return WalkResult::Err(Refusal::TotalPrototypes(at));
-        }
-        let place = again(first, walked);
-        let next = walked.next;
-        let one = read_function(s, limits, place, left - 1, wanted, next);
-        match one {
-            WalkResult::Err(refusal) => return WalkResult::Err(refusal),
-            WalkResult::Ok(later) => {
-                walked = joined(walked, later);
-            }
-        }
-        more -= 1;
-    }
-    WalkResult::Ok(walked)
 }

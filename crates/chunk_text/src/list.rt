@@ -1,11 +1,11 @@
 // The findings of a chunk, one after the other: `finding FN PC RULE NUMBER error|warning`.
 ghost use Prim.Native.Nat.{_≤_, _<_};
 use cursor::Cursor;
-use decode::summary::DecodedResult;
-use decode::summary::decode_chunk_lua54;
+use decode::MAIN_AT;
+use decode::summary::JudgedResult;
+use decode::summary::judge_chunk;
 use format::limits::ResourceLimits;
 use print::Out;
-use prototype::row::OptionRow;
 use rules::finding::Finding;
 use rules::finding::Rule;
 use rules::finding::Severity;
@@ -37,19 +37,12 @@ fn from_main(out: &mut Out, used: usize, s: &[u8], limits: ResourceLimits, n: u6
     requires { ⌜ used < 65536 ⌝ }
     ensures { λ r. ⌜ r < 65536 ⌝ }
 {
-    let decoded = decode_chunk_lua54(s, limits, 0);
-    match decoded {
-        DecodedResult::Err(why) => print::refusal(out, used, why),
-        DecodedResult::Ok(chunk) => {
-            let summary = chunk.summary;
-            let main = chunk.row;
-            match main {
-                OptionRow::None => print::text(out, used, b"no main function\n"),
-                OptionRow::Some(row) => {
-                    let first = start(Cursor { at: row.start }, kept_count(summary));
-                    walk(out, used, s, limits, n, first)
-                }
-            }
+    let judged = judge_chunk(s, limits);
+    match judged {
+        JudgedResult::Err(why) => print::refusal(out, used, why),
+        JudgedResult::Ok(summary) => {
+            let first = start(Cursor { at: MAIN_AT }, kept_count(summary));
+            walk(out, used, s, limits, n, first)
         }
     }
 }

@@ -11,25 +11,23 @@ use Rattle.format.specs.declared.limits.ResourceLimits.{ResourceLimits}
 use Rattle.format.specs.declared.refusal.Refusal.{Refusal}
 use Rattle.format.specs.Form.{Bytes, Below}
 use Rattle.format.specs.Reading.{Prototype}
-use Rattle.format.specs.GrammarChunk.{outermost}
+use Rattle.format.specs.GrammarChunk.{outermost, instructionsOf}
 use Rattle.format.specs.Read.{Read, ok, refused}
 use Rattle.format.specs.ReadChunk.{function}
 use Rattle.format.specs.Copy.{fieldBytes, headerBytes, functionsBytes, upvaluesOfMain}
 use Rattle.format.proofs.Exact.{never}
 use Rattle.format.proofs.ExactChunk.{exact-function}
 use Rattle.format.proofs.Left.{left}
-use Rattle.prototype.specs.declared.row.OptionRow.{OptionRow}
-use Rattle.chunk.specs.declared.walk.Walked.{Walked}
-use Rattle.chunk.specs.declared.walk.WalkResult.the-variants as walk
-use Rattle.prototype.specs.Inner.Row.{shownRow, lookup}
-use Rattle.chunk.specs.Inner.Walk.{walkResult}
-use Rattle.chunk.proofs.Functions.{walk-err, walk-ok}
+use Rattle.cursor.specs.Shown.{cursorAt}
+use Rattle.skim.specs.declared.walk.Skimmed.{Skimmed}
+use Rattle.skim.specs.declared.walk.SkimResult.the-variants as skim
+use Rattle.skim.specs.Inner.Skim.{skimResult}
+use Rattle.copy_walk.proofs.Functions.{skim-err}
 use Rattle.lent.specs.Inner.Splice.{splice}
 use Rattle.lent.proofs.Splices.{splice-length, splice-before}
 use Rattle.encode.specs.Inner.Put.{Put}
 use Rattle.encode.proofs.Writes.{put-then}
 use Rattle.copy.specs.declared.whole.CopyAnswer.the-variants as answer
-use Rattle.copy.specs.Inner.Chunk.{upvaluesShown}
 use Rattle.copy_parts.specs.Inner.Parts.{functionBytes}
 use Rattle.copy.specs.Inner.Answers.{chunkBytes, Answers}
 use Rattle.copy_parts.proofs.PutParts.{put-as}
@@ -52,14 +50,16 @@ put-before {a} {b} {n} {after} {m} {l} {l₁} {l₂} e p q = record {
     size h = omega (arith, simp length-append at h)
 
 -- ## Main and the trailing bytes
-pub functions-stops : (o : Read (List Prototype)) (q : Refusal) {l l′ : Bytes} → walk.Err q ≡ walkResult 0 outermost o → Answers chunkBytes o l (answer.Err q) l′
+pub functions-stops : (o : Read (List Prototype)) (q : Refusal) {l l′ : Bytes} → skim.Err q ≡ skimResult outermost o → Answers chunkBytes o l (answer.Err q) l′
 functions-stops o q e =
-    let is = walk-err 0 outermost o q e in
+    let is = skim-err outermost o q e in
     record { stops = λ p f. let same : q ≡ p = (let both = sym is ∙ f in cc) in ap answer.Err same; puts = λ x to rest f. absurd (never (sym is ∙ f)) }
 
-upvalues-is : (ps : List Prototype) → upvaluesShown (shownRow (lookup 0 0 ps)) ≡ upvaluesOfMain ps
-upvalues-is [] = refl
-upvalues-is (p ∷ ps) = refl
+not-refused : {k : Skimmed} {q : Refusal} → skim.Ok k ≡ skim.Err q → ⊥
+not-refused e = let z : _≡_ {A = ℕ} 0 1 = cc in omega arith
+
+ends-there : (k : Skimmed) (ps : List Prototype) (to : ℕ) (rest : Bytes) → skim.Ok k ≡ skimResult outermost (ok ps to rest) → k .next .at ≡ to
+ends-there k ps to rest e = let all : k ≡ record { next = cursorAt to; number = 0 + length ps; instructions = 0 + instructionsOf ps } = cc in ap (λ k. k .next .at) all
 
 functions-are : (ps : List Prototype) → functionBytes true ps ≡ functionsBytes ps
 functions-are [] = refl
@@ -82,24 +82,23 @@ module _ (s : Bytes) (bytes : Below 256 s) (short : length s ≤ 16777216) (L : 
       let behind = length-append (functionsBytes ps) rest in
       omega arith
 
-  pub functions-put : (walked : Walked) (upvalues n : ℕ) → walk.Ok walked ≡ walkResult 0 outermost functions → upvalues ≡ upvaluesShown (walked .row) → n ≡ length (drop (walked .next .at) s)
+  pub functions-put : (k : Skimmed) (upvalues n : ℕ) → skim.Ok k ≡ skimResult outermost functions → n ≡ length (drop (k .next .at) s)
       → {l l₁ l₂ l′ : Bytes} {after m len : ℕ}
+      → ((ps : List Prototype) (to : ℕ) (rest : Bytes) → functions ≡ ok ps to rest → upvalues ≡ upvaluesOfMain ps)
       → ((ps : List Prototype) (to : ℕ) (rest : Bytes) → functions ≡ ok ps to rest → Put (functionBytes true ps) 32 l after l₁)
       → Put (headerBytes 0 ++ fieldBytes 1 upvalues) 0 l₁ m l₂
-      → (n ≤ length s - walked .next .at → Put (take n (drop (walked .next .at) s)) after l₂ len l′)
+      → (n ≤ length s - k .next .at → Put (take n (drop (k .next .at) s)) after l₂ len l′)
       → Answers chunkBytes functions l (answer.Ok len) l′
-  functions-put walked upvalues n e u size {l} {l₁} {l₂} {l′} {after} {m} {len} p q r =
-      let o = walk-ok 0 outermost functions walked e in
-      record {
-        stops = λ x f. absurd (never (sym f ∙ o .was .is));
-        puts = λ ps to rest f. record { len = len; is = refl; small = small-copy ps to rest f; put = all ps to rest f (o .value) (let both = sym (o .was .is) ∙ f in cc) (let both = sym (o .was .is) ∙ f in cc) (ap (λ k. k .row) (o .shows)) };
-      }
+  functions-put k upvalues n e size {l} {l₁} {l₂} {l′} {after} {m} {len} u p q r = record {
+    stops = λ x f. absurd (not-refused (e ∙ ap (skimResult outermost) f));
+    puts = λ ps to rest f. record { len = len; is = refl; small = small-copy ps to rest f; put = all ps to rest f (ends-there k ps to rest (e ∙ ap (skimResult outermost) f)) };
+  }
     where
-      all : (ps : List Prototype) (to : ℕ) (rest : Bytes) → functions ≡ ok ps to rest → (qs : List Prototype) → qs ≡ ps → walked .next .at ≡ to → walked .row ≡ shownRow (lookup 0 0 qs) → Put (chunkBytes ps rest) 0 l len l′
-      all ps to rest f qs same place row =
-          let count : upvalues ≡ upvaluesOfMain ps = u ∙ ap upvaluesShown row ∙ upvalues-is qs ∙ ap upvaluesOfMain same in
-          let there : length (drop (walked .next .at) s) ≡ length s - walked .next .at = length-drop (walked .next .at) s in
-          let trailing : take n (drop (walked .next .at) s) ≡ rest = take-all n (drop (walked .next .at) s) (omega arith) ∙ ap (λ k. drop k s) place ∙ sym (left (exact-function L (L .«max_nesting_depth») outermost) s at f) in
+      all : (ps : List Prototype) (to : ℕ) (rest : Bytes) → functions ≡ ok ps to rest → k .next .at ≡ to → Put (chunkBytes ps rest) 0 l len l′
+      all ps to rest f place =
+          let count = u ps to rest f in
+          let there : length (drop (k .next .at) s) ≡ length s - k .next .at = length-drop (k .next .at) s in
+          let trailing : take n (drop (k .next .at) s) ≡ rest = take-all n (drop (k .next .at) s) (omega arith) ∙ ap (λ k. drop k s) place ∙ sym (left (exact-function L (L .«max_nesting_depth») outermost) s at f) in
           let front : Put ((headerBytes 0 ++ fieldBytes 1 upvalues) ++ functionBytes true ps) 0 l after l₂ = put-before {a = headerBytes 0 ++ fieldBytes 1 upvalues} refl (p ps to rest f) q in
           let main : Put ((headerBytes 0 ++ fieldBytes 1 (upvaluesOfMain ps)) ++ functionsBytes ps) 0 l after l₂ = put-as (λ i. (headerBytes 0 ++ fieldBytes 1 (count i)) ++ functions-are ps i) front in
           put-then main (put-as trailing (r (omega arith)))

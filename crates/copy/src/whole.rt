@@ -1,5 +1,4 @@
 // A whole chunk, judged and copied.
-ghost use mathlib.Core.Path.{_≡_};
 ghost use mathlib.Core.List.{_++_};
 ghost use Prim.Native.Nat.{_≤_};
 ghost use lib.ListN.{length, drop};
@@ -8,24 +7,20 @@ ghost use Rattle.format.specs.GrammarChunk.{outermost};
 ghost use Rattle.format.specs.ReadChunk as format;
 ghost use Rattle.format.specs.Copy.{fieldBytes, headerBytes};
 ghost use Rattle.encode.specs.Inner.Put.{Put};
-ghost use Rattle.copy.specs.Inner.Chunk.{upvaluesShown};
-ghost use Rattle.copy.specs.Inner.Answers.{chunkBytes, loadedBytes, Answers, Copies};
-use chunk::walk::WalkResult;
+ghost use Rattle.copy.specs.Inner.Answers.{chunkBytes, Answers, Copies};
 use copy_walk::walk::copy_function;
 use copy_walk::walk::within;
 use cursor::Cursor;
 use cursor::remaining;
-use decode::outermost;
+use decode::OpeningResult;
+use decode::open_chunk;
 use encode::raw::plus;
 use encode::raw::put_byte;
 use encode::raw::put_bytes;
 use format::limits::ResourceLimits;
 use format::refusal::Refusal;
-use header::HeaderResult;
-use header::parse_header_lua54;
-use prototype::row::OptionRow;
-use reader::field::U8Result;
-use reader::field::read_u8;
+use skim::walk::SkimResult;
+use skim::walk::Skimmed;
 
 // The length of the copy, or why there is none.
 pub enum CopyAnswer {
@@ -47,59 +42,27 @@ fn put_front(upvalues: usize, out: &mut [u8]) -> usize
     put_byte(out, behind, (upvalues % 256) as u8)
 }
 
-// How many upvalues a function has.
-fn upvalues_of(row: OptionRow) -> usize
-    ensures { λ r. ⌜ r ≡ upvaluesShown row ⌝ }
-{
-    match row {
-        OptionRow::None => 0,
-        OptionRow::Some(found) => found.lists.upvalues.count,
-    }
-}
-
 // Main, which begins at the cursor, with all that nest in it, then the header, of which one byte depends on main, then the trailing bytes.
 fn copy_functions(s: &[u8], limits: ResourceLimits, cursor: Cursor, out: &mut [u8]) -> CopyAnswer
     requires { ⌜ (limits .«max_nesting_depth» ≤ 200) × (limits .«max_total_prototypes» ≤ 16777216) × (limits .«max_total_instructions» ≤ 16777216) ⌝ }
     ensures { λ r. ⌜ (Below 256 (now (s .entry)) → length (now (s .entry)) ≤ 16777216 → Answers chunkBytes (format.function limits (limits .«max_nesting_depth») outermost (cursor .at) (drop (cursor .at) (now (s .entry)))) (now (out .entry)) r (now (out .exit))) ⌝ }
 {
-    let place = outermost();
     let left = limits.max_nesting_depth;
-    let from = within(32, out.len());
-    let main = copy_function(s, limits, place, true, left, cursor, &mut out[from..]);
+    let from = Skimmed {
+        next: cursor,
+        number: 0,
+        instructions: 0,
+    };
+    let start = within(32, out.len());
+    let main = copy_function(s, limits, true, left, from, &mut out[start..]);
     let walk = main.walk;
     match walk {
-        WalkResult::Err(refusal) => CopyAnswer::Err(refusal),
-        WalkResult::Ok(walked) => {
-            let row = walked.row;
+        SkimResult::Err(refusal) => CopyAnswer::Err(refusal),
+        SkimResult::Ok(walked) => {
             let next = walked.next;
-            put_front(upvalues_of(row), out);
+            put_front(main.upvalues, out);
             let behind = plus(32, main.len);
             CopyAnswer::Ok(put_bytes(s, next.at, remaining(s, next), out, behind))
-        }
-    }
-}
-
-// The header, the byte behind it, which is forgotten, and what follows.
-fn copy_main(s: &[u8], limits: ResourceLimits, out: &mut [u8]) -> CopyAnswer
-    requires { ⌜ (limits .«max_nesting_depth» ≤ 200) × (limits .«max_total_prototypes» ≤ 16777216) × (limits .«max_total_instructions» ≤ 16777216) ⌝ }
-    ensures { λ r. ⌜ (Below 256 (now (s .entry)) → length (now (s .entry)) ≤ 16777216 → Answers loadedBytes (format.main limits 0 (now (s .entry))) (now (out .entry)) r (now (out .exit))) ⌝ }
-{
-    let front = parse_header_lua54(s, Cursor { at: 0 });
-    match front {
-        HeaderResult::Err(refusal) => CopyAnswer::Err(refusal),
-        HeaderResult::Ok {
-            header: _,
-            warning: _,
-            next: behind,
-        } => {
-            let forgotten = read_u8(s, behind);
-            match forgotten {
-                U8Result::Err(refusal) => CopyAnswer::Err(refusal),
-                U8Result::Ok {
-                    value: _,
-                    next: first,
-                } => copy_functions(s, limits, first, out),
-            }
         }
     }
 }
@@ -108,12 +71,12 @@ fn copy_main(s: &[u8], limits: ResourceLimits, out: &mut [u8]) -> CopyAnswer
 pub fn copy_chunk(s: &[u8], limits: ResourceLimits, out: &mut [u8]) -> CopyAnswer
     ensures { λ r. ⌜ Copies (format.read limits (now (s .entry))) (now (out .entry)) r (now (out .exit)) ⌝ }
 {
-    let within = limits.within_ceilings();
-    if !within {
-        return CopyAnswer::Err(Refusal::LimitAboveCeiling);
+    let begins = open_chunk(s, limits);
+    match begins {
+        OpeningResult::Err(refusal) => CopyAnswer::Err(refusal),
+        OpeningResult::Ok(opening) => {
+            let first = opening.next;
+            copy_functions(s, limits, first, out)
+        }
     }
-    if limits.max_input_bytes < s.len() {
-        return CopyAnswer::Err(Refusal::InputBytes);
-    }
-    copy_main(s, limits, out)
 }

@@ -8,30 +8,26 @@ use Rattle.format.specs.Form.{Bytes}
 use Rattle.format.specs.Read.{Read, ok}
 use Rattle.format.proofs.Exact.{never}
 use Rattle.cursor.specs.declared.Cursor.{Cursor}
-use Rattle.prototype.specs.declared.parts.Head as declared-head
 use Rattle.prototype.specs.declared.parts.Tail as declared-tail
 use Rattle.prototype.specs.declared.parts.TailResult.the-variants as tail-answer
-use Rattle.chunk.specs.declared.walk.Where.{Where}
-use Rattle.chunk.specs.declared.walk.Walked.{Walked}
-use Rattle.chunk.specs.declared.walk.WalkResult.{WalkResult}
-use Rattle.chunk.specs.declared.walk.WalkResult.the-variants as answer
+use Rattle.skim.specs.declared.walk.Skimmed.{Skimmed}
+use Rattle.skim.specs.declared.walk.SkimResult.the-variants as skim
 use Rattle.prototype.specs.Parts.{Tail, tail}
 use Rattle.prototype.specs.PartsShown.{tailOf, tailResult}
-use Rattle.chunk.specs.Inner.Walk.{finishedShown}
 use Rattle.chunk.proofs.Functions.{tail-err, tail-ok}
 use Rattle.encode.specs.Inner.Put.{Put}
 use Rattle.copy_parts.specs.Inner.Parts.{tailBytes}
 use Rattle.copy_parts.specs.Inner.Ends.{PutsTail, endShown}
 
-module _ (place : Where) (start : ℕ) (h : declared-head.Head) (nested : Walked) {at : ℕ} {l : Bytes} {len : ℕ} {l′ : Bytes} where
-  pub end-stops : (o : Read Tail) (q : Refusal) (r : WalkResult) → tail-answer.Err q ≡ tailResult o → r ≡ answer.Err q → (r ≡ endShown place start h nested o) × PutsTail o at l len l′
-  end-stops o q r e is = (is ∙ sym (ap (endShown place start h nested) (tail-err o q e)), record { put = λ t to rest f. absurd (never (sym (tail-err o q e) ∙ f)) })
+module _ (nested : Skimmed) {at : ℕ} {l : Bytes} {len : ℕ} {l′ : Bytes} where
+  pub end-stops : (o : Read Tail) (q : Refusal) → tail-answer.Err q ≡ tailResult o → (skim.Err q ≡ endShown nested o) × PutsTail o at l len l′
+  end-stops o q e = (sym (ap (endShown nested) (tail-err o q e)), record { put = λ t to rest f. absurd (never (sym (tail-err o q e) ∙ f)) })
 
-  pub end-read : (s : Bytes) (limit from : ℕ) (t : declared-tail.Tail) (c : Cursor) (x : Walked) → tail-answer.Ok t c ≡ tailResult (tail limit from (drop from s)) → x ≡ finishedShown place start h t c nested 0
+  pub end-read : (s : Bytes) (limit from : ℕ) (t : declared-tail.Tail) (c : Cursor) → tail-answer.Ok t c ≡ tailResult (tail limit from (drop from s))
       → ((from to : ℕ) (v : Tail) (rest : Bytes) → tail limit from (drop from s) ≡ ok v to rest → t ≡ tailOf v → Put (tailBytes v) at l len l′)
-      → (answer.Ok x ≡ endShown place start h nested (tail limit from (drop from s))) × PutsTail (tail limit from (drop from s)) at l len l′
-  end-read s limit from t c x e is p =
+      → (skim.Ok (record { next = c; number = nested .number; instructions = nested .instructions }) ≡ endShown nested (tail limit from (drop from s))) × PutsTail (tail limit from (drop from s)) at l len l′
+  end-read s limit from t c e p =
       let o = tail-ok (tail limit from (drop from s)) t c e in (
-        ap answer.Ok (is ∙ ap (λ t. finishedShown place start h t c nested 0) (o .shows)) ∙ sym (ap (endShown place start h nested) (o .was .is)),
+        sym (ap (endShown nested) (o .was .is)),
         record { put = λ v to rest f. let same : o .value ≡ v = (let both = sym (o .was .is) ∙ f in cc) in p from to v rest f (o .shows ∙ ap tailOf same) },
       )

@@ -12,20 +12,19 @@ use Rattle.format.specs.declared.limits.ResourceLimits.{ResourceLimits}
 use Rattle.format.specs.Form.{Bytes, Below}
 use Rattle.format.specs.Reading.{Prototype}
 use Rattle.format.specs.GrammarChunk as grammar
-use Rattle.format.specs.GrammarChunk.{after}
+use Rattle.format.specs.GrammarChunk.{after, instructionsOf}
 use Rattle.format.specs.Read.{Read, ok, refused, Reader, next, _>>=_, give}
 use Rattle.format.specs.ReadChunk.{forest, function}
 use Rattle.format.specs.Copy.{nest}
 use Rattle.format.proofs.Exact.{never}
 use Rattle.format.proofs.Left as lefts
-use Rattle.cursor.specs.declared.Cursor.{Cursor}
-use Rattle.prototype.specs.declared.row.OptionRow.the-variants as option
-use Rattle.chunk.specs.declared.walk.Where.{Where}
-use Rattle.chunk.specs.declared.walk.Walked.{Walked}
-use Rattle.chunk.specs.declared.walk.WalkResult.{WalkResult}
-use Rattle.chunk.specs.declared.walk.WalkResult.the-variants as answer
-use Rattle.chunk.specs.Inner.Walk.{shownWhere, entered, walkResult, further, againShown, joinedShown}
-use Rattle.chunk.proofs.Functions.{exact-entered, enters, walkedOf}
+use Rattle.cursor.specs.Shown.{cursorAt}
+use Rattle.chunk.specs.Inner.Walk.{entered, further}
+use Rattle.chunk.proofs.Functions.{exact-entered, enters}
+use Rattle.skim.specs.declared.walk.Skimmed.{Skimmed}
+use Rattle.skim.specs.declared.walk.SkimResult.{SkimResult}
+use Rattle.skim.specs.declared.walk.SkimResult.the-variants as skim
+use Rattle.skim.specs.Inner.Skim.{skimResult, walkedShown}
 use Rattle.encode.specs.Inner.Put.{Put}
 use Rattle.encode.proofs.Writes.{put-nothing, put-then}
 use Rattle.copy_parts.specs.Inner.Parts.{functionBytes}
@@ -35,57 +34,59 @@ use Rattle.copy_walk.proofs.Nests.{Single, more-bytes, entered-single}
 pub record PutsForest (o : Read (List Prototype)) (at : ℕ) (l : Bytes) (len : ℕ) (l′ : Bytes) : Type 0 where
   pub put : (ps : List Prototype) (to : ℕ) (rest : Bytes) → o ≡ ok ps to rest → Put (flatten (foldr nest [] ps)) at l len l′
 
-pub record GoesOn (s : Bytes) (L : ResourceLimits) (first : Where) (n left from at₀ : ℕ) (l₀ : Bytes) (walked : Walked) (more at : ℕ) (l : Bytes) : Type 0 where
-  pub goes : (w : grammar.Where) → first ≡ shownWhere w → Below 256 s → {b : ℕ} {l′ : Bytes} → PutsForest (forest more (entered L left) (further w walked) (walked .next .at) (drop (walked .next .at) s)) at l b l′
-      → PutsForest (forest n (entered L left) w from (drop from s)) at₀ l₀ b l′
+-- where the next function stands behind those that were passed
+abbrev pub on : grammar.Where → Skimmed → grammar.Where
+on w k = further w (walkedShown k)
 
-pub on-first : (s : Bytes) (L : ResourceLimits) (first : Where) (n left : ℕ) (c : Cursor) (at : ℕ) (l : Bytes)
-    → GoesOn s L first n left (c .at) at l (record { next = c; number = first .number; instructions = first .instructions; row = option.None }) n at l
-on-first s L first n left c at l = record {
-  goes = λ w p bytes {b} {l′} g.
-      subst (λ k. PutsForest (forest n (entered L left) (further w (record { next = c; number = k .number; instructions = k .instructions; row = option.None })) (c .at) (drop (c .at) s)) at l b l′) p g;
+pub record GoesOn (s : Bytes) (L : ResourceLimits) (first : Skimmed) (n left at₀ : ℕ) (l₀ : Bytes) (k : Skimmed) (more at : ℕ) (l : Bytes) : Type 0 where
+  pub goes : (w : grammar.Where) → first .number ≡ w .number → first .instructions ≡ w .instructions → Below 256 s → {b : ℕ} {l′ : Bytes} → PutsForest (forest more (entered L left) (on w k) (k .next .at) (drop (k .next .at) s)) at l b l′
+      → PutsForest (forest n (entered L left) w (first .next .at) (drop (first .next .at) s)) at₀ l₀ b l′
+
+pub on-first : (s : Bytes) (L : ResourceLimits) (first : Skimmed) (n left : ℕ) (at : ℕ) (l : Bytes) → GoesOn s L first n left at l first n at l
+on-first s L first n left at l = record {
+  goes = λ w e i bytes {b} {l′} g.
+      subst (λ v. PutsForest (forest n (entered L left) v (first .next .at) (drop (first .next .at) s)) at l b l′) (λ j. record { number = e j; instructions = i j; depth = w .depth; parent = w .parent; source = w .source }) g;
 }
 
-module _ (s : Bytes) (L : ResourceLimits) (first : Where) (n left from at₀ : ℕ) (l₀ : Bytes) (walked : Walked) (more at : ℕ) (l : Bytes) (k : GoesOn s L first n left from at₀ l₀ walked more at l) where
-  pub on-last : more ≤ 0 → (w : grammar.Where) → first ≡ shownWhere w → Below 256 s → PutsForest (forest n (entered L left) w from (drop from s)) at₀ l₀ at l
+module _ (s : Bytes) (L : ResourceLimits) (first : Skimmed) (n left at₀ : ℕ) (l₀ : Bytes) (k : Skimmed) (more at : ℕ) (l : Bytes) (c : GoesOn s L first n left at₀ l₀ k more at l) where
+  pub on-last : more ≤ 0 → (w : grammar.Where) → first .number ≡ w .number → first .instructions ≡ w .instructions → Below 256 s → PutsForest (forest n (entered L left) w (first .next .at) (drop (first .next .at) s)) at₀ l₀ at l
   unfolding flatten
-  on-last over w p bytes = k .goes w p bytes (last more (let z : more ≡ 0 = omega arith in z))
+  on-last over w e i bytes = c .goes w e i bytes (last more (let z : more ≡ 0 = omega arith in z))
     where
-      last : (more : ℕ) → more ≡ 0 → PutsForest (forest more (entered L left) (further w walked) (walked .next .at) (drop (walked .next .at) s)) at l at l
+      last : (more : ℕ) → more ≡ 0 → PutsForest (forest more (entered L left) (on w k) (k .next .at) (drop (k .next .at) s)) at l at l
       last more z = rw z (record { put = λ ps to rest e. let none : [] ≡ ps = cc in rw (← none) put-nothing })
 
-  module _ (some : 0 < more) (level : 0 < left) (few : walked .number ≤ L .«max_total_prototypes») (o : WalkResult) (at′ : ℕ) (l′ : Bytes)
-      (one : (w : grammar.Where) → againShown first walked ≡ shownWhere w → o ≡ walkResult 0 w (function L (left - 1) w (walked .next .at) (drop (walked .next .at) s)))
-      (its : (w : grammar.Where) → againShown first walked ≡ shownWhere w → Below 256 s → (ps : List Prototype) (to : ℕ) (rest : Bytes) → function L (left - 1) w (walked .next .at) (drop (walked .next .at) s) ≡ ok ps to rest → Put (functionBytes false ps) at l at′ l′) where
-    module _ (later : Walked) (is : o ≡ answer.Ok later) where
-      by-turn : (w : grammar.Where) → forest more (entered L left) (further w walked) (walked .next .at) (drop (walked .next .at) s)
-          ≡ next (entered L left (further w walked) (walked .next .at) (drop (walked .next .at) s)) (λ qs. forest (more - 1) (entered L left) (after qs (further w walked)) >>= λ rs. give (qs ++ rs))
-      by-turn w = let e : more ≡ suc (more - 1) = omega arith in ap (λ k. forest k (entered L left) (further w walked) (walked .next .at) (drop (walked .next .at) s)) e
+  module _ (some : 0 < more) (level : 0 < left) (few : k .number ≤ L .«max_total_prototypes») (o : SkimResult) (at′ : ℕ) (l′ : Bytes)
+      (one : (w : grammar.Where) → k .number ≡ w .number → k .instructions ≡ w .instructions → o ≡ skimResult w (function L (left - 1) w (k .next .at) (drop (k .next .at) s)))
+      (its : (w : grammar.Where) → k .number ≡ w .number → k .instructions ≡ w .instructions → Below 256 s → (ps : List Prototype) (to : ℕ) (rest : Bytes) → function L (left - 1) w (k .next .at) (drop (k .next .at) s) ≡ ok ps to rest → Put (functionBytes false ps) at l at′ l′) where
+    module _ (later : Skimmed) (is : o ≡ skim.Ok later) where
+      by-turn : (w : grammar.Where) → forest more (entered L left) (on w k) (k .next .at) (drop (k .next .at) s)
+          ≡ next (entered L left (on w k) (k .next .at) (drop (k .next .at) s)) (λ qs. forest (more - 1) (entered L left) (after qs (on w k)) >>= λ rs. give (qs ++ rs))
+      by-turn w = let e : more ≡ suc (more - 1) = omega arith in ap (λ m. forest m (entered L left) (on w k) (k .next .at) (drop (k .next .at) s)) e
 
-      module _ (w : grammar.Where) (p : first ≡ shownWhere w) (bytes : Below 256 s) {b : ℕ} {l″ : Bytes}
-          (g : PutsForest (forest (more - 1) (entered L left) (further w (joinedShown walked later)) (later .next .at) (drop (later .next .at) s)) at′ l′ b l″) where
-        read : function L (left - 1) (further w walked) (walked .next .at) (drop (walked .next .at) s) ≡ entered L left (further w walked) (walked .next .at) (drop (walked .next .at) s)
-        read = sym (enters L left (further w walked) (walked .next .at) (drop (walked .next .at) s) level few)
+      module _ (w : grammar.Where) (bytes : Below 256 s) {b : ℕ} {l″ : Bytes} (g : PutsForest (forest (more - 1) (entered L left) (on w later) (later .next .at) (drop (later .next .at) s)) at′ l′ b l″) where
+        read : function L (left - 1) (on w k) (k .next .at) (drop (k .next .at) s) ≡ entered L left (on w k) (k .next .at) (drop (k .next .at) s)
+        read = sym (enters L left (on w k) (k .next .at) (drop (k .next .at) s) level few)
 
-        behind : (qs rs : List Prototype) (mid : ℕ) (t : Bytes) (to : ℕ) (rest : Bytes) → entered L left (further w walked) (walked .next .at) (drop (walked .next .at) s) ≡ ok qs mid t
-            → forest (more - 1) (entered L left) (after qs (further w walked)) mid t ≡ ok rs to rest → Put (flatten (foldr nest [] (qs ++ rs))) at l b l″
+        behind : (qs rs : List Prototype) (mid : ℕ) (t : Bytes) (to : ℕ) (rest : Bytes) → entered L left (on w k) (k .next .at) (drop (k .next .at) s) ≡ ok qs mid t
+            → forest (more - 1) (entered L left) (after qs (on w k)) mid t ≡ ok rs to rest → Put (flatten (foldr nest [] (qs ++ rs))) at l b l″
         behind qs rs mid t to rest e₁ e₂ =
-            let shows : answer.Ok later ≡ walkResult 0 (further w walked) (ok qs mid t) = sym is ∙ one (further w walked) (ap (λ k. againShown k walked) p) ∙ ap (walkResult 0 (further w walked)) (read ∙ e₁) in
-            let all-shown : later ≡ walkedOf 0 (further w walked) qs mid = cc in
-            let here : t ≡ drop mid s = lefts.left (exact-entered L left (further w walked)) s (walked .next .at) e₁ in
-            let alone = entered-single s bytes L left (further w walked) (walked .next .at) .holds e₁ in
-            let reads = ap (λ k. forest (more - 1) (entered L left) (further w (joinedShown walked k)) (k .next .at) (drop (k .next .at) s)) all-shown ∙ ap (forest (more - 1) (entered L left) (after qs (further w walked)) mid) (sym here) ∙ e₂ in
-            put-as (sym (more-bytes qs rs _ _ alone)) (put-then (its (further w walked) (ap (λ k. againShown k walked) p) bytes qs mid t (read ∙ e₁)) (g .put rs to rest reads))
+            let shows : skim.Ok later ≡ skimResult (on w k) (ok qs mid t) = sym is ∙ one (on w k) refl refl ∙ ap (skimResult (on w k)) (read ∙ e₁) in
+            let all-shown : later ≡ record { next = cursorAt mid; number = k .number + length qs; instructions = k .instructions + instructionsOf qs } = cc in
+            let here : t ≡ drop mid s = lefts.left (exact-entered L left (on w k)) s (k .next .at) e₁ in
+            let alone = entered-single s bytes L left (on w k) (k .next .at) .holds e₁ in
+            let reads = ap (λ k. forest (more - 1) (entered L left) (on w k) (k .next .at) (drop (k .next .at) s)) all-shown ∙ ap (forest (more - 1) (entered L left) (after qs (on w k)) mid) (sym here) ∙ e₂ in
+            put-as (sym (more-bytes qs rs _ _ alone)) (put-then (its (on w k) refl refl bytes qs mid t (read ∙ e₁)) (g .put rs to rest reads))
 
-        the-rest : (qs : List Prototype) (mid : ℕ) (t : Bytes) (ps : List Prototype) (to : ℕ) (rest : Bytes) → entered L left (further w walked) (walked .next .at) (drop (walked .next .at) s) ≡ ok qs mid t
-            → (o₂ : Read (List Prototype)) → forest (more - 1) (entered L left) (after qs (further w walked)) mid t ≡ o₂ → next o₂ (λ rs. give (qs ++ rs)) ≡ ok ps to rest → Put (flatten (foldr nest [] ps)) at l b l″
+        the-rest : (qs : List Prototype) (mid : ℕ) (t : Bytes) (ps : List Prototype) (to : ℕ) (rest : Bytes) → entered L left (on w k) (k .next .at) (drop (k .next .at) s) ≡ ok qs mid t
+            → (o₂ : Read (List Prototype)) → forest (more - 1) (entered L left) (after qs (on w k)) mid t ≡ o₂ → next o₂ (λ rs. give (qs ++ rs)) ≡ ok ps to rest → Put (flatten (foldr nest [] ps)) at l b l″
         the-rest qs mid t ps to rest e₁ (refused q) e₂ f = absurd (never f)
         the-rest qs mid t ps to rest e₁ (ok rs to₂ rest₂) e₂ f = let all : qs ++ rs ≡ ps = cc in subst (λ ps. Put (flatten (foldr nest [] ps)) at l b l″) all (behind qs rs mid t to₂ rest₂ e₁ e₂)
 
-        turn : (ps : List Prototype) (to : ℕ) (rest : Bytes) (o₁ : Read (List Prototype)) → entered L left (further w walked) (walked .next .at) (drop (walked .next .at) s) ≡ o₁
-            → next o₁ (λ qs. forest (more - 1) (entered L left) (after qs (further w walked)) >>= λ rs. give (qs ++ rs)) ≡ ok ps to rest → Put (flatten (foldr nest [] ps)) at l b l″
+        turn : (ps : List Prototype) (to : ℕ) (rest : Bytes) (o₁ : Read (List Prototype)) → entered L left (on w k) (k .next .at) (drop (k .next .at) s) ≡ o₁
+            → next o₁ (λ qs. forest (more - 1) (entered L left) (after qs (on w k)) >>= λ rs. give (qs ++ rs)) ≡ ok ps to rest → Put (flatten (foldr nest [] ps)) at l b l″
         turn ps to rest (refused q) e₁ f = absurd (never f)
-        turn ps to rest (ok qs mid t) e₁ f = the-rest qs mid t ps to rest e₁ (forest (more - 1) (entered L left) (after qs (further w walked)) mid t) refl f
+        turn ps to rest (ok qs mid t) e₁ f = the-rest qs mid t ps to rest e₁ (forest (more - 1) (entered L left) (after qs (on w k)) mid t) refl f
 
-      pub on-next : GoesOn s L first n left from at₀ l₀ (joinedShown walked later) (more - 1) at′ l′
-      on-next = record { goes = λ w p bytes g. k .goes w p bytes (record { put = λ ps to rest e. turn w p bytes g ps to rest (entered L left (further w walked) (walked .next .at) (drop (walked .next .at) s)) refl (sym (by-turn w) ∙ e) }) }
+      pub on-next : GoesOn s L first n left at₀ l₀ later (more - 1) at′ l′
+      on-next = record { goes = λ w e i bytes g. c .goes w e i bytes (record { put = λ ps to rest f. turn w bytes g ps to rest (entered L left (on w k) (k .next .at) (drop (k .next .at) s)) refl (sym (by-turn w) ∙ f) }) }

@@ -1,3 +1,4 @@
 pub mod Answers
 pub mod Summaries
+pub mod BeforeMain
 pub mod MainAt

@@ -1,2 +1,2 @@
 pub mod Decoded
-pub mod Loaded
+pub mod Opening

@@ -2,12 +2,8 @@
 pub mod summary;
 
 ghost use mathlib.Core.Path.{_≡_};
-ghost use Prim.Native.Nat.{_≤_};
-ghost use Rattle.format.specs.ReadChunk.{main};
 ghost use Rattle.reader.specs.declared.string.OptionString.the-variants as string;
-ghost use Rattle.decode.specs.Inner.Loaded.{loadedResult};
-use chunk::walk::WalkResult;
-use chunk::walk::Walked;
+ghost use Rattle.decode.specs.Inner.Opening.{beforeMain, opened, openingResult};
 use chunk::walk::Where;
 use cursor::Cursor;
 use format::header::Header;
@@ -16,23 +12,22 @@ use format::refusal::Refusal;
 use header::HeaderResult;
 use header::OptionWarning;
 use header::parse_header_lua54;
-use prototype::row::OptionRow;
 use reader::field::U8Result;
 use reader::field::read_u8;
 use reader::string::OptionString;
-use skim::outer::read_wanted;
 
-// A chunk up to its trailing bytes: what its header shows, the header's warning, where the chunk ends, how many functions it has, and the row of the one that was wanted, if there is one of that number.
-pub struct Loaded {
+// Where main begins, in every chunk that is read.
+pub const MAIN_AT: usize = 32;
+
+// What stands before main: what the header shows, the header's warning, and where main begins.
+pub struct Opening {
     pub header: Header,
     pub warning: OptionWarning,
     pub next: Cursor,
-    pub functions: usize,
-    pub row: OptionRow,
 }
 
-pub enum LoadedResult {
-    Ok(Loaded),
+pub enum OpeningResult {
+    Ok(Opening),
     Err(Refusal),
 }
 
@@ -49,14 +44,13 @@ pub fn outermost() -> Where
     }
 }
 
-// The header, the byte behind it, and main with all that nest in it. Ruled out: a count of functions without main, a warning that is lost.
-pub fn read_main(s: &[u8], limits: ResourceLimits, wanted: usize) -> LoadedResult
-    requires { ⌜ (limits .«max_nesting_depth» ≤ 200) × (limits .«max_total_prototypes» ≤ 16777216) × (limits .«max_total_instructions» ≤ 16777216) ⌝ }
-    ensures { λ r. ⌜ r ≡ loadedResult wanted (main limits 0 (now (s .entry))) ⌝ }
+// The header, and the byte behind it, which is forgotten.
+fn read_before_main(s: &[u8]) -> OpeningResult
+    ensures { λ r. ⌜ r ≡ openingResult (beforeMain 0 (now (s .entry))) ⌝ }
 {
-    let front = parse_header_lua54(s, Cursor { at: 0 });
-    match front {
-        HeaderResult::Err(refusal) => LoadedResult::Err(refusal),
+    let begins = parse_header_lua54(s, Cursor { at: 0 });
+    match begins {
+        HeaderResult::Err(refusal) => OpeningResult::Err(refusal),
         HeaderResult::Ok {
             header: header,
             warning: warning,
@@ -64,45 +58,30 @@ pub fn read_main(s: &[u8], limits: ResourceLimits, wanted: usize) -> LoadedResul
         } => {
             let forgotten = read_u8(s, behind);
             match forgotten {
-                U8Result::Err(refusal) => LoadedResult::Err(refusal),
+                U8Result::Err(refusal) => OpeningResult::Err(refusal),
                 U8Result::Ok {
                     value: _,
                     next: first,
-                } => {
-                    let place = outermost();
-                    let functions = read_wanted(
-                        s,
-                        limits,
-                        place,
-                        limits.max_nesting_depth,
-                        wanted,
-                        first,
-                    );
-                    match functions {
-                        WalkResult::Err(refusal) => LoadedResult::Err(refusal),
-                        WalkResult::Ok(walked) => LoadedResult::Ok(put_together(
-                            header,
-                            warning,
-                            walked,
-                        )),
-                    }
-                }
+                } => OpeningResult::Ok(Opening {
+                    header: header,
+                    warning: warning,
+                    next: first,
+                }),
             }
         }
     }
 }
 
-// What was read, put together.
-fn put_together(header: Header, warning: OptionWarning, walked: Walked) -> Loaded
-    ensures { λ r. ⌜ r ≡ record { header = header; warning = warning; next = walked .next; functions = walked .number; row = walked .row } ⌝ }
+// A chunk up to main, under limits. Ruled out: limits above their ceilings taken, a warning that is lost.
+pub fn open_chunk(s: &[u8], limits: ResourceLimits) -> OpeningResult
+    ensures { λ r. ⌜ r ≡ openingResult (opened limits (now (s .entry))) ⌝ }
 {
-    let next = walked.next;
-    let row = walked.row;
-    Loaded {
-        header: header,
-        warning: warning,
-        next: next,
-        functions: walked.number,
-        row: row,
+    let within = limits.within_ceilings();
+    if !within {
+        return OpeningResult::Err(Refusal::LimitAboveCeiling);
     }
+    if limits.max_input_bytes < s.len() {
+        return OpeningResult::Err(Refusal::InputBytes);
+    }
+    read_before_main(s)
 }

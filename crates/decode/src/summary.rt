@@ -8,10 +8,15 @@ ghost use Rattle.format.specs.declared.header.Warning.the-variants as code;
 ghost use Rattle.format.specs.ReadChunk as format;
 ghost use Rattle.header.specs.declared.OptionWarning.the-variants as option;
 ghost use Rattle.decode.specs.Decoded.{shownWarnings};
-ghost use Rattle.decode.specs.Inner.Decoded.{decodedResult, listOf, decodedShown};
-use crate::Loaded;
-use crate::LoadedResult;
-use crate::read_main;
+ghost use Rattle.decode.specs.Inner.Decoded.{judgedResult, decodedResult, listOf, summaryShown};
+use crate::Opening;
+use crate::OpeningResult;
+use crate::open_chunk;
+use crate::outermost;
+use chunk::spot::SpotResult;
+use chunk::spot::find_function;
+use chunk::spot::row_at;
+use cursor::Cursor;
 use cursor::remaining;
 use format::header::Header;
 use format::header::Warning;
@@ -19,6 +24,9 @@ use format::limits::ResourceLimits;
 use format::refusal::Refusal;
 use header::OptionWarning;
 use prototype::row::OptionRow;
+use skim::walk::SkimResult;
+use skim::walk::Skimmed;
+use skim::walk::skim_function;
 
 // The warnings of a reading, in their order: there are at most two.
 pub struct Warnings {
@@ -42,6 +50,11 @@ pub struct Decoded {
 
 pub enum DecodedResult {
     Ok(Decoded),
+    Err(Refusal),
+}
+
+pub enum JudgedResult {
+    Ok(Summary),
     Err(Refusal),
 }
 
@@ -83,45 +96,100 @@ fn trailing_warning(at: usize, len: usize) -> OptionWarning
     }
 }
 
-// The summary of a chunk that was read up to its trailing bytes.
-fn summarised(s: &[u8], max_diagnostics: usize, loaded: Loaded) -> Decoded
-    ensures { λ r. ⌜ r ≡ decodedShown (now (s .entry)) «max_diagnostics» loaded ⌝ }
+// The summary of a chunk whose functions end at a place.
+fn summarised(
+    s: &[u8],
+    max_diagnostics: usize,
+    opening: Opening,
+    next: Cursor,
+    functions: usize,
+) -> Summary
+    ensures { λ r. ⌜ r ≡ summaryShown (now (s .entry)) «max_diagnostics» opening next functions ⌝ }
 {
-    let next = loaded.next;
     let len = remaining(s, next);
     let trailing = trailing_warning(next.at, len);
-    let of_header = loaded.warning;
+    let of_header = opening.warning;
     let warnings = in_order(max_diagnostics, of_header, trailing);
-    let header = loaded.header;
-    let row = loaded.row;
-    Decoded {
-        summary: Summary {
-            header: header,
-            warnings: warnings,
-            functions: loaded.functions,
-            trailing_at: next.at,
-            trailing_len: len,
-        },
-        row: row,
+    let header = opening.header;
+    Summary {
+        header: header,
+        warnings: warnings,
+        functions: functions,
+        trailing_at: next.at,
+        trailing_len: len,
     }
 }
 
-// Reads a whole chunk under limits. Ruled out: limits above their ceilings taken, trailing bytes that are shown and not warned of.
+// Judges a whole chunk under limits, and shows no function: where it is read, main begins at byte 32 (proofs/MainAt.antt).
+// Ruled out: limits above their ceilings taken, trailing bytes that are shown and not warned of.
+pub fn judge_chunk(s: &[u8], limits: ResourceLimits) -> JudgedResult
+    ensures { λ r. ⌜ r ≡ judgedResult (format.read limits (now (s .entry))) ⌝ }
+{
+    let begins = open_chunk(s, limits);
+    match begins {
+        OpeningResult::Err(refusal) => JudgedResult::Err(refusal),
+        OpeningResult::Ok(opening) => {
+            let first = opening.next;
+            let from = Skimmed {
+                next: first,
+                number: 0,
+                instructions: 0,
+            };
+            let functions = skim_function(s, limits, limits.max_nesting_depth, from);
+            match functions {
+                SkimResult::Err(refusal) => JudgedResult::Err(refusal),
+                SkimResult::Ok(skimmed) => {
+                    let next = skimmed.next;
+                    JudgedResult::Ok(summarised(
+                        s,
+                        limits.max_diagnostics,
+                        opening,
+                        next,
+                        skimmed.number,
+                    ))
+                }
+            }
+        }
+    }
+}
+
+// The same, and the row of the function that is wanted. Ruled out: a count of functions without main.
 pub fn decode_chunk_lua54(s: &[u8], limits: ResourceLimits, wanted: usize) -> DecodedResult
     ensures { λ r. ⌜ r ≡ decodedResult wanted (format.read limits (now (s .entry))) ⌝ }
 {
-    let within = limits.within_ceilings();
-    if !within {
-        return DecodedResult::Err(Refusal::LimitAboveCeiling);
-    }
-    if limits.max_input_bytes < s.len() {
-        return DecodedResult::Err(Refusal::InputBytes);
-    }
-    let main = read_main(s, limits, wanted);
-    match main {
-        LoadedResult::Err(refusal) => DecodedResult::Err(refusal),
-        LoadedResult::Ok(loaded) => {
-            DecodedResult::Ok(summarised(s, limits.max_diagnostics, loaded))
+    let begins = open_chunk(s, limits);
+    match begins {
+        OpeningResult::Err(refusal) => DecodedResult::Err(refusal),
+        OpeningResult::Ok(opening) => {
+            let place = outermost();
+            let first = opening.next;
+            let functions = find_function(
+                s,
+                limits,
+                place,
+                limits.max_nesting_depth,
+                wanted,
+                first,
+            );
+            match functions {
+                SpotResult::Err(refusal) => DecodedResult::Err(refusal),
+                SpotResult::Ok(walked) => {
+                    let next = walked.next;
+                    let spot = walked.spot;
+                    let row = row_at(s, limits, spot);
+                    let summary = summarised(
+                        s,
+                        limits.max_diagnostics,
+                        opening,
+                        next,
+                        walked.number,
+                    );
+                    DecodedResult::Ok(Decoded {
+                        summary: summary,
+                        row: row,
+                    })
+                }
+            }
         }
     }
 }

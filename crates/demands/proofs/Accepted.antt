@@ -36,7 +36,8 @@ use Rattle.copy.specs.declared.whole.CopyAnswer.the-variants as copy-answer
 use Rattle.copy.specs.Copied.{shownLength, shownCopy, copyWritten}
 use Rattle.show_chunk.specs.declared.summary.SummaryAnswer.the-variants as summary-answer
 use Rattle.show_chunk.specs.declared.fields.FieldsAnswer.the-variants as fields-answer
-use Rattle.show_chunk.specs.Summaries.{summaryOf, shownSummary, trailingOf}
+use Rattle.decode.specs.Decoded.{summaryOf}
+use Rattle.show_chunk.specs.Summaries.{shownSummary, trailingOf}
 use Rattle.show_chunk.specs.Fields.{fieldsOf, shownFields}
 use Rattle.show_entry.specs.declared.WordAnswer.the-variants as word-answer
 use Rattle.show_entry.specs.declared.ConstantAnswer.the-variants as constant-answer

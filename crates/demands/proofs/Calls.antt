@@ -54,7 +54,8 @@ use Rattle.show_chunk.specs.declared.summary.SummaryAnswer.the-variants as summ
 use Rattle.show_chunk.specs.declared.fields.FieldsAnswer.the-variants as fields-answer
 use Rattle.show_local.specs.declared.LocalAnswer.the-variants as local-answer
 use Rattle.access.specs.Asked.{found, refused, orRefuse, functionOf, entryOf, entryIn}
-use Rattle.show_chunk.specs.Summaries.{summaryOf, shownSummary, trailingOf}
+use Rattle.decode.specs.Decoded.{summaryOf}
+use Rattle.show_chunk.specs.Summaries.{shownSummary, trailingOf}
 use Rattle.show_chunk.specs.Fields.{fieldsOf, shownFields}
 use Rattle.show_entry.specs.declared.WordAnswer.the-variants as word-answer
 use Rattle.show_entry.specs.declared.ConstantAnswer.the-variants as constant-answer

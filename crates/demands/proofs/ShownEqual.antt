@@ -16,7 +16,7 @@ use Rattle.lists.specs.declared.constant.ConstantValue.{ConstantValue}
 use Rattle.lists.specs.Shown.{constantValue}
 use Rattle.entries.proofs.Strings.{ConstantStands}
 use Rattle.access.specs.Asked.{orRefuse}
-use Rattle.show_chunk.specs.Summaries.{summaryOf}
+use Rattle.decode.specs.Decoded.{summaryOf}
 use Rattle.show_chunk.specs.Fields.{fieldsOf}
 use Rattle.show_entry.specs.Entries.{shownConstant, shownName}
 use Rattle.show_local.specs.Locals.{shownLocal, nameWritten}

@@ -36,7 +36,8 @@ use Rattle.show_chunk.proofs.summary.chunk_summary as call
 use Rattle.show_chunk.proofs.summary.chunk_summary.Symbol as symbol
 use Rattle.show_chunk.proofs.summary.chunk_summary.Met as theorem
 use Rattle.show_chunk.specs.declared.fields.FieldsAnswer.the-variants as fields-answer
-use Rattle.show_chunk.specs.Summaries.{summaryOf, shownSummary, trailingOf}
+use Rattle.decode.specs.Decoded.{summaryOf}
+use Rattle.show_chunk.specs.Summaries.{shownSummary, trailingOf}
 use Rattle.show_chunk.specs.Fields.{fieldsOf, shownFields}
 use Rattle.show_entry.specs.Entries.{shownWord, shownConstant, shownUpvalue, shownDelta, shownAnchor, shownName}
 use Rattle.show_local.specs.Locals.{shownLocal, nameWritten}

@@ -14,9 +14,7 @@ use Rattle.format.specs.declared.refusal.Refusal.{Refusal}
 use Rattle.format.specs.declared.refusal.Refusal.the-variants.{LentSpace}
 use Rattle.format.specs.Form.{Bytes}
 use Rattle.format.specs.Reading.{Reading}
-use Rattle.format.specs.ReadChunk.{Outcome, shown, refusal, read}
-use Rattle.decode.specs.declared.summary.DecodedResult.the-variants as decoded
-use Rattle.decode.specs.Inner.Decoded.{decodedResult}
+use Rattle.format.specs.ReadChunk.{shown, refusal, read}
 use Rattle.rules.specs.Findings.{MAX-DIAGNOSTICS, Listing, chunkFindings, verdict}
 use Rattle.validator.specs.Inner.Position.{outOf}
 use Rattle.validator.specs.Inner.Totals.{tallied, verdictShown}
@@ -29,10 +27,6 @@ use Rattle.lent.specs.Over.{over}
 use Rattle.finding_plan.specs.Validated.{listingAnswer, shownFindings, findingsWritten}
 use Rattle.finding_plan.specs.Inner.Found.{foundIn}
 use Rattle.finding_plan.specs.Inner.Plan.{refusedPlan, planOf, written, Planned}
-
-pub was-refused : (o : Outcome) (q : Refusal) → decoded.Err q ≡ decodedResult 0 o → o ≡ refusal q
-was-refused (shown r) q e = absurd (let z : _≡_ {A = ℕ} 0 1 = cc in omega arith)
-was-refused (refusal p) q e = cc
 
 module _ (L : ResourceLimits) (s : Bytes) (room : ℕ) (start : Position) where
   pub plan-refused : (q : Refusal) → read L s ≡ refusal q → Planned L s room (refusedPlan q start)

@@ -6,11 +6,11 @@ ghost use Rattle.rules.specs.Findings.{MAX-DIAGNOSTICS};
 ghost use Rattle.validator.specs.Inner.Position.{outOf, stepped, startPosition};
 ghost use Rattle.finding_plan.specs.Inner.Plan.{planOf, refusedPlan, Planned};
 use cursor::Cursor;
-use decode::summary::DecodedResult;
-use decode::summary::decode_chunk_lua54;
+use decode::MAIN_AT;
+use decode::summary::JudgedResult;
+use decode::summary::judge_chunk;
 use format::limits::ResourceLimits;
 use format::refusal::Refusal;
-use prototype::row::OptionRow;
 use rules::finding::Verdict;
 use validator::search::Position;
 use validator::search::Step;
@@ -71,21 +71,12 @@ fn decide(s: &[u8], limits: ResourceLimits, room: usize, place: Cursor, kept: u6
 pub fn prepare(s: &[u8], limits: ResourceLimits, room: usize) -> Plan
     ensures { λ r. ⌜ Planned limits (now (s .entry)) room r ⌝ }
 {
-    let decoded = decode_chunk_lua54(s, limits, 0);
-    match decoded {
-        DecodedResult::Err(refusal) => refused(refusal),
-        DecodedResult::Ok(chunk) => {
-            let summary = chunk.summary;
+    let judged = judge_chunk(s, limits);
+    match judged {
+        JudgedResult::Err(refusal) => refused(refusal),
+        JudgedResult::Ok(summary) => {
             let kept = kept_count(summary);
-            let main = chunk.row;
-            match main {
-                // Never: a chunk that is read has main.
-                OptionRow::None => refused(Refusal::NoFunction),
-                OptionRow::Some(row) => {
-                    let place = Cursor { at: row.start };
-                    decide(s, limits, room, place, kept)
-                }
-            }
+            decide(s, limits, room, Cursor { at: MAIN_AT }, kept)
         }
     }
 }

@@ -1,7 +1,6 @@
 -- The index of a whole chunk, in the code's terms: by what the first pass showed.
 --     refused-index        a refusal of the first pass
 --     no-room              the space is too short
---     main-there           there is a function: main
 --     index-written        the second pass has written the index
 -- Assumes nothing.
 use mathlib.Core.Path.{_≡_, refl, sym, _∙_, ap}
@@ -18,30 +17,15 @@ use Rattle.format.specs.declared.refusal.Refusal.{Refusal}
 use Rattle.format.specs.declared.refusal.Refusal.the-variants.{LentSpace}
 use Rattle.format.specs.Form.{Bytes}
 use Rattle.format.specs.Reading.{Prototype, Reading}
-use Rattle.format.specs.GrammarChunk.{outermost, Loaded, Chunk}
-use Rattle.format.specs.Read.{Read, ok, refused, Reader, next, give}
-use Rattle.format.specs.ReadFields.{byte}
-use Rattle.format.specs.GrammarHeader.{Headed}
-use Rattle.format.specs.ReadHeader.{header}
-use Rattle.format.specs.ReadChunk.{forest, function, main, Outcome, shown, refusal, read}
-use Rattle.format.proofs.Exact.{never}
-use Rattle.format.proofs.ExactFields.{exact-field}
-use Rattle.format.proofs.ExactHeader.{exact-header}
+use Rattle.format.specs.GrammarChunk.{outermost, Chunk}
+use Rattle.format.specs.ReadChunk.{function, main, Outcome, shown, read}
 use Rattle.format.proofs.ExactChunk.{exact-main}
-use Rattle.format.proofs.Left.{left}
 use Rattle.format.proofs.ReadChunkLaws.{read-sound, read-within}
-use Rattle.prototype.specs.declared.row.OptionRow.the-variants as option
-use Rattle.prototype.specs.declared.row.FunctionRow.{FunctionRow}
-use Rattle.prototype.specs.Inner.Row.{rowOf, shownRow, lookup}
-use Rattle.prototype.specs.Parts.{Head, head, Tail, tail}
-use Rattle.prototype.specs.Inner.Whole.{prototypeOf, inside}
-use Rattle.chunk.specs.Inner.Walk.{shownWhere, entered}
-use Rattle.chunk.proofs.Functions.{by-parts}
-use Rattle.decode.specs.declared.summary.Decoded.{Decoded}
-use Rattle.decode.specs.declared.summary.DecodedResult.the-variants as decoded
-use Rattle.decode.specs.Inner.Decoded.{shownReading, decodedResult}
+use Rattle.decode.specs.declared.summary.Summary.{Summary}
+use Rattle.decode.specs.declared.summary.JudgedResult.the-variants as judged
+use Rattle.decode.specs.Inner.Decoded.{judgedResult}
 use Rattle.decode.proofs.Summaries.{in-ceilings, input-ceiling}
-use Rattle.decode.proofs.MainAt.{WasShown, was-shown, First, first-of, MainAt, main-at}
+use Rattle.decode.proofs.MainAt.{WasShown, was-shown, was-refused, MainAt, main-at}
 use Rattle.index.specs.declared.IndexAnswer.the-variants as answer
 use Rattle.index.specs.Index.{index, shownIndex, indexWritten}
 use Rattle.lent.specs.Inner.Splice.{splice}
@@ -54,9 +38,8 @@ index-length [] = refl
 index-length (p ∷ ps) = let more = index-length ps in omega arith
 
 -- ## By the first pass
-pub refused-index : (old : List ℕ) (o : Outcome) (q : Refusal) → decoded.Err q ≡ decodedResult 0 o → (answer.Err q ≡ shownIndex (length old) o) × (old ≡ indexWritten old o)
-refused-index old (shown r) q e = absurd (let z : _≡_ {A = ℕ} 0 1 = cc in omega arith)
-refused-index old (refusal p) q e = (let same : q ≡ p = cc in ap answer.Err same, refl)
+pub refused-index : (old : List ℕ) (o : Outcome) (q : Refusal) → judged.Err q ≡ judgedResult o → (answer.Err q ≡ shownIndex (length old) o) × (old ≡ indexWritten old o)
+refused-index old o q e = let is = was-refused o q e in (sym (ap (shownIndex (length old)) is), sym (ap (indexWritten old) is))
 
 -- 12 numbers for each function have room where a twelfth of the space is at least the number of functions
 short-space : (space n : ℕ) → space / 12 < n → space < 12 * n
@@ -65,12 +48,12 @@ short-space space n h = omega arith
 long-space : (space n : ℕ) → n ≤ space / 12 → 12 * n ≤ space
 long-space space n h = omega arith
 
-module _ (old : List ℕ) (o : Outcome) (d : Decoded) (e : decoded.Ok d ≡ decodedResult 0 o) where
+module _ (old : List ℕ) (o : Outcome) (d : Summary) (e : judged.Ok d ≡ judgedResult o) where
   abbrev functions : List Prototype
   functions = was-shown o d e .value .functions
 
-  count : d .summary .functions ≡ length functions
-  count = ap (λ k. k .summary .functions) (was-shown o d e .shows)
+  count : d .functions ≡ length functions
+  count = ap (λ k. k .functions) (was-shown o d e .shows)
 
   by-test : (b : Bool) → leb (length (index functions)) (length old) ≡ b
       → (shownIndex (length old) o ≡ cond b (answer.Ok (length functions)) (answer.Err LentSpace)) × (indexWritten old o ≡ cond b (index functions ++ drop (length (index functions)) old) old)
@@ -79,7 +62,7 @@ module _ (old : List ℕ) (o : Outcome) (d : Decoded) (e : decoded.Ok d ≡ deco
     ap (indexWritten old) (was-shown o d e .is) ∙ ap (λ b. cond b (index functions ++ drop (length (index functions)) old) old) t,
   )
 
-  pub no-room : length old / 12 < d .summary .functions → (answer.Err LentSpace ≡ shownIndex (length old) o) × (old ≡ indexWritten old o)
+  pub no-room : length old / 12 < d .functions → (answer.Err LentSpace ≡ shownIndex (length old) o) × (old ≡ indexWritten old o)
   no-room h =
       let size = index-length functions in
       let number = count in
@@ -87,11 +70,11 @@ module _ (old : List ℕ) (o : Outcome) (d : Decoded) (e : decoded.Ok d ≡ deco
       let both = by-test false (lt-leb (length (index functions)) (length old) (omega arith)) in
       (sym (both .0), sym (both .1))
 
-  module _ (h : d .summary .functions ≤ length old / 12) where
+  module _ (h : d .functions ≤ length old / 12) where
     fits : 12 * length functions ≤ length old
     fits = let number = count in long-space (length old) (length functions) (rw (← number) h)
 
-    room : (new : List ℕ) → new ≡ index functions ++ drop (length (index functions)) old → (answer.Ok (d .summary .functions) ≡ shownIndex (length old) o) × (new ≡ indexWritten old o)
+    room : (new : List ℕ) → new ≡ index functions ++ drop (length (index functions)) old → (answer.Ok (d .functions) ≡ shownIndex (length old) o) × (new ≡ indexWritten old o)
     room new e =
         let size = index-length functions in
         let enough = fits in
@@ -99,7 +82,7 @@ module _ (old : List ℕ) (o : Outcome) (d : Decoded) (e : decoded.Ok d ≡ deco
         (ap answer.Ok count ∙ sym (both .0), e ∙ sym (both .1))
 
 -- ## The second pass
-module _ (old : List ℕ) (L : ResourceLimits) (s : Bytes) (d : Decoded) (e : decoded.Ok d ≡ decodedResult 0 (read L s)) where
+module _ (old : List ℕ) (L : ResourceLimits) (s : Bytes) (d : Summary) (e : judged.Ok d ≡ judgedResult (read L s)) where
   abbrev all-functions : List Prototype
   all-functions = functions old (read L s) d e
 
@@ -127,26 +110,13 @@ module _ (old : List ℕ) (L : ResourceLimits) (s : Bytes) (d : Decoded) (e : de
   main-place : MainAt L s all-functions
   main-place = rw (← those) (main-at L s (ap (main L 0) (chunk .whole) ∙ exact-main L .complete (chunk .trailing) (chunk .main)))
 
-  main-first : First (main-place .at) all-functions
-  main-first = first-of L (L .«max_nesting_depth») (main-place .at) s (main-place .reads)
-
-  main-row : d .row ≡ option.Some (rowOf (main-first .this))
-  main-row = ap (λ k. k .row) (was-shown (read L s) d e .shows) ∙ ap (λ ps. shownRow (lookup 0 0 ps)) (main-first .all)
-
-  pub main-there : {A : Type 0} → d .row ≡ option.None → A
-  main-there e = absurd (let r = main-row in let z : _≡_ {A = ℕ} 0 1 = cc in omega arith)
-
-  module _ (enough : d .summary .functions ≤ length old / 12) (row : FunctionRow) (found : d .row ≡ option.Some row) (new : List ℕ)
-      (wrote : Wrote outermost (function L (L .«max_nesting_depth») outermost (row .start) (drop (row .start) s)) old new) where
-    begins : main-place .at ≡ row .start
-    begins = let r = main-row in let same : row ≡ rowOf (main-first .this) = cc in sym (ap (λ k. k .start) same ∙ main-first .begins)
-
+  module _ (enough : d .functions ≤ length old / 12) (new : List ℕ) (wrote : Wrote outermost (function L (L .«max_nesting_depth») outermost 32 (drop 32 s)) old new) where
     stands-there : new ≡ index all-functions ++ drop (length (index all-functions)) old
     unfolding splice
     stands-there =
-        wrote .wrote all-functions (main-place .to) (main-place .rest) (sym (ap (λ at. function L (L .«max_nesting_depth») outermost at (drop at s)) begins) ∙ main-place .reads) (let more = fits old (read L s) d e enough in omega arith)
+        wrote .wrote all-functions (main-place .to) (main-place .rest) (main-place .reads) (let more = fits old (read L s) d e enough in omega arith)
         ∙ ap (λ xs. xs ++ drop (0 + length xs) old) as-index
         ∙ ap (λ n. index all-functions ++ drop n old) (zero-add (length (index all-functions)))
 
-    pub index-written : (answer.Ok (d .summary .functions) ≡ shownIndex (length old) (read L s)) × (new ≡ indexWritten old (read L s))
+    pub index-written : (answer.Ok (d .functions) ≡ shownIndex (length old) (read L s)) × (new ≡ indexWritten old (read L s))
     index-written = room old (read L s) d e enough new stands-there

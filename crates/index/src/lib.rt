@@ -4,13 +4,13 @@ ghost use lib.ListN.{length};
 ghost use Rattle.format.specs.ReadChunk as format;
 ghost use Rattle.index.specs.Index.{shownIndex, indexWritten};
 use cursor::Cursor;
+use decode::MAIN_AT;
 use decode::outermost;
-use decode::summary::DecodedResult;
-use decode::summary::decode_chunk_lua54;
+use decode::summary::JudgedResult;
+use decode::summary::judge_chunk;
 use format::limits::ResourceLimits;
 use format::refusal::Refusal;
 use index_walk::write_function;
-use prototype::row::OptionRow;
 
 // The number of functions, or why there is no index.
 pub enum IndexAnswer {
@@ -24,25 +24,18 @@ pub fn function_index(s: &[u8], limits: ResourceLimits, rows: &mut [u32]) -> Ind
     ensures { λ r. ⌜ r ≡ shownIndex (length (now (rows .entry))) (format.read limits (now (s .entry))) ⌝ }
     ensures { λ _. ⌜ now (rows .exit) ≡ indexWritten (now (rows .entry)) (format.read limits (now (s .entry))) ⌝ }
 {
-    let judged = decode_chunk_lua54(s, limits, 0);
+    let judged = judge_chunk(s, limits);
     match judged {
-        DecodedResult::Err(refusal) => IndexAnswer::Err(refusal),
-        DecodedResult::Ok(decoded) => {
-            let functions = decoded.summary.functions;
+        JudgedResult::Err(refusal) => IndexAnswer::Err(refusal),
+        JudgedResult::Ok(summary) => {
+            let functions = summary.functions;
             if rows.len() / 12 < functions {
                 return IndexAnswer::Err(Refusal::LentSpace);
             }
-            let main = decoded.row;
-            match main {
-                // Never: a chunk that is read has main.
-                OptionRow::None => IndexAnswer::Ok(functions),
-                OptionRow::Some(row) => {
-                    let place = outermost();
-                    let first = Cursor { at: row.start };
-                    write_function(s, limits, place, limits.max_nesting_depth, first, rows);
-                    IndexAnswer::Ok(functions)
-                }
-            }
+            let place = outermost();
+            let first = Cursor { at: MAIN_AT };
+            write_function(s, limits, place, limits.max_nesting_depth, first, rows);
+            IndexAnswer::Ok(functions)
         }
     }
 }

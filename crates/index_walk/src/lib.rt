@@ -24,7 +24,7 @@ use prototype::parts::read_head;
 use prototype::parts::read_tail;
 use prototype::row::OptionRow;
 
-// Reads a function and all that nest in it, as `read_function` does for main's row, and writes the row of each. Ruled out: rows in the order in which functions end, a row left out.
+// Reads a function and all that nest in it, as `find_function` does, and writes the row of each. Ruled out: rows in the order in which functions end, a row left out.
 pub fn write_function(
     s: &[u8],
     limits: ResourceLimits,

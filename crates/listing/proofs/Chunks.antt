@@ -10,11 +10,10 @@ use Rattle.format.specs.declared.refusal.Refusal.{Refusal}
 use Rattle.format.specs.Form.{Bytes}
 use Rattle.format.specs.Reading.{Prototype, Reading}
 use Rattle.format.specs.ReadChunk.{Outcome, shown, refusal, read}
-use Rattle.prototype.specs.declared.row.OptionRow.the-variants as option
-use Rattle.prototype.specs.declared.row.FunctionRow.{FunctionRow}
-use Rattle.decode.specs.declared.summary.Decoded.{Decoded}
-use Rattle.decode.specs.declared.summary.DecodedResult.the-variants as decoded
-use Rattle.decode.specs.Inner.Decoded.{decodedResult}
+use Rattle.decode.specs.declared.summary.Summary.{Summary}
+use Rattle.decode.specs.declared.summary.JudgedResult.the-variants as judged
+use Rattle.decode.specs.Inner.Decoded.{judgedResult}
+use Rattle.decode.proofs.MainAt.{was-refused}
 use Rattle.functions.specs.Inner.Rows.{chunkRows}
 use Rattle.functions.proofs.Agreement.{rowsFor}
 use Rattle.rules.specs.declared.finding.Verdict.{Verdict}
@@ -39,9 +38,8 @@ read-listed bytes (shown r) v e = let same : v ≡ verdict (chunkFindings r) = c
 read-listed bytes (refusal q) v e = absurd (let z : _≡_ {A = ℕ} 0 1 = cc in omega arith)
 
 -- ## By what the first pass showed
-pub refused-lines : (bytes : ℕ) (v : Verdict) (o : Outcome) (q : Refusal) → decoded.Err q ≡ decodedResult 0 o → [] ≡ linesOf bytes v o
-refused-lines bytes v (shown r) q e = absurd (let z : _≡_ {A = ℕ} 0 1 = cc in omega arith)
-refused-lines bytes v (refusal p) q e = refl
+pub refused-lines : (bytes : ℕ) (v : Verdict) (o : Outcome) (q : Refusal) → judged.Err q ≡ judgedResult o → [] ≡ linesOf bytes v o
+refused-lines bytes v o q e = sym (ap (linesOf bytes v) (was-refused o q e))
 
 row-lines : (k : ℕ) (ps : List Prototype) → rowLines k (rowsFor ps) ≡ functionLines k ps
 unfolding rowLine
@@ -52,16 +50,16 @@ as-many : (ps : List Prototype) → length (rowsFor ps) ≡ length ps
 as-many [] = refl
 as-many (p ∷ ps) = rw (as-many ps)
 
-module _ (L : ResourceLimits) (s : Bytes) (d : Decoded) (e : decoded.Ok d ≡ decodedResult 0 (read L s)) (row : FunctionRow) (found : d .row ≡ option.Some row) where
-  pub all-counted : length (chunkRows L s (row .start)) ≡ d .summary .functions
-  all-counted = ap length (rows-shown L s d e row found) ∙ as-many (r L s d e .functions) ∙ sym (ap (λ k. k .summary .functions) (shows L s d e))
+module _ (L : ResourceLimits) (s : Bytes) (d : Summary) (e : judged.Ok d ≡ judgedResult (read L s)) where
+  pub all-counted : length (chunkRows L s 32) ≡ d .functions
+  all-counted = ap length (rows-shown L s d e) ∙ as-many (r L s d e .functions) ∙ sym (ap (λ k. k .functions) (shows L s d e))
 
-  lines-are : (v : Verdict) → firstLine (length s) (d .summary .functions) (d .summary .«trailing_len») v ++ rowLines 0 (chunkRows L s (row .start)) ≡ linesOf (length s) v (read L s)
+  lines-are : (v : Verdict) → firstLine (length s) (d .functions) (d .«trailing_len») v ++ rowLines 0 (chunkRows L s 32) ≡ linesOf (length s) v (read L s)
   lines-are v =
-      ap (λ k. firstLine (length s) (k .summary .functions) (k .summary .«trailing_len») v ++ rowLines 0 (chunkRows L s (row .start))) (shows L s d e)
-      ∙ ap (λ l. firstLine (length s) (length (r L s d e .functions)) (length (r L s d e .trailing)) v ++ l) (ap (rowLines 0) (rows-shown L s d e row found) ∙ row-lines 0 (r L s d e .functions))
+      ap (λ k. firstLine (length s) (k .functions) (k .«trailing_len») v ++ rowLines 0 (chunkRows L s 32)) (shows L s d e)
+      ∙ ap (λ l. firstLine (length s) (length (r L s d e .functions)) (length (r L s d e .trailing)) v ++ l) (ap (rowLines 0) (rows-shown L s d e) ∙ row-lines 0 (r L s d e .functions))
       ∙ sym (ap (linesOf (length s) v) (was L s d e))
 
-  pub chunk-put : (v : Verdict) (w : Waiting) {w₁ w₂ : Waiting} → w₁ ≡ puts (firstLine (length s) (d .summary .functions) (d .summary .«trailing_len») v) w
-      → w₂ ≡ puts (rowLines 0 (chunkRows L s (row .start))) w₁ → w₂ ≡ puts (linesOf (length s) v (read L s)) w
-  chunk-put v w {w₁} {w₂} a b = then (firstLine (length s) (d .summary .functions) (d .summary .«trailing_len») v) _ w a b ∙ ap (λ l. puts l w) (lines-are v)
+  pub chunk-put : (v : Verdict) (w : Waiting) {w₁ w₂ : Waiting} → w₁ ≡ puts (firstLine (length s) (d .functions) (d .«trailing_len») v) w
+      → w₂ ≡ puts (rowLines 0 (chunkRows L s 32)) w₁ → w₂ ≡ puts (linesOf (length s) v (read L s)) w
+  chunk-put v w {w₁} {w₂} a b = then (firstLine (length s) (d .functions) (d .«trailing_len») v) _ w a b ∙ ap (λ l. puts l w) (lines-are v)

@@ -10,8 +10,9 @@ ghost use Rattle.functions.specs.Inner.Rows.{chunkRows};
 ghost use Rattle.listing.specs.Listing as listings;
 ghost use Rattle.listing.specs.Inner.Rows.{linesOf, rowLines};
 use cursor::Cursor;
-use decode::summary::DecodedResult;
-use decode::summary::decode_chunk_lua54;
+use decode::MAIN_AT;
+use decode::summary::JudgedResult;
+use decode::summary::judge_chunk;
 use format::limits::ResourceLimits;
 use functions::Met;
 use functions::next_function;
@@ -19,7 +20,6 @@ use listing_text::first_line;
 use listing_text::function_line;
 use listing_text::refusal_line;
 use print::Out;
-use prototype::row::OptionRow;
 use rules::finding::Verdict;
 use validator::verdict::VerdictAnswer;
 use validator::verdict::chunk_verdict;
@@ -103,22 +103,15 @@ fn chunk_lines(
     ensures { λ r. ⌜ r < 65536 ⌝ }
     ensures { λ r. ⌜ waiting (now (out .exit)) r ≡ puts (linesOf (length (now (s .entry))) verdict (read limits (now (s .entry)))) (waiting (now (out .entry)) used) ⌝ }
 {
-    let decoded = decode_chunk_lua54(s, limits, 0);
-    match decoded {
+    let judged = judge_chunk(s, limits);
+    match judged {
         // Never: it was read for the verdict.
-        DecodedResult::Err(_) => used,
-        DecodedResult::Ok(chunk) => {
-            let n = chunk.summary.functions;
-            let used = first_line(out, used, s.len(), n, chunk.summary.trailing_len, verdict);
-            let main = chunk.row;
-            match main {
-                // Never: a chunk that is read has main.
-                OptionRow::None => used,
-                OptionRow::Some(row) => {
-                    let start = Cursor { at: row.start };
-                    function_lines(s, limits, start, n, out, used)
-                }
-            }
+        JudgedResult::Err(_) => used,
+        JudgedResult::Ok(summary) => {
+            let n = summary.functions;
+            let used = first_line(out, used, s.len(), n, summary.trailing_len, verdict);
+            let start = Cursor { at: MAIN_AT };
+            function_lines(s, limits, start, n, out, used)
         }
     }
 }

@@ -1,23 +1,10 @@
 -- What is shown of a chunk as a whole.
 use mathlib.Core.List.{[]}
-use Prim.Native.Nat.{ℕ}
-use lib.ListN.{length}
 use Rattle.format.specs.Form.{Bytes}
-use Rattle.format.specs.Reading.{Reading}
 use Rattle.format.specs.ReadChunk.{Outcome, shown, refusal}
-use Rattle.decode.specs.declared.summary.Summary.{Summary}
-use Rattle.decode.specs.Decoded.{shownWarnings}
+use Rattle.decode.specs.Decoded.{summaryOf}
 use Rattle.show_chunk.specs.declared.summary.SummaryAnswer.{SummaryAnswer}
 use Rattle.show_chunk.specs.declared.summary.SummaryAnswer.the-variants as answer
-
-abbrev pub summaryOf : Reading → Summary
-summaryOf r = record {
-  header = r .header;
-  warnings = shownWarnings (r .warnings);
-  functions = length (r .functions);
-  «trailing_at» = r .trailing-at;
-  «trailing_len» = length (r .trailing);
-}
 
 abbrev pub shownSummary : Outcome → SummaryAnswer
 shownSummary (shown r) = answer.Ok (summaryOf r)

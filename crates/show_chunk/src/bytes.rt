@@ -5,8 +5,8 @@ ghost use Rattle.format.specs.ReadChunk.{read};
 ghost use Rattle.show_chunk.specs.Summaries.{trailingOf};
 use access::bytes::bytes_at;
 use access::bytes::bytes_from;
-use decode::summary::DecodedResult;
-use decode::summary::decode_chunk_lua54;
+use decode::summary::JudgedResult;
+use decode::summary::judge_chunk;
 use format::limits::ResourceLimits;
 
 // The bytes of a string by its place and length. Where the chunk does not reach so far they are those that are there: 01 leaves that answer free.
@@ -22,12 +22,9 @@ pub fn string_bytes(s: &[u8], place: usize, len: usize) -> &[u8]
 pub fn trailing_bytes(s: &[u8], limits: ResourceLimits) -> &[u8]
     ensures { λ r. ⌜ now r ≡ trailingOf (read limits (now (s .entry))) ⌝ }
 {
-    let decoded = decode_chunk_lua54(s, limits, 0);
-    match decoded {
-        DecodedResult::Err(_) => bytes_from(s, s.len()),
-        DecodedResult::Ok(chunk) => {
-            let summary = chunk.summary;
-            bytes_from(s, summary.trailing_at)
-        }
+    let judged = judge_chunk(s, limits);
+    match judged {
+        JudgedResult::Err(_) => bytes_from(s, s.len()),
+        JudgedResult::Ok(summary) => bytes_from(s, summary.trailing_at),
     }
 }

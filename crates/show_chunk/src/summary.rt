@@ -2,9 +2,9 @@
 ghost use mathlib.Core.Path.{_≡_};
 ghost use Rattle.format.specs.ReadChunk.{read};
 ghost use Rattle.show_chunk.specs.Summaries.{shownSummary};
-use decode::summary::DecodedResult;
+use decode::summary::JudgedResult;
 use decode::summary::Summary;
-use decode::summary::decode_chunk_lua54;
+use decode::summary::judge_chunk;
 use format::limits::ResourceLimits;
 use format::refusal::Refusal;
 
@@ -18,12 +18,9 @@ pub enum SummaryAnswer {
 pub fn chunk_summary(s: &[u8], limits: ResourceLimits) -> SummaryAnswer
     ensures { λ r. ⌜ r ≡ shownSummary (read limits (now (s .entry))) ⌝ }
 {
-    let decoded = decode_chunk_lua54(s, limits, 0);
-    match decoded {
-        DecodedResult::Err(refusal) => SummaryAnswer::Err(refusal),
-        DecodedResult::Ok(chunk) => {
-            let summary = chunk.summary;
-            SummaryAnswer::Ok(summary)
-        }
+    let judged = judge_chunk(s, limits);
+    match judged {
+        JudgedResult::Err(refusal) => SummaryAnswer::Err(refusal),
+        JudgedResult::Ok(summary) => SummaryAnswer::Ok(summary),
     }
 }

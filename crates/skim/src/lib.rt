@@ -1,3 +1,2 @@
-// A chunk's functions judged and counted in a walk that keeps no row: what is left to do for functions whose rows nobody wants.
-pub mod outer;
+// The walk that judges a chunk's functions: it counts them, and keeps no row.
 pub mod walk;

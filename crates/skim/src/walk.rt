@@ -1,4 +1,4 @@
-// The walk: as that of `chunk`, without rows, sources, depths and parents.
+// The walk: one pass that judges the functions, without rows, sources, depths and parents.
 ghost use mathlib.Core.Path.{_≡_};
 ghost use Prim.Native.Nat.{_≤_};
 ghost use lib.ListN.{drop};

@@ -16,15 +16,13 @@ use Rattle.format.specs.ReadChunk.{function, main, outcome, Outcome, shown, ref
 use Rattle.format.proofs.Every.{All}
 use Rattle.format.proofs.Located.{Located, all-located}
 use Rattle.format.proofs.ReadChunkLaws.{read-sound, main-complete, read-within}
-use Rattle.prototype.specs.declared.row.OptionRow.the-variants as option
-use Rattle.prototype.specs.declared.row.FunctionRow.{FunctionRow}
-use Rattle.prototype.specs.Inner.Row.{rowOf, shownRow, lookup}
-use Rattle.decode.specs.declared.summary.Decoded.{Decoded}
-use Rattle.decode.specs.declared.summary.DecodedResult.the-variants as decoded
-use Rattle.decode.specs.Decoded.{shownWarnings}
-use Rattle.decode.specs.Inner.Decoded.{shownReading, decodedResult}
+use Rattle.decode.specs.declared.summary.Summary.{Summary}
+use Rattle.decode.specs.declared.summary.JudgedResult.the-variants as judged
+use Rattle.decode.specs.Decoded.{shownWarnings, summaryOf}
+use Rattle.decode.specs.Inner.Decoded.{judgedResult}
 use Rattle.decode.proofs.Summaries.{in-ceilings}
-use Rattle.decode.proofs.MainAt.{WasShown, was-shown, First, first-of, MainAt, main-at, two-warnings}
+use Rattle.decode.proofs.MainAt as main-at
+use Rattle.decode.proofs.MainAt.{WasShown, was-shown, was-refused, MainAt, two-warnings}
 use Rattle.validator.specs.declared.verdict.TotalsResult.the-variants as totals
 use Rattle.rules.specs.Findings.{MAX-DIAGNOSTICS, chunkFindings}
 use Rattle.validator.specs.Inner.Position.{outOf, startPosition}
@@ -40,9 +38,8 @@ use Rattle.functions.specs.Inner.Rows.{chunkRows}
 use Rattle.functions.proofs.Agreement.{rowsFor, all-rows}
 use Rattle.validator.proofs.Whole.{whole}
 
-pub totals-refused : (o : Outcome) (q : Refusal) → decoded.Err q ≡ decodedResult 0 o → totals.Err q ≡ totalsResult o
-totals-refused (shown r) q e = absurd (let z : _≡_ {A = ℕ} 0 1 = cc in omega arith)
-totals-refused (refusal p) q e = cc
+pub totals-refused : (o : Outcome) (q : Refusal) → judged.Err q ≡ judgedResult o → totals.Err q ≡ totalsResult o
+totals-refused o q e = sym (ap totalsResult (was-refused o q e))
 
 kept-all : (ws : List Warning) → length ws ≤ 2 → warningCount (shownWarnings ws) ≡ length ws
 kept-all [] h = refl
@@ -59,7 +56,7 @@ record Known (L : ResourceLimits) (s : Bytes) (r : Reading) : Type 0 where
 known-from : (L : ResourceLimits) (s : Bytes) (r : Reading) (o : Read Loaded) → main L 0 s ≡ o → outcome L o ≡ shown r → Known L s r
 known-from L s r (ok m to rest) e p =
     let shows : reading L m to rest ≡ r = cc in
-    rw (← shows) (record { located = all-located L s e; main = main-at L s e; warnings = two-warnings L s e (L .«max_diagnostics») })
+    rw (← shows) (record { located = all-located L s e; main = main-at.main-at L s e; warnings = two-warnings L s e (L .«max_diagnostics») })
 known-from L s r (refused q) e p = absurd (let z : _≡_ {A = ℕ} 0 1 = cc in omega arith)
 
 known-of : (L : ResourceLimits) (s : Bytes) (r : Reading) → read L s ≡ shown r → Known L s r
@@ -67,20 +64,18 @@ known-of L s r was = known-from L s r (main L 0 s) refl (main-complete L s r (re
 
 -- main is among the functions of every chunk that is read
 pub main-first : (L : ResourceLimits) (s : Bytes) (r : Reading) → read L s ≡ shown r → 0 < length (r .functions)
-main-first L s r was =
-    let k = known-of L s r was in
-    rw (first-of L (L .«max_nesting_depth») (k .main .at) s (k .main .reads) .all) (omega arith)
+main-first L s r was = main-at.main-first (known-of L s r was .main)
 
 -- THE FINDINGS ARE THE RUST'S, of every chunk that is read: its list and its flag
 pub findings-are : (L : ResourceLimits) (s : Bytes) (r : Reading) → read L s ≡ shown r → validate r ≡ chunkFindings r
 findings-are L s r was = validate-is r (main-first L s r was)
 
-module _ (L : ResourceLimits) (s : Bytes) (d : Decoded) (e : decoded.Ok d ≡ decodedResult 0 (read L s)) where
+module _ (L : ResourceLimits) (s : Bytes) (d : Summary) (e : judged.Ok d ≡ judgedResult (read L s)) where
   -- the reading
   abbrev pub r : Reading
   r = was-shown (read L s) d e .value
 
-  pub shows : d ≡ shownReading 0 r
+  pub shows : d ≡ summaryOf r
   shows = was-shown (read L s) d e .shows
 
   pub was : read L s ≡ shown r
@@ -95,35 +90,20 @@ module _ (L : ResourceLimits) (s : Bytes) (d : Decoded) (e : decoded.Ok d ≡ de
   pub few-instructions : L .«max_total_instructions» ≤ 16777216
   few-instructions = limits .2
 
-  first : First (known .main .at) (r .functions)
-  first = first-of L (L .«max_nesting_depth») (known .main .at) s (known .main .reads)
-
-  main-row : d .row ≡ option.Some (rowOf (first .this))
-  main-row = ap (λ k. k .row) shows ∙ ap (λ ps. shownRow (lookup 0 0 ps)) (first .all)
-
-  pub main-there : {A : Type 0} → d .row ≡ option.None → A
-  main-there e = absurd (let r = main-row in let z : _≡_ {A = ℕ} 0 1 = cc in omega arith)
-
-  starts : (row : FunctionRow) → d .row ≡ option.Some row → row .start ≡ known .main .at
-  starts row found = let m = main-row in let same : row ≡ rowOf (first .this) = cc in ap (λ k. k .start) same ∙ first .begins
-
   -- the rows from where main begins are those of all functions
-  pub rows-shown : (row : FunctionRow) → d .row ≡ option.Some row → chunkRows L s (row .start) ≡ rowsFor (r .functions)
-  rows-shown row found = ap (chunkRows L s) (starts row found) ∙ all-rows L s (L .«max_nesting_depth») (limits .0) outermost refl (known .main .at) (known .main .reads)
+  pub rows-shown : chunkRows L s 32 ≡ rowsFor (r .functions)
+  rows-shown = all-rows L s (L .«max_nesting_depth») (limits .0) outermost refl 32 (known .main .reads)
 
   -- and the first position stands for all findings
-  pub all-findings : d .summary .functions < 18446744073709551616 → (row : FunctionRow) → d .row ≡ option.Some row
-      → outOf L s MAX-DIAGNOSTICS (startPosition (row .start) (warningCount (d .summary .warnings))) ≡ chunkFindings r
-  all-findings few row found =
-      let begins = starts row found in
-      let count : d .summary .functions ≡ length (r .functions) = ap (λ k. k .summary .functions) shows in
-      let kept : warningCount (d .summary .warnings) ≡ length (r .warnings) = ap (λ k. warningCount (k .summary .warnings)) shows ∙ kept-all (r .warnings) (known .warnings) in
-      (λ i. outOf L s MAX-DIAGNOSTICS (startPosition (begins i) (kept i)))
-      ∙ whole L s r (known .located) (omega arith) (L .«max_nesting_depth») (limits .0) outermost refl (known .main .at) (known .main .reads)
+  pub all-findings : d .functions < 18446744073709551616 → outOf L s MAX-DIAGNOSTICS (startPosition 32 (warningCount (d .warnings))) ≡ chunkFindings r
+  all-findings few =
+      let count : d .functions ≡ length (r .functions) = ap (λ k. k .functions) shows in
+      let kept : warningCount (d .warnings) ≡ length (r .warnings) = ap (λ k. warningCount (k .warnings)) shows ∙ kept-all (r .warnings) (known .warnings) in
+      (λ i. outOf L s MAX-DIAGNOSTICS (startPosition 32 (kept i)))
+      ∙ whole L s r (known .located) (omega arith) (L .«max_nesting_depth») (limits .0) outermost refl 32 (known .main .reads)
 
-  pub totals-shown : d .summary .functions < 18446744073709551616 → (row : FunctionRow) → d .row ≡ option.Some row
-      → totals.Ok (tallied (outOf L s MAX-DIAGNOSTICS (startPosition (row .start) (warningCount (d .summary .warnings))))) ≡ totalsResult (read L s)
-  totals-shown few row found = ap (λ l. totals.Ok (tallied l)) (all-findings few row found) ∙ sym (ap totalsResult was)
+  pub totals-shown : d .functions < 18446744073709551616 → totals.Ok (tallied (outOf L s MAX-DIAGNOSTICS (startPosition 32 (warningCount (d .warnings))))) ≡ totalsResult (read L s)
+  totals-shown few = ap (λ l. totals.Ok (tallied l)) (all-findings few) ∙ sym (ap totalsResult was)
 
 -- ## The verdict and the number, of what was counted
 pub verdict-refused : (o : Outcome) (q : Refusal) → totals.Err q ≡ totalsResult o → (verdicts.Err q ≡ shownVerdict o) × (counts.Err q ≡ shownCount o)

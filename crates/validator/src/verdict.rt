@@ -8,13 +8,13 @@ use crate::tally::Totals;
 use crate::tally::tally;
 use crate::tally::verdict_of;
 use cursor::Cursor;
-use decode::summary::DecodedResult;
+use decode::MAIN_AT;
+use decode::summary::JudgedResult;
 use decode::summary::Summary;
-use decode::summary::decode_chunk_lua54;
+use decode::summary::judge_chunk;
 use format::limits::ResourceLimits;
 use format::refusal::Refusal;
 use header::OptionWarning;
-use prototype::row::OptionRow;
 use rules::finding::Verdict;
 
 pub enum TotalsResult {
@@ -54,22 +54,13 @@ pub fn kept_count(summary: Summary) -> u64
 pub fn chunk_totals(s: &[u8], limits: ResourceLimits) -> TotalsResult
     ensures { λ r. ⌜ r ≡ totalsResult (format.read limits (now (s .entry))) ⌝ }
 {
-    let decoded = decode_chunk_lua54(s, limits, 0);
-    match decoded {
-        DecodedResult::Err(refusal) => TotalsResult::Err(refusal),
-        DecodedResult::Ok(chunk) => {
-            let summary = chunk.summary;
+    let judged = judge_chunk(s, limits);
+    match judged {
+        JudgedResult::Err(refusal) => TotalsResult::Err(refusal),
+        JudgedResult::Ok(summary) => {
             let kept = kept_count(summary);
-            let main = chunk.row;
-            match main {
-                // Never: a chunk that is read has main.
-                OptionRow::None => TotalsResult::Err(Refusal::NoFunction),
-                OptionRow::Some(row) => {
-                    let place = Cursor { at: row.start };
-                    let totals = tally(s, limits, 10000, place, kept);
-                    TotalsResult::Ok(totals)
-                }
-            }
+            let totals = tally(s, limits, 10000, Cursor { at: MAIN_AT }, kept);
+            TotalsResult::Ok(totals)
         }
     }
 }

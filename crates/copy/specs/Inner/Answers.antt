@@ -1,6 +1,5 @@
 -- What the calls below the exported ones answer of what they read.
 --     chunkBytes ps rest       the copy of a chunk: header, byte 31, functions, trailing bytes
---     loadedBytes m rest       the same of what was read up to the trailing bytes
 --     Answers bytes o l r l′   a refusal of o is the answer; where o was read, its bytes are put at the start and their length is the answer
 --     Copies o l r l′          the same of a whole chunk, with the length and the memory said outright
 use mathlib.Core.Path.{_≡_}
@@ -10,7 +9,6 @@ use lib.ListN.{length}
 use Rattle.format.specs.declared.refusal.Refusal.{Refusal}
 use Rattle.format.specs.Form.{Bytes}
 use Rattle.format.specs.Reading.{Prototype, Reading}
-use Rattle.format.specs.GrammarChunk.{Loaded}
 use Rattle.format.specs.Read.{Read, ok, refused}
 use Rattle.format.specs.ReadChunk.{Outcome, shown}
 use Rattle.format.specs.Copy.{fieldBytes, functionsBytes, headerBytes, upvaluesOfMain, copy}
@@ -22,9 +20,6 @@ use Rattle.copy.specs.Copied.{shownLength}
 
 abbrev pub chunkBytes : List Prototype → Bytes → Bytes
 chunkBytes ps trailing = headerBytes 0 ++ (fieldBytes 1 (upvaluesOfMain ps) ++ (functionsBytes ps ++ trailing))
-
-abbrev pub loadedBytes : Loaded → Bytes → Bytes
-loadedBytes m trailing = chunkBytes (m .functions) trailing
 
 pub record PutAll (b l : Bytes) (r : CopyAnswer) (l′ : Bytes) : Type 0 where
   pub len : ℕ

@@ -1,5 +1,5 @@
 -- What the walk puts of what it reads.
---     PutsFunction named o l len l′    where a function was read, with all that nest in it, its bytes, at the start
+--     PutsFunction named o l upvalues len l′   where a function was read, with all that nest in it, its bytes, at the start; and how many upvalues it has
 use mathlib.Core.Path.{_≡_}
 use mathlib.Core.Bool.{Bool}
 use mathlib.Core.List.{List}
@@ -7,8 +7,10 @@ use Prim.Native.Nat.{ℕ}
 use Rattle.format.specs.Form.{Bytes}
 use Rattle.format.specs.Reading.{Prototype}
 use Rattle.format.specs.Read.{Read, ok}
+use Rattle.format.specs.Copy.{upvaluesOfMain}
 use Rattle.encode.specs.Inner.Put.{Put}
 use Rattle.copy_parts.specs.Inner.Parts.{functionBytes}
 
-pub record PutsFunction (named : Bool) (o : Read (List Prototype)) (l : Bytes) (len : ℕ) (l′ : Bytes) : Type 0 where
+pub record PutsFunction (named : Bool) (o : Read (List Prototype)) (l : Bytes) (upvalues len : ℕ) (l′ : Bytes) : Type 0 where
+  pub counts : (ps : List Prototype) (to : ℕ) (rest : Bytes) → o ≡ ok ps to rest → upvalues ≡ upvaluesOfMain ps
   pub put : (ps : List Prototype) (to : ℕ) (rest : Bytes) → o ≡ ok ps to rest → Put (functionBytes named ps) 0 l len l′

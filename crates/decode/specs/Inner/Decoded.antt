@@ -4,32 +4,26 @@ use Prim.Native.Nat.{ℕ}
 use lib.ListN.{length, take, drop}
 use Rattle.format.specs.declared.header.Warning.{Warning}
 use Rattle.format.specs.Form.{Bytes}
-use Rattle.format.specs.Reading.{Reading}
 use Rattle.format.specs.GrammarChunk.{trailingWarnings}
 use Rattle.format.specs.ReadChunk.{Outcome, shown, refusal}
+use Rattle.cursor.specs.declared.Cursor.{Cursor}
 use Rattle.header.specs.declared.OptionWarning.{OptionWarning}
 use Rattle.header.specs.declared.OptionWarning.the-variants as option
 use Rattle.prototype.specs.Inner.Row.{shownRow, lookup}
-use Rattle.decode.specs.declared.Loaded.{Loaded}
-use Rattle.decode.specs.declared.summary.Decoded.{Decoded}
+use Rattle.decode.specs.declared.Opening.{Opening}
+use Rattle.decode.specs.declared.summary.Summary.{Summary}
 use Rattle.decode.specs.declared.summary.DecodedResult.{DecodedResult}
 use Rattle.decode.specs.declared.summary.DecodedResult.the-variants as answer
-use Rattle.decode.specs.Decoded.{shownWarnings}
+use Rattle.decode.specs.declared.summary.JudgedResult.{JudgedResult}
+use Rattle.decode.specs.declared.summary.JudgedResult.the-variants as judged
+use Rattle.decode.specs.Decoded.{shownWarnings, summaryOf}
 
-abbrev pub shownReading : ℕ → Reading → Decoded
-shownReading wanted r = record {
-  summary = record {
-    header = r .header;
-    warnings = shownWarnings (r .warnings);
-    functions = length (r .functions);
-    «trailing_at» = r .trailing-at;
-    «trailing_len» = length (r .trailing);
-  };
-  row = shownRow (lookup wanted 0 (r .functions));
-}
+abbrev pub judgedResult : Outcome → JudgedResult
+judgedResult (shown r) = judged.Ok (summaryOf r)
+judgedResult (refusal q) = judged.Err q
 
 abbrev pub decodedResult : ℕ → Outcome → DecodedResult
-decodedResult wanted (shown r) = answer.Ok (shownReading wanted r)
+decodedResult wanted (shown r) = answer.Ok (record { summary = summaryOf r; row = shownRow (lookup wanted 0 (r .functions)) })
 decodedResult wanted (refusal q) = answer.Err q
 
 -- ## The same of the code's values
@@ -37,14 +31,11 @@ abbrev pub listOf : OptionWarning → List Warning
 listOf option.None = []
 listOf (option.Some w) = w ∷ []
 
-abbrev pub decodedShown : Bytes → ℕ → Loaded → Decoded
-decodedShown s limit l = record {
-  summary = record {
-    header = l .header;
-    warnings = shownWarnings (take limit (listOf (l .warning) ++ trailingWarnings (l .next .at) (drop (l .next .at) s)));
-    functions = l .functions;
-    «trailing_at» = l .next .at;
-    «trailing_len» = length (drop (l .next .at) s);
-  };
-  row = l .row;
+abbrev pub summaryShown : Bytes → ℕ → Opening → Cursor → ℕ → Summary
+summaryShown s limit o next n = record {
+  header = o .header;
+  warnings = shownWarnings (take limit (listOf (o .warning) ++ trailingWarnings (next .at) (drop (next .at) s)));
+  functions = n;
+  «trailing_at» = next .at;
+  «trailing_len» = length (drop (next .at) s);
 }

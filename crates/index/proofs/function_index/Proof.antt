@@ -5,7 +5,7 @@ use native.Mathlib.Omega.{arith}
 use borrow.Author.Needs.{needs}
 use Rattle.format.specs.GrammarChunk.{outermost}
 use Rattle.format.specs.ReadChunk.{read}
-use Rattle.index.proofs.Whole.{refused-index, no-room, in-limits, main-there, index-written}
+use Rattle.index.proofs.Whole.{refused-index, no-room, in-limits, index-written}
 use Rattle.index.proofs.function_index.Statement.{statement}
 use Rattle.index.proofs.function_index.Tie as tie
 
@@ -14,14 +14,14 @@ returns c =
     let j = c .before .before in
     let b = j .before .before in
     let a = b .before .before .before .args in
-    no-room (a .rows .now) (read (a .limits) (a .s .now)) (j .judged2 .given .0 .0) (sym (j .judged2 .given .1) ∙ b .decode-chunk-lua54 .ensures) (c .if1 .taken)
+    no-room (a .rows .now) (read (a .limits) (a .s .now)) (j .judged2 .given .0 .0) (sym (j .judged2 .given .1) ∙ b .judge-chunk .ensures) (c .if1 .taken)
 
 write-function-requires : tie.Need-write-function-requires
 write-function-requires c κs =
-    let j = c .before .before .before .before .before .before .before in
+    let j = c .before .before .before .before in
     let b = j .before .before in
     let a = b .before .before .before .args in
-    let l = in-limits (a .rows .now) (a .limits) (a .s .now) (j .judged2 .given .0 .0) (sym (j .judged2 .given .1) ∙ b .decode-chunk-lua54 .ensures) in
+    let l = in-limits (a .rows .now) (a .limits) (a .s .now) (j .judged2 .given .0 .0) (sym (j .judged2 .given .1) ∙ b .judge-chunk .ensures) in
     let nesting = l .0 in
     let number : c .before .outermost .result .number ≤ 16777216 = rw (c .before .outermost .ensures) (omega arith) in
     let depth : c .before .outermost .result .depth + a .limits .«max_nesting_depth» ≤ 200 = rw (c .before .outermost .ensures) (omega arith) in
@@ -31,24 +31,16 @@ returns-2 : tie.Need-returns-2
 returns-2 c =
     let b = c .before .before .before in
     let a = b .before .before .before .args in
-    refused-index (a .rows .now) (read (a .limits) (a .s .now)) _ (sym (c .before .judged .given .1) ∙ b .decode-chunk-lua54 .ensures)
+    refused-index (a .rows .now) (read (a .limits) (a .s .now)) _ (sym (c .before .judged .given .1) ∙ b .judge-chunk .ensures)
 
 returns-3 : tie.Need-returns-3
 returns-3 c =
-    let j = c .before .before .before .before in
-    let b = j .before .before in
-    let a = b .before .before .before .args in
-    main-there (a .rows .now) (a .limits) (a .s .now) (j .judged2 .given .0 .0) (sym (j .judged2 .given .1) ∙ b .decode-chunk-lua54 .ensures) (c .enum-told .given .1)
-
-returns-4 : tie.Need-returns-4
-returns-4 c =
     let w = c .before .before in
-    let m = w .before .before .before .before in
-    let i = m .before .before in
+    let i = w .before .before .before in
     let j = i .before .before in
     let b = j .before .before in
     let a = b .before .before .before .args in
-    index-written (a .rows .now) (a .limits) (a .s .now) (j .judged2 .given .0 .0) (sym (j .judged2 .given .1) ∙ b .decode-chunk-lua54 .ensures) (i .if1 .left) (m .main .given .0 .0) (m .main .given .1) _
+    index-written (a .rows .now) (a .limits) (a .s .now) (j .judged2 .given .0 .0) (sym (j .judged2 .given .1) ∙ b .judge-chunk .ensures) (i .if1 .left) _
     (w .write-function .ensures .1 outermost (w .before .before .outermost .ensures))
 
 pub function-index-spec : {M : Type 1} → statement M
@@ -59,11 +51,8 @@ function-index-spec =
     (λ c. search needs)
     (λ c. search needs)
     returns
-    (λ c. search needs)
-    (λ c. search needs)
     (λ c κs. search needs)
     write-function-requires
     returns-2
-    returns-3
     (λ c. search needs)
-    returns-4)
+    returns-3)

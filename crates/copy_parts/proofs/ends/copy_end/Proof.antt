@@ -1,11 +1,26 @@
 -- `copy_parts::ends::copy_end` meets its contract. Assumes nothing.
 use borrow.Author.Needs.{needs}
-use mathlib.Core.Path.{sym, _∙_}
+use mathlib.Core.Path.{refl, sym, _∙_}
 use lib.ListN.{drop}
 use Rattle.prototype.specs.Parts.{tail}
 use Rattle.copy_parts.proofs.EndsPut.{end-stops, end-read}
 use Rattle.copy_parts.proofs.ends.copy_end.Statement.{statement}
 use Rattle.copy_parts.proofs.ends.copy_end.Tie as tie
+
+returns : tie.Need-returns
+returns c =
+    let e = c .before in
+    let r = e .before .before in
+    let a = r .before .before .before .args in
+    (refl, end-stops (a .nested) (tail (a .limits .«max_string_bytes») (a .nested .next .at) (drop (a .nested .next .at) (a .s .now))) _ (sym (e .ends .given .1) ∙ r .read-tail .ensures))
+
+returns-2 : tie.Need-returns-2
+returns-2 c =
+    let p = c .before .before in
+    let e = p .before .before .before in
+    let r = e .before .before in
+    let a = r .before .before .before .args in
+    (refl, end-read (a .nested) (a .s .now) (a .limits .«max_string_bytes») (a .nested .next .at) _ _ (sym (e .ends2 .given .1) ∙ r .read-tail .ensures) (p .put-tail .ensures))
 
 pub copy-end-spec : {M : Type 1} → statement M
 copy-end-spec =
@@ -13,10 +28,8 @@ copy-end-spec =
     (tie.spec
     (λ c κs. search needs)
     (λ c. search needs)
-    (λ c κs. search needs)
     (λ c. search needs)
     (λ c κs. search needs)
-    (λ c κs. search needs)
-    (λ c. let a = c .before .before .before .before .before .before .before .args in end-stops (a .place) (a .start) (a .head) (a .nested) (tail (a .limits .«max_string_bytes») (a .nested .next .at) (drop (a .nested .next .at) (a .s .now))) _ _ (sym (c .before .before .ends .given .1) ∙ c .before .before .before .before .read-tail .ensures) (c .stopped .ensures))
+    returns
     (λ c. search needs)
-    (λ c. let a = c .before .before .before .before .before .before .before .before .before .before .before .args in end-read (a .place) (a .start) (a .head) (a .nested) (a .s .now) (a .limits .«max_string_bytes») (a .nested .next .at) _ _ _ (sym (c .before .before .before .before .before .before .ends2 .given .1) ∙ c .before .before .before .before .before .before .before .before .read-tail .ensures) (c .finished .ensures) (c .before .before .before .put-tail .ensures)))
+    returns-2)

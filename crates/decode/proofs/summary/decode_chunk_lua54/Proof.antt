@@ -1,60 +1,69 @@
--- `decode::summary::decode_chunk_lua54` meets its contract: by the two tests of the caller's side, then by what `read_main` shows (`Summaries.antt`). Assumes nothing.
+-- `decode::summary::decode_chunk_lua54` meets its contract: by what `open_chunk` and `find_function` showed (`BeforeMain.antt`), for the row that is read at the spot. Assumes nothing.
 use mathlib.Core.Path.{_≡_, sym, _∙_, ap}
+use Prim.Native.Nat.{_+_, _≤_}
+use native.Mathlib.Omega.{arith}
 use borrow.Author.Needs.{needs}
-use borrow.Author.Tests.{not-true, not-false}
-use Rattle.decode.specs.declared.summary.DecodedResult.the-variants as answer
-use Rattle.decode.proofs.Summaries.{andSummary, above, too-long, by-main, in-ceilings}
+use Rattle.format.specs.GrammarChunk.{outermost}
+use Rattle.chunk.specs.Inner.Spot.{rowed, rowedResult}
+use Rattle.decode.specs.declared.summary.DecodedResult.the-variants as decoded
+use Rattle.decode.specs.Inner.Decoded.{decodedResult}
+use Rattle.decode.proofs.Summaries.{in-ceilings}
+use Rattle.decode.proofs.BeforeMain.{not-opened, in-limits, decoded-refused, decoded-read}
 use Rattle.decode.proofs.summary.decode_chunk_lua54.Statement.{statement}
 use Rattle.decode.proofs.summary.decode_chunk_lua54.Tie as tie
 
+find-function-requires : tie.Need-find-function-requires
+find-function-requires c κs =
+    let p = c .before in
+    let k = p .before .before in
+    let o = k .before .before in
+    let a = o .before .before .args in
+    let l = in-ceilings (a .limits) (in-limits (a .limits) (a .s .now) (k .begins2 .given .0 .0) (sym (k .begins2 .given .1) ∙ o .open-chunk .ensures)) in
+    let nesting = l .0 in
+    let number : p .outermost .result .number ≤ 16777216 = rw (p .outermost .ensures) (omega arith) in
+    let depth : p .outermost .result .depth + a .limits .«max_nesting_depth» ≤ 200 = rw (p .outermost .ensures) (omega arith) in
+    (l .1, l .2, number, depth)
+
 returns : tie.Need-returns
 returns c =
-    let a = c .before .before .before .args in
-    above (a .s .now) (a .limits) (a .wanted) (sym (c .before .within-ceilings .ensures) ∙ not-true _ (c .if1 .taken))
+    let o = c .before .before .before in
+    let a = o .before .before .args in
+    sym (ap (decodedResult (a .wanted)) (not-opened (a .limits) (a .s .now) _ (sym (c .before .begins .given .1) ∙ o .open-chunk .ensures)))
 
 returns-2 : tie.Need-returns-2
 returns-2 c =
-    let i = c .before .before in
-    let a = i .before .before .before .args in
-    too-long (a .s .now) (a .limits) (a .wanted) (sym (i .before .within-ceilings .ensures) ∙ not-false _ (i .if1 .left)) (c .if2 .taken)
-
-read-main-requires : tie.Need-read-main-requires
-read-main-requires c κs =
-    let i = c .before .before in
-    let a = i .before .before .before .args in
-    in-ceilings (a .limits) (sym (i .before .within-ceilings .ensures) ∙ not-false _ (i .if1 .left))
+    let f = c .before .before .before in
+    let p = f .before .before in
+    let k = p .before .before in
+    let o = k .before .before in
+    let a = o .before .before .args in
+    decoded-refused (a .limits) (a .s .now) (k .begins2 .given .0 .0) (sym (k .begins2 .given .1) ∙ o .open-chunk .ensures)
+    (a .wanted) _ (ap (rowedResult (a .limits) (a .s .now)) (sym (c .before .functions .given .1)) ∙ f .find-function .ensures .0 outermost (p .outermost .ensures))
 
 returns-3 : tie.Need-returns-3
 returns-3 c =
-    let r = c .before .before .before in
-    let i = r .before .before .before in
-    let a = i .before .before .before .args in
-    sym (
-    by-main (a .s .now) (a .limits) (a .wanted) (sym (i .before .within-ceilings .ensures) ∙ not-false _ (i .if1 .left)) (r .before .if2 .left)
-    ∙ ap (andSummary (a .s .now) (a .limits .«max_diagnostics»)) (sym (r .read-main .ensures) ∙ c .before .main .given .1)
-    )
-
-returns-4 : tie.Need-returns-4
-returns-4 c =
-    let m = c .before .before in
-    let r = m .before .before in
-    let i = r .before .before .before in
-    let a = i .before .before .before .args in
-    ap answer.Ok (c .summarised .ensures)
-    ∙ sym (
-    by-main (a .s .now) (a .limits) (a .wanted) (sym (i .before .within-ceilings .ensures) ∙ not-false _ (i .if1 .left)) (r .before .if2 .left)
-    ∙ ap (andSummary (a .s .now) (a .limits .«max_diagnostics»)) (sym (r .read-main .ensures) ∙ m .main2 .given .1)
-    )
+    let r = c .before in
+    let n = r .before .before .before in
+    let f = n .before .before in
+    let p = f .before .before in
+    let k = p .before .before in
+    let o = k .before .before in
+    let a = o .before .before .args in
+    let walked = n .functions2 .given .0 .0 in
+    (λ i. decoded.Ok (record { summary = c .summarised .ensures i; row = r .row-at .ensures i }))
+    ∙ decoded-read (a .limits) (a .s .now) (k .begins2 .given .0 .0) (sym (k .begins2 .given .1) ∙ o .open-chunk .ensures)
+    (a .wanted) (rowed (a .limits) (a .s .now) walked) (ap (rowedResult (a .limits) (a .s .now)) (sym (n .functions2 .given .1)) ∙ f .find-function .ensures .0 outermost (p .outermost .ensures))
 
 pub decode-chunk-lua54-spec : {M : Type 1} → statement M
 decode-chunk-lua54-spec =
     tie.close
     (tie.spec
+    (λ c κs. search needs) (λ c. search needs) (λ c. search needs)
+    (λ c κs. search needs)
+    find-function-requires
+    (λ c. search needs) (λ c. search needs)
+    (λ c κs. search needs)
     (λ c κs. search needs)
     returns
     returns-2
-    read-main-requires
-    (λ c. search needs) (λ c. search needs)
-    (λ c κs. search needs)
-    returns-3
-    returns-4)
+    returns-3)

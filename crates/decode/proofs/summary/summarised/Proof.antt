@@ -8,10 +8,11 @@ use Rattle.decode.proofs.summary.summarised.Tie as tie
 
 returns : tie.Need-returns
 returns c =
-    let t = c .before .before in
+    let o = c .before in
+    let t = o .before in
     let r = t .before in
-    let a = r .before .before .before .args in
-    rw (c .before .in-order .ensures, t .trailing-warning .ensures, r .remaining .ensures) (rw (trailing-list (a .loaded .next .at) (drop (a .loaded .next .at) (a .s .now))))
+    let a = r .before .before .args in
+    rw (o .in-order .ensures, t .trailing-warning .ensures, r .remaining .ensures) (rw (trailing-list (a .next .at) (drop (a .next .at) (a .s .now))))
 
 pub summarised-spec : {M : Type 1} → statement M
 summarised-spec = tie.close (tie.spec (λ c κs. search needs) (λ c κs. search needs) (λ c κs. search needs) returns)

@@ -16,7 +16,7 @@ trailing-bytes-spec =
     (λ c.
     let a = c .before .before .before .before .before .args in
     c .bytes-from .ensures ∙ drop-of-length-le (a .s .now) {i = length (a .s .now)} (omega arith)
-    ∙ sym (trailing-refused 0 (read (a .limits) (a .s .now)) _ (sym (c .before .enum-told .given .1) ∙ c .before .before .before .decode-chunk-lua54 .ensures)))
+    ∙ sym (trailing-refused (read (a .limits) (a .s .now)) _ (sym (c .before .enum-told .given .1) ∙ c .before .before .before .judge-chunk .ensures)))
     (λ c.
-    let a = c .before .before .before .before .before .before .before .args in
-    c .bytes-from2 .ensures ∙ trailing-shown 0 (a .limits) (a .s .now) (read (a .limits) (a .s .now)) refl _ (sym (c .before .before .before .decoded .given .1) ∙ c .before .before .before .before .before .decode-chunk-lua54 .ensures)))
+    let a = c .before .before .before .before .before .before .args in
+    c .bytes-from2 .ensures ∙ trailing-shown (a .limits) (a .s .now) (read (a .limits) (a .s .now)) refl _ (sym (c .before .before .judged .given .1) ∙ c .before .before .before .before .judge-chunk .ensures)))

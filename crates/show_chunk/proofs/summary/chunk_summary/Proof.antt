@@ -11,5 +11,5 @@ chunk-summary-spec =
     tie.close
     (tie.spec
     (λ c κs. search needs) (λ c. search needs) (λ c. search needs)
-    (λ c. let a = c .before .before .before .before .before .args in summary-refused 0 (read (a .limits) (a .s .now)) _ (sym (c .before .decoded .given .1) ∙ c .before .before .before .decode-chunk-lua54 .ensures))
-    (λ c. let a = c .before .before .before .before .before .before .args in summary-shown 0 (read (a .limits) (a .s .now)) _ (sym (c .before .before .decoded2 .given .1) ∙ c .before .before .before .before .decode-chunk-lua54 .ensures)))
+    (λ c. let a = c .before .before .before .before .before .args in summary-refused (read (a .limits) (a .s .now)) _ (sym (c .before .judged .given .1) ∙ c .before .before .before .judge-chunk .ensures))
+    (λ c. let a = c .before .before .before .before .before .args in summary-shown (read (a .limits) (a .s .now)) _ (sym (c .before .judged2 .given .1) ∙ c .before .before .before .judge-chunk .ensures)))
