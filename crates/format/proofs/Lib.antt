@@ -4,6 +4,7 @@ pub mod LimitCases
 pub mod Byte31
 pub mod Distinct
 pub mod Cuts
+pub mod StringLimitCases
 pub mod ShortestCases
 pub mod Exact
 pub mod ExactFields
