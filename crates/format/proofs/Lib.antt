@@ -5,6 +5,7 @@ pub mod Byte31
 pub mod Distinct
 pub mod Cuts
 pub mod StringLimitCases
+pub mod SourceCases
 pub mod ShortestCases
 pub mod Exact
 pub mod ExactFields
