@@ -6,6 +6,7 @@ pub mod Distinct
 pub mod Cuts
 pub mod StringLimitCases
 pub mod SourceCases
+pub mod LargeNumberCases
 pub mod ShortestCases
 pub mod Exact
 pub mod ExactFields
