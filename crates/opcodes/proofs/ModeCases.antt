@@ -56,6 +56,6 @@ all-names-hold : map opcodeAt (upTo 82) ≡ map Some (
     op.Lei ∷ op.Gti ∷ op.Gei ∷ op.Test ∷ op.Testset ∷ op.Call ∷ op.Tailcall ∷ op.Return ∷ op.Return0 ∷
     op.Return1 ∷ op.Forloop ∷ op.Forprep ∷ op.Tforprep ∷ op.Tforcall ∷ op.Tforloop ∷ op.Setlist ∷ op.Closure ∷ op.Vararg ∷
     op.Varargprep ∷ op.Extraarg ∷ []
-)
+    )
 unfolding upTo
 all-names-hold = refl
