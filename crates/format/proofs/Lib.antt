@@ -4,6 +4,9 @@ pub mod LimitCases
 pub mod Byte31
 pub mod Distinct
 pub mod Cuts
+pub mod StringLimitCases
+pub mod SourceCases
+pub mod LargeNumberCases
 pub mod ShortestCases
 pub mod Exact
 pub mod ExactFields

@@ -51,6 +51,11 @@ more =
     -- anchors out of order: the second is the base, and the delta at the first takes its line; an anchor beyond the deltas
     ∷ record { line-defined = 7; instructions = 3; deltas = 0x01 ∷ 0x80 ∷ 0x01 ∷ []; anchors = at 1 20 ∷ at 0 30 ∷ []; pc = 2; result = Ok 21 }
     ∷ record { line-defined = 7; instructions = 2; deltas = 0x01 ∷ []; anchors = at 5 9 ∷ []; pc = 6; result = Ok 9 }
+    -- an anchor above the pc ends the search for the base, though a later one is not above it; a delta of −128 takes the line of an anchor that was not reached there
+    ∷ record { line-defined = 7; instructions = 3; deltas = 0x01 ∷ 0x01 ∷ 0x01 ∷ []; anchors = at 2 20 ∷ at 0 30 ∷ []; pc = 1; result = Ok 9 }
+    ∷ record { line-defined = 7; instructions = 3; deltas = 0x01 ∷ 0x80 ∷ 0x01 ∷ []; anchors = at 5 9 ∷ at 1 20 ∷ []; pc = 2; result = Ok 21 }
+    -- rule 2 goes by an anchor's number, whatever its pc is
+    ∷ record { line-defined = 7; instructions = 2; deltas = 0x01 ∷ 0x01 ∷ []; anchors = at 1 20 ∷ at 0 30 ∷ []; pc = 1; result = Ok 30 }
     -- refusal 25
     ∷ record { line-defined = 2 ^ 62 - 1; instructions = 1; deltas = 0x01 ∷ []; anchors = []; pc = 0; result = Ok (2 ^ 62) }
     ∷ record { line-defined = 2 ^ 62; instructions = 1; deltas = []; anchors = []; pc = 0; result = Err LineTooLarge }
