@@ -1,3 +1,4 @@
 pub mod Results
 pub mod Whole
 pub mod Row
+pub mod Counts
