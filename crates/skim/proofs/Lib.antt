@@ -1,1 +1,5 @@
-pub mod Skims
+pub mod Entering
+pub mod HeadTail
+pub mod OneFunction
+pub mod Passes
+pub mod SoFar

@@ -4,15 +4,14 @@ ghost use Prim.Native.Nat.{_≤_};
 ghost use lib.ListN.{drop};
 ghost use Rattle.format.specs.GrammarChunk as grammar;
 ghost use Rattle.format.specs.ReadChunk.{forest, function};
-ghost use Rattle.chunk.specs.Inner.Walk.{entered};
-ghost use Rattle.skim.specs.Inner.Skim.{skimResult};
+ghost use Rattle.skim.specs.Inner.Skim.{entered, skimResult};
 use cursor::Cursor;
 use format::limits::ResourceLimits;
 use format::refusal::Refusal;
-use prototype::parts::HeadResult;
-use prototype::parts::TailResult;
-use prototype::parts::read_head;
-use prototype::parts::read_tail;
+use prototype::pass::HeadCountsResult;
+use prototype::pass::TailCountsResult;
+use prototype::pass::pass_head;
+use prototype::pass::pass_tail;
 
 // Where a walk stands: the number of the next function, and the instructions of all before it.
 pub struct Skimmed {
@@ -31,26 +30,26 @@ pub fn skim_function(s: &[u8], limits: ResourceLimits, left: usize, from: Skimme
     requires { ⌜ (limits .«max_total_prototypes» ≤ 16777216) × (limits .«max_total_instructions» ≤ 16777216) × (from .number ≤ 16777216) ⌝ }
     ensures { λ r. ⌜ ((w : grammar.Where) → from .number ≡ w .number → from .instructions ≡ w .instructions → r ≡ skimResult w (function limits left w (from .next .at) (drop (from .next .at) (now (s .entry))))) ⌝ }
 {
-    let begins = read_head(s, limits, from.instructions, from.next);
+    let begins = pass_head(s, limits, from.instructions, from.next);
     match begins {
-        HeadResult::Err(refusal) => SkimResult::Err(refusal),
-        HeadResult::Ok {
-            head: head,
+        HeadCountsResult::Err(refusal) => SkimResult::Err(refusal),
+        HeadCountsResult::Ok {
+            counts: counts,
             next: behind,
         } => {
             let first = Skimmed {
                 next: behind,
                 number: from.number + 1,
-                instructions: from.instructions + head.lists.instructions.count,
+                instructions: from.instructions + counts.instructions,
             };
-            let inner = skim_functions(s, limits, head.protos.count, left, first);
+            let inner = skim_functions(s, limits, counts.protos, left, first);
             match inner {
                 SkimResult::Err(refusal) => SkimResult::Err(refusal),
                 SkimResult::Ok(nested) => {
-                    let ends = read_tail(s, limits.max_string_bytes, nested.next);
+                    let ends = pass_tail(s, limits.max_string_bytes, nested.next);
                     match ends {
-                        TailResult::Err(refusal) => SkimResult::Err(refusal),
-                        TailResult::Ok { tail: _, next } => SkimResult::Ok(Skimmed {
+                        TailCountsResult::Err(refusal) => SkimResult::Err(refusal),
+                        TailCountsResult::Ok { counts: _, next } => SkimResult::Ok(Skimmed {
                             next: next,
                             number: nested.number,
                             instructions: nested.instructions,

@@ -1,33 +1,37 @@
--- The proof of the cycle of calls {skim_function, skim_functions}: as that of `chunk`'s walk. A function at n levels calls `skim_functions` at n levels, and that calls
--- `skim_function` at n - 1: the measure is 2n + 1 for the one and 2n for the other. What each return shows is in Skims.antt.
+-- The proof of the cycle of calls {skim_function, skim_functions}. A function at n levels calls `skim_functions` at n levels, and that calls
+-- `skim_function` at n - 1: the measure is 2n + 1 for the one and 2n for the other. What each return shows is in Passes.antt and SoFar.antt.
 -- Assumes nothing.
 use Prim.Native.Nat.{ℕ, _<_, _≤_, _*_, _+_, _-_}
 use mathlib.Core.Path.{_≡_, refl, sym, _∙_}
+use mathlib.Core.List.{List, []}
 use lib.ListN.{drop}
 use native.Mathlib.Omega.{arith}
 use borrow.Author.Needs.{needs}
 use borrow.Fn.Kinds.{In}
 use borrow.Fn.PlainCycle.{Measures, is, falls, and}
-use Rattle.format.specs.GrammarChunk as grammar
-use Rattle.format.specs.declared.refusal.Refusal.{Refusal}
+use Rattle.format.specs.declared.limits.ResourceLimits.{ResourceLimits}
+use Rattle.format.specs.Form.{Bytes}
+use Rattle.format.specs.Reading.{Prototype}
+use Rattle.format.specs.GrammarChunk.{Where}
 use Rattle.cursor.specs.declared.Cursor.{Cursor}
-use Rattle.prototype.specs.declared.parts.Head as declared-head
-use Rattle.prototype.specs.declared.parts.HeadResult.the-variants as head-answer
+use Rattle.prototype.specs.declared.pass.HeadCounts.{HeadCounts}
+use Rattle.prototype.specs.declared.pass.HeadCountsResult.the-variants as counts-answer
 use Rattle.prototype.specs.Parts as parts
-use Rattle.prototype.specs.PartsShown.{headResult}
-use Rattle.chunk.proofs.Functions.{in-total}
+use Rattle.prototype.specs.Inner.Counts.{headCountsResult}
 use Rattle.skim.specs.declared.walk.Skimmed.{Skimmed}
-use Rattle.skim.specs.declared.walk.SkimResult.the-variants as skim
-use Rattle.skim.specs.Inner.Skim.{skimResult}
-use Rattle.skim.proofs.Skims as skims
+use Rattle.skim.specs.Inner.Skim.{entered, on, skimResult}
+use Rattle.skim.proofs.HeadTail.{counts-total}
+use Rattle.skim.proofs.Passes as passes
+use Rattle.skim.proofs.SoFar as so-far
+use Rattle.skim.proofs.SoFar.{SoFar}
 use Rattle.skim.proofs.walk.skim_function.Reads as skim-function
 use Rattle.skim.proofs.walk.skim_function.Kinds as skim-function-kinds
 use Rattle.skim.proofs.walk.+skim_function+skim_functions.Lts-skim_function as skim-function-lts
 use Rattle.skim.proofs.walk.skim_functions.Reads as skim-functions
 use Rattle.skim.proofs.walk.skim_functions.Kinds as skim-functions-kinds
 use Rattle.skim.proofs.walk.+skim_function+skim_functions.Lts-skim_functions as skim-functions-lts
-use Rattle.prototype.proofs.parts.read_head.Reads as read-head-reads
-use Rattle.prototype.proofs.parts.read_tail.Reads as read-tail-reads
+use Rattle.prototype.proofs.pass.pass_head.Reads as pass-head-reads
+use Rattle.prototype.proofs.pass.pass_tail.Reads as pass-tail-reads
 use Rattle.skim.proofs.walk.+skim_function+skim_functions.{statement}
 use Rattle.skim.proofs.walk.+skim_function+skim_functions.Tie.{close}
 
@@ -72,7 +76,7 @@ skim-functions-below t =
 
 -- what the calls in each ask and give
 abbrev function-calls : ℕ → skim-function-lts.Claims
-function-calls t = (read-head-reads.Asked, read-head-reads.Learnt, skim-functions-below t, skim-functions.Post, read-tail-reads.Asked, read-tail-reads.Learnt)
+function-calls t = (pass-head-reads.Asked, pass-head-reads.Learnt, skim-functions-below t, skim-functions.Post, pass-tail-reads.Asked, pass-tail-reads.Learnt)
 
 abbrev functions-calls : ℕ → skim-functions-lts.Claims
 functions-calls t = (skim-function-below t, skim-function.Post)
@@ -86,14 +90,14 @@ function-total : (t : ℕ) → skim-function-lts.Need-add-t18 (function-calls t)
 function-total t c =
     let b = c .before .before .before .before .before .before .before .before in
     let h = c .before .before .before .before .begins2 .given in
-    let e = in-total (b .args .s .now) (b .args .limits) (b .args .from .instructions) (b .args .from .next .at) (h .0 .0) (h .0 .1 .0) (sym (h .1) ∙ c .before .before .before .before .before .before .read-head .ensures) in
+    let e = counts-total (b .args .s .now) (b .args .limits) (b .args .from .instructions) (b .args .from .next .at) (h .0 .0) (h .0 .1 .0) (sym (h .1) ∙ c .before .before .before .before .before .before .pass-head .ensures) in
     let limit = b .pre .1 .1 in
     omega (arith, e, limit)
 
 function-returns : (t : ℕ) → skim-function-lts.Need-returns (function-calls t) (skim-function-at t) skim-function.Post
 function-returns t c w n i =
     let a = c .before .before .before .before .before .args in
-    skims.head-refused (a .s .now) (a .limits) (a .left) (a .from) w n i _ (sym (c .before .begins .given .1) ∙ c .before .before .before .read-head .ensures)
+    passes.head-refused (a .s .now) (a .limits) (a .left) w (a .from .next .at) i _ (sym (c .before .begins .given .1) ∙ c .before .before .before .pass-head .ensures)
 
 -- behind the nested functions: what the head gave, and what they show
 module _ (t : ℕ) (f : skim-function-lts.After-skim-functions (function-calls t) (skim-function-at t) skim-function.Post) where
@@ -103,33 +107,33 @@ module _ (t : ℕ) (f : skim-function-lts.After-skim-functions (function-calls t
   abbrev a : skim-function-lts.Args (function-calls t) (skim-function-at t) skim-function.Post (h .before .before .before .before .κs)
   a = h .before .before .before .before .args
 
-  abbrev head : declared-head.Head
-  head = h .begins2 .given .0 .0
+  abbrev counts : HeadCounts
+  counts = h .begins2 .given .0 .0
 
   abbrev behind : Cursor
   behind = h .begins2 .given .0 .1 .0
 
-  begun : head-answer.Ok head behind ≡ headResult (parts.head (a .limits) (a .from .instructions) (a .from .next .at) (drop (a .from .next .at) (a .s .now)))
-  begun = sym (h .begins2 .given .1) ∙ h .before .before .read-head .ensures
+  begun : counts-answer.Ok counts behind ≡ headCountsResult (parts.head (a .limits) (a .from .instructions) (a .from .next .at) (drop (a .from .next .at) (a .s .now)))
+  begun = sym (h .begins2 .given .1) ∙ h .before .before .pass-head .ensures
 
-  module _ (w : grammar.Where) (n : a .from .number ≡ w .number) (i : a .from .instructions ≡ w .instructions) where
-    inner : f .skim-functions .result ≡ skimResult (skims.first (a .s .now) (a .limits) (a .left) (a .from) w n i head behind begun) (skims.inner (a .s .now) (a .limits) (a .left) (a .from) w n i head behind begun)
-    inner = f .skim-functions .ensures (skims.first (a .s .now) (a .limits) (a .left) (a .from) w n i head behind begun)
-        (skims.first-number (a .s .now) (a .limits) (a .left) (a .from) w n i head behind begun)
-        (skims.first-instructions (a .s .now) (a .limits) (a .left) (a .from) w n i head behind begun)
+  module _ (w : Where) (n : a .from .number ≡ w .number) (i : a .from .instructions ≡ w .instructions) where
+    inner : f .skim-functions .result ≡ skimResult (passes.first (a .s .now) (a .limits) (a .left) w (a .from .next .at) i counts behind begun) (passes.inner (a .s .now) (a .limits) (a .left) w (a .from .next .at) i counts behind begun)
+    inner = f .skim-functions .ensures (passes.first (a .s .now) (a .limits) (a .left) w (a .from .next .at) i counts behind begun)
+        (λ j. n j + 1)
+        (passes.first-instructions (a .s .now) (a .limits) (a .left) w (a .from .next .at) i counts behind begun)
 
 function-returns-2 : (t : ℕ) → skim-function-lts.Need-returns-2 (function-calls t) (skim-function-at t) skim-function.Post
 function-returns-2 t c w n i =
     let f = c .before .before .before in
     let a = f .before .before .before .before .before .before .before .before .before .args in
-    skims.nested-refused (a .s .now) (a .limits) (a .left) (a .from) w n i _ _ (begun t f) _ (sym (c .before .inner .given .1) ∙ inner t f w n i)
+    passes.nested-refused (a .s .now) (a .limits) (a .left) w (a .from .next .at) i _ _ (begun t f) _ (sym (c .before .inner .given .1) ∙ inner t f w n i)
 
 function-returns-3 : (t : ℕ) → skim-function-lts.Need-returns-3 (function-calls t) (skim-function-at t) skim-function.Post
 function-returns-3 t c w n i =
     let k = c .before .before .before .before .before in
     let f = k .before .before in
     let a = f .before .before .before .before .before .before .before .before .before .args in
-    skims.tail-refused (a .s .now) (a .limits) (a .left) (a .from) w n i _ _ (begun t f) (k .inner2 .given .0 .0) (sym (k .inner2 .given .1) ∙ inner t f w n i) _ (sym (c .before .ends .given .1) ∙ c .before .before .before .read-tail .ensures)
+    passes.tail-refused (a .s .now) (a .limits) (a .left) w (a .from .next .at) i _ _ (begun t f) (k .inner2 .given .0 .0) (sym (k .inner2 .given .1) ∙ inner t f w n i) _ (sym (c .before .ends .given .1) ∙ c .before .before .before .pass-tail .ensures)
 
 function-returns-4 : (t : ℕ) → skim-function-lts.Need-returns-4 (function-calls t) (skim-function-at t) skim-function.Post
 function-returns-4 t c w n i =
@@ -137,31 +141,33 @@ function-returns-4 t c w n i =
     let f = k .before .before in
     let a = f .before .before .before .before .before .before .before .before .before .args in
     let e = c .before .ends2 .given in
-    skims.function-read (a .s .now) (a .limits) (a .left) (a .from) w n i _ _ (begun t f) (k .inner2 .given .0 .0) (sym (k .inner2 .given .1) ∙ inner t f w n i) (e .0 .0) (e .0 .1 .0) (sym (e .1) ∙ c .before .before .before .read-tail .ensures)
+    passes.function-shown (a .s .now) (a .limits) (a .left) w (a .from .next .at) i _ _ (begun t f) (k .inner2 .given .0 .0) (sym (k .inner2 .given .1) ∙ inner t f w n i) (e .0 .0) (e .0 .1 .0) (sym (e .1) ∙ c .before .before .before .pass-tail .ensures)
+
+-- the functions passed so far, wherever the first of them stands
+record Passed (s : Bytes) (L : ResourceLimits) (left n from : ℕ) (k : Skimmed) (more : ℕ) (w : Where) : Type 0 where
+  passed : List Prototype
+  so-far : SoFar (entered L left) s w n from k more passed
 
 abbrev skim-functions-Inv-loop : skim-functions-lts.InvT-loop
-skim-functions-Inv-loop s limits n left skimmed₀ more₀ skimmed more = skims.Rest s limits skimmed₀ n left skimmed more
+skim-functions-Inv-loop s limits n left skimmed₀ more₀ skimmed more =
+    (w : Where) → skimmed₀ .number ≡ w .number → skimmed₀ .instructions ≡ w .instructions → Passed s limits left n (skimmed₀ .next .at) skimmed more w
 
 abbrev skim-functions-μ-loop : skim-functions-lts.MeasureT-loop
 skim-functions-μ-loop s limits n left skimmed₀ more₀ skimmed more = more
 
 functions-loop-holds : (t : ℕ) → skim-functions-lts.Need-loop-holds (functions-calls t) (skim-functions-at t) skim-functions.Post skim-functions-Inv-loop skim-functions-μ-loop
-functions-loop-holds t c =
+functions-loop-holds t c w n i =
     let a = c .before .args in
-    skims.starts (a .s .now) (a .limits) (a .from) (a .n) (a .left)
+    record { passed = []; so-far = so-far.starts (entered (a .limits) (a .left)) (a .s .now) w (a .n) (a .from) n i }
 
 functions-returns : (t : ℕ) → skim-functions-lts.Need-returns (functions-calls t) (skim-functions-at t) skim-functions.Post skim-functions-Inv-loop skim-functions-μ-loop
-functions-returns t c =
-    let l = c .before .before in
-    let a = l .before .before .args in
-    skims.deep (a .s .now) (a .limits) (a .from) (a .n) (a .left) (l .loop .skimmed) (l .loop .more) (l .loop .inv) (c .before .loop-test .taken) (c .if1 .taken)
+functions-returns t c w n i = so-far.deep _ _ (c .before .before .loop .inv w n i .so-far) (c .before .loop-test .taken) (c .if1 .taken)
 
 functions-returns-2 : (t : ℕ) → skim-functions-lts.Need-returns-2 (functions-calls t) (skim-functions-at t) skim-functions.Post skim-functions-Inv-loop skim-functions-μ-loop
-functions-returns-2 t c =
-    let i = c .before .before .before in
-    let l = i .before .before in
-    let a = l .before .before .args in
-    skims.many (a .s .now) (a .limits) (a .from) (a .n) (a .left) (l .loop .skimmed) (l .loop .more) (l .loop .inv) (i .before .loop-test .taken) (level (a .left) (i .if1 .left)) (c .if2 .taken)
+functions-returns-2 t c w n i =
+    let e = c .before .before .before in
+    let l = e .before .before in
+    so-far.many _ _ (l .loop .inv w n i .so-far) (e .before .loop-test .taken) (level (l .before .before .args .left) (e .if1 .left)) (c .if2 .taken)
 
 functions-function-requires : (t : ℕ) → skim-functions-lts.Need-skim-function-requires (functions-calls t) (skim-functions-at t) skim-functions.Post skim-functions-Inv-loop skim-functions-μ-loop
 functions-function-requires t c κs =
@@ -172,34 +178,22 @@ functions-function-requires t c κs =
     let more = level (b .args .left) (i .if1 .left) in
     search needs
 
--- behind one function more: what it shows
-module _ (t : ℕ) (f : skim-functions-lts.After-skim-function (functions-calls t) (skim-functions-at t) skim-functions.Post skim-functions-Inv-loop skim-functions-μ-loop) where
-  abbrev i : skim-functions-lts.Else1 (functions-calls t) (skim-functions-at t) skim-functions.Post skim-functions-Inv-loop skim-functions-μ-loop
-  i = f .before .before .before .before
-
-  abbrev l : skim-functions-lts.At-loop (functions-calls t) (skim-functions-at t) skim-functions.Post skim-functions-Inv-loop skim-functions-μ-loop
-  l = i .before .before
-
-  abbrev b : skim-functions-lts.Args (functions-calls t) (skim-functions-at t) skim-functions.Post skim-functions-Inv-loop skim-functions-μ-loop (l .before .before .κs)
-  b = l .before .before .args
-
-  refused-next : (q : Refusal) → f .skim-function .result ≡ skim.Err q → (w : grammar.Where) → b .from .number ≡ w .number → b .from .instructions ≡ w .instructions → skim.Err q ≡ skims.all (b .s .now) (b .limits) (b .from) (b .n) (b .left) w
-  refused-next = skims.stops (b .s .now) (b .limits) (b .from) (b .n) (b .left) (l .loop .skimmed) (l .loop .more) (l .loop .inv) (i .before .loop-test .taken) (level (b .left) (i .if1 .left)) (f .before .if2 .left) (f .skim-function .result) (f .skim-function .ensures)
-
-  read-next : (later : Skimmed) → f .skim-function .result ≡ skim.Ok later → skims.Rest (b .s .now) (b .limits) (b .from) (b .n) (b .left) later (l .loop .more - 1)
-  read-next = skims.goes-on (b .s .now) (b .limits) (b .from) (b .n) (b .left) (l .loop .skimmed) (l .loop .more) (l .loop .inv) (i .before .loop-test .taken) (level (b .left) (i .if1 .left)) (f .before .if2 .left) (f .skim-function .result) (f .skim-function .ensures)
-
 functions-returns-3 : (t : ℕ) → skim-functions-lts.Need-returns-3 (functions-calls t) (skim-functions-at t) skim-functions.Post skim-functions-Inv-loop skim-functions-μ-loop
-functions-returns-3 t c = refused-next t (c .before .before .before) _ (c .before .one .given .1)
+functions-returns-3 t c w n i =
+    let f = c .before .before .before in
+    let e = f .before .before .before .before in
+    let l = e .before .before in
+    so-far.stops _ _ (l .loop .inv w n i .so-far) (e .before .loop-test .taken) (level (l .before .before .args .left) (e .if1 .left)) (f .before .if2 .left) _ (sym (c .before .one .given .1) ∙ f .skim-function .ensures (on w (l .loop .skimmed)) refl refl)
 
 functions-loop-again : (t : ℕ) → skim-functions-lts.Need-loop-again (functions-calls t) (skim-functions-at t) skim-functions.Post skim-functions-Inv-loop skim-functions-μ-loop
-functions-loop-again t c = read-next t (c .before .before .before) (c .before .one2 .given .0 .0) (c .before .one2 .given .1)
+functions-loop-again t c w n i =
+    let f = c .before .before .before in
+    let e = f .before .before .before .before in
+    let l = e .before .before in
+    record { passed = _; so-far = so-far.goes-on _ _ (l .loop .inv w n i .so-far) (e .before .loop-test .taken) (level (l .before .before .args .left) (e .if1 .left)) (f .before .if2 .left) _ (sym (c .before .one2 .given .1) ∙ f .skim-function .ensures (on w (l .loop .skimmed)) refl refl) }
 
 functions-returns-4 : (t : ℕ) → skim-functions-lts.Need-returns-4 (functions-calls t) (skim-functions-at t) skim-functions.Post skim-functions-Inv-loop skim-functions-μ-loop
-functions-returns-4 t c =
-    let l = c .before in
-    let a = l .before .before .args in
-    skims.ends-at (a .s .now) (a .limits) (a .from) (a .n) (a .left) (l .loop .skimmed) (l .loop .more) (l .loop .inv) (c .loop-test .left)
+functions-returns-4 t c w n i = so-far.ends (c .before .loop .inv w n i .so-far) (c .loop-test .left)
 
 pub +skim-function+skim-functions-spec : {M : Type 1} → statement M
 +skim-function+skim-functions-spec =
