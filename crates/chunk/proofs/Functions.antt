@@ -46,74 +46,14 @@ use Rattle.prototype.proofs.On.{taken, stopped}
 use Rattle.prototype.proofs.FrontAnswers.{FrontForm, exact-front}
 use Rattle.prototype.proofs.HeadAnswers.{ListsForm, exact-lists}
 use Rattle.prototype.proofs.Flat.{in-parts}
-
--- ## Entering a nested function
-abbrev pub Entered : ResourceLimits → ℕ → grammar.Where → Form (List Prototype)
-Entered L zero w = Nothing
-Entered L (suc left) w = Then (Given (w .number ≤ L .«max_total_prototypes»)) λ _. Function L left w
-
-pub exact-entered : (L : ResourceLimits) (left : ℕ) (w : grammar.Where) → Exact (entered L left w) (Entered L left w)
-exact-entered L zero w = exact-place λ place. exact-refuse _
-exact-entered L (suc left) w = exact-place λ place. exact-then (exact-atMost (w .number) (L .«max_total_prototypes») (TotalPrototypes place)) λ _. exact-function L left w
-
-pub function-body : (L : ResourceLimits) (left : ℕ) (w : grammar.Where) (at : ℕ) (s : Bytes) → function L left w at s ≡ body L (entered L left) w at s
-unfolding function
-function-body L zero w at s = refl
-function-body L (suc left) w at s = refl
-
-module _ (L : ResourceLimits) (left : ℕ) (w : grammar.Where) (at : ℕ) (s : Bytes) where
-  pub too-deep : left ≡ 0 → entered L left w at s ≡ refused (NestingDepth at)
-  too-deep e = rw e
-
-  pub too-many : 0 < left → L .«max_total_prototypes» < w .number → entered L left w at s ≡ refused (TotalPrototypes at)
-  too-many more h = let e : left ≡ suc (left - 1) = omega arith in rw (e, lt-leb _ _ h)
-
-  pub enters : 0 < left → w .number ≤ L .«max_total_prototypes» → entered L left w at s ≡ function L (left - 1) w at s
-  enters more h = let e : left ≡ suc (left - 1) = omega arith in ap (λ n. entered L n w at s) e ∙ rw (le-leb _ _ h)
-
--- ## The parts of a function
-abbrev pub HeadForm : ResourceLimits → ℕ → Form Head
-HeadForm L before = Then (FrontForm (L .«max_string_bytes»)) λ front. Then (ListsForm L before) λ lists. Then (ProtosCount (L .«max_total_prototypes»)) λ protos. Is (record { front = front; lists = lists; protos = protos })
-
-pub exact-head : (L : ResourceLimits) (before : ℕ) → Exact (head L before) (HeadForm L before)
-exact-head L before = exact-then (exact-front (L .«max_string_bytes»)) λ _. exact-then (exact-lists L before) λ _. exact-then (exact-protosCount (L .«max_total_prototypes»)) λ _. exact-give _
-
-abbrev pub TailForm : ℕ → Form Tail
-TailForm limit = Then LineInfo λ a. Then (Counted Anchor) λ b. Then (Counted (Local limit)) λ c. Then (Counted (String limit)) λ d. Is (record { line-info = a; abs-line-info = b; loc-vars = c; upvalue-names = d })
-
-pub exact-tail : (limit : ℕ) → Exact (tail limit) (TailForm limit)
-exact-tail limit = exact-then exact-lineInfo λ _. exact-then (exact-counted exact-anchor) λ _. exact-then (exact-counted (exact-local limit)) λ _. exact-then (exact-counted (exact-string limit)) λ _. exact-give _
-
--- the instructions of all functions so far stay within the limit
-every-code : (per-proto before total : ℕ) → Every (Code per-proto before total) (λ l. before + length (l .items) ≤ total)
-every-code per-proto before total = every-then any λ n _. every-then any λ _ _. every-then every-given λ _ fits. every-then any λ place _. every-then (every-many n any) λ words q. every-is (rw (q .0) fits)
-
-every-head : (L : ResourceLimits) (before : ℕ) → Every (HeadForm L before) (λ h. before + length (h .lists .instructions .items) ≤ L .«max_total_instructions»)
-every-head L before =
-    every-then any λ front _.
-    every-then (every-then (every-code (L .«max_instructions_per_proto») before (L .«max_total_instructions»)) λ code fits. every-then any λ _ _. every-then any λ _ _. every-is {P = λ l. before + length (l .instructions .items) ≤ L .«max_total_instructions»} fits) λ lists fits.
-    every-then any λ protos _.
-    every-is fits
-
-head-err : (o : Read Head) (q : Refusal) → head-answer.Err q ≡ headResult o → o ≡ refused q
-head-err (ok x to rest) q e = absurd (let z : _≡_ {A = ℕ} 0 1 = cc in omega arith)
-head-err (refused p) q e = cc
+pub use Rattle.skim.proofs.Entering.{Entered, exact-entered, function-body, too-deep, too-many, enters}
+pub use Rattle.skim.proofs.HeadTail.{exact-head, exact-tail, in-total, head-err, tail-err}
 
 head-ok : (o : Read Head) (h : declared-head.Head) (c : Cursor) → head-answer.Ok h c ≡ headResult o → Showed headOf o h (c .at)
 head-ok (ok x to rest) h c e =
     let next : c ≡ cursorAt to = cc in
     record { value = x; was = record { rest = rest; is = rw next }; shows = cc }
 head-ok (refused p) h c e = absurd (let z : _≡_ {A = ℕ} 0 1 = cc in omega arith)
-
-pub in-total : (s : Bytes) (L : ResourceLimits) (before at : ℕ) (h : declared-head.Head) (c : Cursor) → head-answer.Ok h c ≡ headResult (head L before at (drop at s)) → before + h .lists .instructions .count ≤ L .«max_total_instructions»
-in-total s L before at h c e =
-    let o = head-ok (head L before at (drop at s)) h c e in
-    let split = exact-head L before .sound {at = at} {s = drop at s} (o .was .is) in
-    rw (o .shows) (every-head L before .holds at (split .bytes) (o .value) (split .spelt))
-
-pub tail-err : (o : Read Tail) (q : Refusal) → tail-answer.Err q ≡ tailResult o → o ≡ refused q
-tail-err (ok x to rest) q e = absurd (let z : _≡_ {A = ℕ} 0 1 = cc in omega arith)
-tail-err (refused p) q e = cc
 
 pub tail-ok : (o : Read Tail) (t : declared-tail.Tail) (c : Cursor) → tail-answer.Ok t c ≡ tailResult o → Showed tailOf o t (c .at)
 tail-ok (ok x to rest) t c e =

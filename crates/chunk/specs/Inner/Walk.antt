@@ -5,13 +5,10 @@ use mathlib.Core.Option.{Option}
 use Prim.Native.Nat.{ℕ, zero, suc, _+_}
 use lib.Dec.{eqb}
 use lib.ListN.{length}
-use Rattle.format.specs.declared.limits.ResourceLimits.{ResourceLimits}
-use Rattle.format.specs.declared.refusal.Refusal.the-variants.{NestingDepth, TotalPrototypes}
 use Rattle.format.specs.Reading.{Prototype}
 use Rattle.format.specs.GrammarChunk as grammar
 use Rattle.format.specs.GrammarChunk.{instructionsOf}
-use Rattle.format.specs.Read.{Read, ok, refused, Reader, next, _>>=_, _>>_, here, refuse, atMost}
-use Rattle.format.specs.ReadChunk.{function}
+use Rattle.format.specs.Read.{Read, ok, refused}
 use Rattle.cursor.specs.declared.Cursor.{Cursor}
 use Rattle.cursor.specs.Shown.{cursorAt}
 use Rattle.reader.specs.Shown.{optionString}
@@ -27,20 +24,11 @@ use Rattle.prototype.specs.declared.parts.Tail.{Tail}
 use Rattle.reader.specs.declared.string.OptionString.{OptionString}
 use Rattle.reader.specs.declared.string.OptionString.the-variants as string
 use Rattle.prototype.specs.Inner.Row.{shownRow, lookup}
+pub use Rattle.skim.specs.Inner.Skim.{entered}
 
 -- where a function stands, with the place and length of its parent's source
 abbrev pub shownWhere : grammar.Where → Where
 shownWhere w = record { number = w .number; instructions = w .instructions; depth = w .depth; parent = w .parent; source = optionString (w .source) }
-
--- a function that nests in another, below which functions nest at most `left` deep
-abbrev pub entered : ResourceLimits → ℕ → grammar.Where → Reader (List Prototype)
-entered L zero w = do
-  place ← here
-  refuse (NestingDepth place)
-entered L (suc left) w = do
-  place ← here
-  atMost (w .number) (L .«max_total_prototypes») (TotalPrototypes place)
-  function L left w
 
 -- a row that was found before, else the later one
 abbrev pub orRow : OptionRow → OptionRow → OptionRow
