@@ -14,7 +14,7 @@ use Rattle.skim.specs.declared.walk.Skimmed.{Skimmed}
 use Rattle.skim.specs.declared.walk.SkimResult.the-variants as skim
 use Rattle.prototype.specs.Parts.{Tail, tail}
 use Rattle.prototype.specs.PartsShown.{tailOf, tailResult}
-use Rattle.chunk.proofs.Functions.{tail-err, tail-ok}
+use Rattle.skim.proofs.HeadTail.{tail-err, tail-read}
 use Rattle.encode.specs.Inner.Put.{Put}
 use Rattle.copy_parts.specs.Inner.Parts.{tailBytes}
 use Rattle.copy_parts.specs.Inner.Ends.{PutsTail, endShown}
@@ -27,7 +27,7 @@ module _ (nested : Skimmed) {at : ℕ} {l : Bytes} {len : ℕ} {l′ : Bytes} wh
       → ((from to : ℕ) (v : Tail) (rest : Bytes) → tail limit from (drop from s) ≡ ok v to rest → t ≡ tailOf v → Put (tailBytes v) at l len l′)
       → (skim.Ok (record { next = c; number = nested .number; instructions = nested .instructions }) ≡ endShown nested (tail limit from (drop from s))) × PutsTail (tail limit from (drop from s)) at l len l′
   end-read s limit from t c e p =
-      let o = tail-ok (tail limit from (drop from s)) t c e in (
-        sym (ap (endShown nested) (o .was .is)),
-        record { put = λ v to rest f. let same : o .value ≡ v = (let both = sym (o .was .is) ∙ f in cc) in p from to v rest f (o .shows ∙ ap tailOf same) },
+      let o = tail-read s limit from t c e in (
+        sym (ap (endShown nested) (o .is)),
+        record { put = λ v to rest f. let same : o .value ≡ v = (let both = sym (o .is) ∙ f in cc) in p from to v rest f (o .shows ∙ ap tailOf same) },
       )

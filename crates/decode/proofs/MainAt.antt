@@ -26,8 +26,8 @@ use Rattle.header.specs.declared.OptionWarning.the-variants as option
 use Rattle.header.specs.Shown.{firstWarning}
 use Rattle.prototype.specs.Parts.{Head, head, Tail, tail}
 use Rattle.prototype.specs.Inner.Whole.{prototypeOf, inside}
-use Rattle.chunk.specs.Inner.Walk.{shownWhere, entered}
-use Rattle.chunk.proofs.Functions.{by-parts}
+use Rattle.skim.specs.Inner.Skim.{entered}
+use Rattle.skim.proofs.OneFunction.{by-parts}
 use Rattle.decode.specs.declared.summary.Summary.{Summary}
 use Rattle.decode.specs.declared.summary.JudgedResult.the-variants as judged
 use Rattle.decode.specs.Decoded.{summaryOf}
@@ -53,7 +53,7 @@ was-refused (refusal p) q e = cc
 -- ## Where main stands
 -- where a function is read, there is one
 some-read : (L : ResourceLimits) (n at : ℕ) (s : Bytes) {ps : List Prototype} {to : ℕ} {rest : Bytes} → function L n outermost at (drop at s) ≡ ok ps to rest → 0 < length ps
-some-read L n at s {ps} {to} {rest} e = one (head L 0 at (drop at s)) (sym (by-parts s L n 0 (shownWhere outermost) outermost refl at) ∙ e)
+some-read L n at s {ps} {to} {rest} e = one (head L 0 at (drop at s)) (sym (by-parts s L n outermost at) ∙ e)
   where
     ended : Head → List Prototype → Tail → Reader (List Prototype)
     ended h nested t end = give (prototypeOf outermost at h t end ∷ nested) end

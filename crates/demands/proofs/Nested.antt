@@ -33,9 +33,10 @@ use Rattle.prototype.specs.Parts.{Head, head, Tail, tail}
 use Rattle.prototype.specs.Inner.Whole.{prototypeOf, inside, parts}
 use Rattle.prototype.proofs.FrontAnswers.{exact-front}
 use Rattle.prototype.proofs.HeadAnswers.{exact-lists}
-use Rattle.prototype.proofs.Flat.{in-parts}
-use Rattle.chunk.specs.Inner.Walk.{entered}
-use Rattle.chunk.proofs.Functions.{exact-entered, function-body, exact-head, exact-tail}
+use Rattle.skim.specs.Inner.Skim.{entered}
+use Rattle.skim.proofs.Entering.{exact-entered}
+use Rattle.skim.proofs.HeadTail.{exact-head, exact-tail}
+use Rattle.skim.proofs.OneFunction.{by-parts}
 use Rattle.functions.proofs.Fewer.{fewer-head}
 
 -- ## What the reading says
@@ -217,7 +218,7 @@ module _ (L : ResourceLimits) (s : Bytes) where
 
   -- the same of a reader that is this one
   as-parts : (left : ℕ) (w : Where) (at : ℕ) {P : ℕ → List Prototype → Type 0} → AtPlace s at (parts L (entered L left) w) P → AtPlace s at (function L left w) P
-  as-parts left w at a = record { holds = λ e. a .holds (sym (function-body L left w at (drop at s) ∙ in-parts L (entered L left) w at (drop at s)) ∙ e) }
+  as-parts left w at a = record { holds = λ e. a .holds (sym (by-parts s L left w at) ∙ e) }
 
   at-entering : (left : ℕ) (w : Where) (at : ℕ) {P : ℕ → List Prototype → Type 0} → ((to : ℕ) → AtPlace s to (function L left w) P) → AtPlace s at (entered L (suc left) w) P
   at-entering left w at inner = record { holds = λ e. (at-then (exact-atMost (w .number) (L .«max_total_prototypes») (TotalPrototypes at)) any λ _ to _. inner to) .holds e }

@@ -9,25 +9,22 @@ use lib.Dec.{leb}
 use lib.ListN.{drop}
 use Rattle.format.specs.declared.limits.ResourceLimits.{ResourceLimits}
 use Rattle.format.specs.declared.refusal.Refusal.the-variants.{TotalPrototypes}
-use Rattle.format.specs.Form.{Bytes, Form, Then, Is}
+use Rattle.format.specs.Form.{Bytes}
 use Rattle.format.specs.Reading.{Prototype}
 use Rattle.format.specs.GrammarChunk.{Where, after}
 use Rattle.format.specs.Read.{Read, ok, refused, Reader, next, give, test}
 use Rattle.format.specs.ReadChunk.{forest, function}
-use Rattle.format.proofs.Exact.{Exact, exact-then, exact-give}
 use Rattle.format.proofs.ExactChunk.{exact-forest}
 use Rattle.format.proofs.Left.{left}
-use Rattle.counted.proofs.Within.{exact-protosCount, ProtosCount}
 use Rattle.cursor.specs.Shown.{cursorAt}
 use Rattle.prototype.specs.declared.parts.HeadResult.the-variants as head-answer
 use Rattle.prototype.specs.Parts.{Head, head, Tail, tail}
 use Rattle.prototype.specs.Inner.Whole.{prototypeOf, inside, parts}
 use Rattle.prototype.specs.PartsShown.{headOf, headResult, tailResult}
-use Rattle.chunk.specs.Inner.Walk as walk
-use Rattle.prototype.proofs.FrontAnswers.{FrontForm, exact-front}
-use Rattle.prototype.proofs.HeadAnswers.{ListsForm, exact-lists}
-use Rattle.prototype.proofs.Flat.{in-parts}
-use Rattle.chunk.proofs.Functions.{Entered, exact-entered, function-body}
+use Rattle.skim.specs.Inner.Skim.{entered}
+use Rattle.skim.proofs.Entering.{exact-entered}
+use Rattle.skim.proofs.HeadTail.{exact-head}
+use Rattle.skim.proofs.OneFunction.{by-parts}
 use Rattle.functions.specs.Inner.Rows.{rowShown, headAt, tailAt, onHead, onTail, Walked, through, cut, before, andThen, times, bodyAt, functionAt, rowsOf, chunkRows, prototypeRow}
 use Rattle.functions.specs.declared.Row.{Row}
 use Rattle.functions.proofs.Fewer.{Fewer, fewer-head}
@@ -44,10 +41,6 @@ abbrev Agree : Read (List Prototype) → Walked → Type 0
 Agree (ok ps to rest) w = w ≡ through (rowsFor ps) to
 Agree (refused q) w = Unit {0}
 
-exact-head : (L : ResourceLimits) (n : ℕ)
-    → Exact (head L n) (Then (FrontForm (L .«max_string_bytes»)) λ front. Then (ListsForm L n) λ lists. Then (ProtosCount (L .«max_total_prototypes»)) λ protos. Is (record { front = front; lists = lists; protos = protos }))
-exact-head L n = exact-then (exact-front (L .«max_string_bytes»)) λ _. exact-then (exact-lists L n) λ _. exact-then (exact-protosCount (L .«max_total_prototypes»)) λ _. exact-give _
-
 module _ (L : ResourceLimits) (s : Bytes) where
   -- ## Functions one behind the other
   joined : (ps : List Prototype) (o : Read (List Prototype)) (w : Walked) → Agree o w → Agree (next o (λ more. give (ps ++ more))) (before (rowsFor ps) w)
@@ -55,18 +48,18 @@ module _ (L : ResourceLimits) (s : Bytes) where
   joined ps (refused q) w a = tt
 
   -- those that nest in a function of this level
-  module _ (depth left-over : ℕ) (one : ℕ → Walked) (agree : (w : Where) (at : ℕ) → w .depth ≡ depth + 1 → Agree (walk.entered L left-over w at (drop at s)) (one at)) where
-    agree-more : (n : ℕ) → ((w : Where) (at : ℕ) → w .depth ≡ depth + 1 → Agree (forest n (walk.entered L left-over) w at (drop at s)) (times one n at)) → (w : Where) (at : ℕ) → w .depth ≡ depth + 1
-        → (o : Read (List Prototype)) → walk.entered L left-over w at (drop at s) ≡ o → Agree o (one at)
-        → Agree (next o (λ ps to rest. next (forest n (walk.entered L left-over) (after ps w) to rest) (λ more. give (ps ++ more)))) (andThen (one at) (times one n))
+  module _ (depth left-over : ℕ) (one : ℕ → Walked) (agree : (w : Where) (at : ℕ) → w .depth ≡ depth + 1 → Agree (entered L left-over w at (drop at s)) (one at)) where
+    agree-more : (n : ℕ) → ((w : Where) (at : ℕ) → w .depth ≡ depth + 1 → Agree (forest n (entered L left-over) w at (drop at s)) (times one n at)) → (w : Where) (at : ℕ) → w .depth ≡ depth + 1
+        → (o : Read (List Prototype)) → entered L left-over w at (drop at s) ≡ o → Agree o (one at)
+        → Agree (next o (λ ps to rest. next (forest n (entered L left-over) (after ps w) to rest) (λ more. give (ps ++ more)))) (andThen (one at) (times one n))
     agree-more n others w at deep (ok ps to rest) e a =
-        rw (a, left (exact-entered L left-over w) s at e) (joined ps (forest n (walk.entered L left-over) (after ps w) to (drop to s)) (times one n to) (others (after ps w) to deep))
+        rw (a, left (exact-entered L left-over w) s at e) (joined ps (forest n (entered L left-over) (after ps w) to (drop to s)) (times one n to) (others (after ps w) to deep))
     agree-more n others w at deep (refused q) e a = tt
 
-    agree-forest : (n : ℕ) (w : Where) (at : ℕ) → w .depth ≡ depth + 1 → Agree (forest n (walk.entered L left-over) w at (drop at s)) (times one n at)
+    agree-forest : (n : ℕ) (w : Where) (at : ℕ) → w .depth ≡ depth + 1 → Agree (forest n (entered L left-over) w at (drop at s)) (times one n at)
     unfolding times
     agree-forest zero w at deep = refl
-    agree-forest (suc n) w at deep = agree-more n (agree-forest n) w at deep (walk.entered L left-over w at (drop at s)) refl (agree w at deep)
+    agree-forest (suc n) w at deep = agree-more n (agree-forest n) w at deep (entered L left-over w at (drop at s)) refl (agree w at deep)
 
     -- ## A function
     agree-tail : (w : Where) (at : ℕ) (h : Head) (ps : List Prototype) (o : Read Tail)
@@ -74,7 +67,7 @@ module _ (L : ResourceLimits) (s : Bytes) where
     agree-tail w at h ps (ok t end rest) = simp append-nil
     agree-tail w at h ps (refused q) = tt
 
-    agree-nested : (w : Where) (at : ℕ) (h : Head) (first : ℕ) (o : Read (List Prototype)) → forest (h .protos .count) (walk.entered L left-over) (inside w h) first (drop first s) ≡ o
+    agree-nested : (w : Where) (at : ℕ) (h : Head) (first : ℕ) (o : Read (List Prototype)) → forest (h .protos .count) (entered L left-over) (inside w h) first (drop first s) ≡ o
         → Agree o (times one (h .protos .count) first)
         → Agree (next o (λ ps behind rest. next (tail (L .«max_string_bytes») behind rest) (λ t end rest. ok (prototypeOf w at h t end ∷ ps) end rest)))
         (before (rowShown (w .depth) (headOf h) ∷ []) (andThen (times one (h .protos .count) first) (λ behind. onTail (tailAt L s behind) (cut []) (through []))))
@@ -84,18 +77,18 @@ module _ (L : ResourceLimits) (s : Bytes) where
     agree-nested w at h first (refused q) e a = tt
 
     agree-head : (w : Where) → w .depth ≡ depth → (at : ℕ) (o p : Read Head) → head L (w .instructions) at (drop at s) ≡ o → Fewer o p
-        → Agree (next o (λ h first rest. next (forest (h .protos .count) (walk.entered L left-over) (inside w h) first rest) (λ ps behind rest. next (tail (L .«max_string_bytes») behind rest) (λ t end rest. ok (prototypeOf w at h t end ∷ ps) end rest))))
+        → Agree (next o (λ h first rest. next (forest (h .protos .count) (entered L left-over) (inside w h) first rest) (λ ps behind rest. next (tail (L .«max_string_bytes») behind rest) (λ t end rest. ok (prototypeOf w at h t end ∷ ps) end rest))))
         (onHead (w .depth) (headResult p) (cut []) (λ row first. before (row ∷ []) (andThen (times one (row .protos .count) first) (λ behind. onTail (tailAt L s behind) (cut []) (through [])))))
     agree-head w deep at (ok h first rest) p e f =
         rw (f .holds h first rest refl, left (exact-head L (w .instructions)) s at e)
-        (agree-nested w at h first (forest (h .protos .count) (walk.entered L left-over) (inside w h) first (drop first s)) refl (agree-forest (h .protos .count) (inside w h) first (ap (λ d. d + 1) deep)))
+        (agree-nested w at h first (forest (h .protos .count) (entered L left-over) (inside w h) first (drop first s)) refl (agree-forest (h .protos .count) (inside w h) first (ap (λ d. d + 1) deep)))
     agree-head w deep at (refused q) p e f = tt
 
     agree-body : (w : Where) → w .depth ≡ depth → (at : ℕ) → Agree (function L left-over w at (drop at s)) (bodyAt L s depth (times one) at)
     unfolding bodyAt headAt
     agree-body w deep at =
         rw (← deep)
-        (subst (λ (o : Read (List Prototype)). Agree o (bodyAt L s (w .depth) (times one) at)) (sym (function-body L left-over w at (drop at s) ∙ in-parts L (walk.entered L left-over) w at (drop at s)))
+        (subst (λ (o : Read (List Prototype)). Agree o (bodyAt L s (w .depth) (times one) at)) (sym (by-parts s L left-over w at))
         (agree-head w deep at (head L (w .instructions) at (drop at s)) (head L 0 at (drop at s)) refl (fewer-head L (w .instructions) at (drop at s))))
 
   -- the test on entering

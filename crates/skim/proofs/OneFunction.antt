@@ -16,7 +16,6 @@ use Rattle.format.specs.GrammarChunk.{Where, instructionsOf}
 use Rattle.format.specs.Read.{Read, ok, refused, Reader, next}
 use Rattle.format.specs.ReadChunk.{forest, function}
 use Rattle.format.proofs.Exact.{Exact}
-use Rattle.format.proofs.ExactChunk.{exact-forest}
 use Rattle.format.proofs.Left.{left}
 use Rattle.cursor.specs.declared.Cursor.{Cursor}
 use Rattle.cursor.specs.Shown.{cursorAt}
@@ -28,7 +27,7 @@ use Rattle.prototype.proofs.Flat.{in-parts}
 use Rattle.skim.specs.declared.walk.Skimmed.{Skimmed}
 use Rattle.skim.specs.declared.walk.SkimResult.the-variants as skim
 use Rattle.skim.specs.Inner.Skim.{entered, skimmedOf, skimResult}
-use Rattle.skim.proofs.Entering.{exact-entered, function-body}
+use Rattle.skim.proofs.Entering.{function-body}
 use Rattle.skim.proofs.HeadTail.{ReadOn}
 
 -- ## What a walk showed
@@ -102,10 +101,7 @@ module _ (s : Bytes) (L : ResourceLimits) (left : ℕ) (w : Where) (at : ℕ) wh
     pub nested-refused : (q : Refusal) → skim.Err q ≡ skimResult (inside w h) inner → skim.Err q ≡ skimResult w function-at
     nested-refused q e = sym (ap (skimResult w) (no-nested e₁ (as-many ∙ skim-err (inside w h) inner q e)))
 
-    module _ (k : Skimmed) (e₂ : skim.Ok k ≡ skimResult (inside w h) inner) where
-      pub nested : Skims (forest n (entered L left)) s (inside w h) (c₁ .at) k
-      nested = skim-read (λ v. exact-forest n v (exact-entered L left)) s (inside w h) (c₁ .at) k e₂
-
+    module _ (k : Skimmed) (nested : Skims (forest n (entered L left)) s (inside w h) (c₁ .at) k) where
       nested-on : nested-at e₁ ≡ ok (nested .value) (k .next .at) (drop (k .next .at) s)
       nested-on = as-many ∙ nested .is
 

@@ -13,6 +13,7 @@ use Rattle.format.specs.Reading.{Prototype}
 use Rattle.format.specs.GrammarChunk.{Where}
 use Rattle.format.specs.Read.{Read, ok}
 use Rattle.format.specs.ReadChunk.{forest, function}
+use Rattle.format.proofs.ExactChunk.{exact-forest}
 use Rattle.cursor.specs.declared.Cursor.{Cursor}
 use Rattle.prototype.specs.declared.pass.HeadCounts.{HeadCounts}
 use Rattle.prototype.specs.declared.pass.HeadCountsResult.the-variants as head-answer
@@ -25,9 +26,10 @@ use Rattle.prototype.proofs.Counts.{head-not, tail-not}
 use Rattle.skim.specs.declared.walk.Skimmed.{Skimmed}
 use Rattle.skim.specs.declared.walk.SkimResult.the-variants as skim
 use Rattle.skim.specs.Inner.Skim.{entered, skimResult}
+use Rattle.skim.proofs.Entering.{exact-entered}
 use Rattle.skim.proofs.HeadTail.{ReadOn, counts-read, tail-counts-read}
 use Rattle.skim.proofs.OneFunction as one
-use Rattle.skim.proofs.OneFunction.{Skims}
+use Rattle.skim.proofs.OneFunction.{Skims, skim-read}
 
 module _ (s : Bytes) (L : ResourceLimits) (left : ℕ) (w : Where) (at : ℕ) {before : ℕ} (so-far : before ≡ w .instructions) where
   abbrev pub begins : Read parts.Head
@@ -70,13 +72,13 @@ module _ (s : Bytes) (L : ResourceLimits) (left : ℕ) (w : Where) (at : ℕ) {b
 
     module _ (k : Skimmed) (e₂ : skim.Ok k ≡ skimResult first inner) where
       abbrev pub nested : Skims (forest (n .protos) (entered L left)) s first (c₁ .at) k
-      nested = one.nested s L left w at c₁ head-on (n .protos) many k e₂
+      nested = skim-read (λ v. exact-forest (n .protos) v (exact-entered L left)) s first (c₁ .at) k e₂
 
       abbrev pub ends : Read parts.Tail
       ends = parts.tail (L .«max_string_bytes») (k .next .at) (drop (k .next .at) s)
 
       pub tail-refused : (q : Refusal) → tail-answer.Err q ≡ tailCountsResult ends → skim.Err q ≡ skimResult w (function L left w at (drop at s))
-      tail-refused q e = one.tail-refused s L left w at c₁ head-on (n .protos) many k e₂ q (tail-not ends q e)
+      tail-refused q e = one.tail-refused s L left w at c₁ head-on (n .protos) many k nested q (tail-not ends q e)
 
       module _ (t : TailCounts) (c₃ : Cursor) (e₃ : tail-answer.Ok t c₃ ≡ tailCountsResult ends) where
         pub tailed : ReadOn tailCounts (parts.tail (L .«max_string_bytes»)) s (k .next .at) t (c₃ .at)
@@ -89,7 +91,7 @@ module _ (s : Bytes) (L : ResourceLimits) (left : ℕ) (w : Where) (at : ℕ) {b
         tail-counted = tailed .shows
 
         pub function-read : function L left w at (drop at s) ≡ ok (prototypeOf w at its-head its-tail (c₃ .at) ∷ nested .value) (c₃ .at) (drop (c₃ .at) s)
-        function-read = one.function-read s L left w at c₁ head-on (n .protos) many k e₂ (tailed .is)
+        function-read = one.function-read s L left w at c₁ head-on (n .protos) many k nested (tailed .is)
 
         pub function-shown : skim.Ok (record { next = c₃; number = k .number; instructions = k .instructions }) ≡ skimResult w (function L left w at (drop at s))
-        function-shown = one.function-shown s L left w at c₁ head-on (n .protos) many k e₂ (tailed .is)
+        function-shown = one.function-shown s L left w at c₁ head-on (n .protos) many k nested (tailed .is)

@@ -52,8 +52,11 @@ module _ {r : Where → Reader (List Prototype)} {s : Bytes} {w : Where} {n from
       let e : more ≡ 0 = omega arith in
       a .reads ∙ ap (λ m. next (forest m r (on w k) (k .next .at) (drop (k .next .at) s)) (λ qs. give (passed ++ qs))) e ∙ ap (λ l. ok l (k .next .at) (drop (k .next .at) s)) (append-nil passed)
 
+  abbrev pub those : more ≤ 0 → Skims (forest n r) s w from k
+  those over = record { value = passed; is = ended over; shows = λ i. record { next = k .next; number = a .number i; instructions = a .instructions i } }
+
   pub ends : more ≤ 0 → skim.Ok k ≡ skimResult w (forest n r w from (drop from s))
-  ends over = (λ i. skim.Ok (record { next = k .next; number = a .number i; instructions = a .instructions i })) ∙ sym (ap (skimResult w) (ended over))
+  ends over = ap skim.Ok (those over .shows) ∙ sym (ap (skimResult w) (ended over))
 
   -- the next one
   turn : 0 < more → forest more r (on w k) (k .next .at) (drop (k .next .at) s)

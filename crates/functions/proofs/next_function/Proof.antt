@@ -3,7 +3,7 @@
 use mathlib.Core.Path.{sym, _∙_}
 use native.Mathlib.Omega.{arith}
 use borrow.Author.Needs.{needs}
-use Rattle.chunk.proofs.Functions.{in-total}
+use Rattle.skim.proofs.HeadTail.{in-total}
 use Rattle.functions.specs.Inner.Rows.{headAt}
 use Rattle.functions.proofs.RowLaws.{one-more}
 use Rattle.functions.proofs.next_function.Statement.{statement}
