@@ -1,7 +1,7 @@
 -- A function that was read, and the copy's bytes of it and of all that nest in it.
 --     made             a function's bytes are those of its two parts, with those of the nested functions between them
 --     Single, Several  one function, n functions: what the copy makes of them, whatever follows, and that it is at most twice as long
---     entered-single   so it is with every function that is read
+--     function-single  so it is with every function that is read
 -- Assumes nothing.
 use mathlib.Core.Path.{_≡_, refl, sym, _∙_, ap, ap₂}
 use mathlib.Core.Bool.{Bool, true, false, true≢false, cond}
@@ -25,9 +25,10 @@ use Rattle.format.proofs.ExactChunk.{exact-forest}
 use Rattle.format.proofs.Located.{AtPlace, at-give, at-here, at-then, at-refuse}
 use Rattle.prototype.specs.Parts.{Head, head, Tail, tail}
 use Rattle.prototype.specs.Inner.Whole.{prototypeOf, inside, parts}
-use Rattle.chunk.specs.Inner.Walk.{entered}
-use Rattle.prototype.proofs.Flat.{in-parts}
-use Rattle.chunk.proofs.Functions.{exact-entered, function-body, exact-head, exact-tail}
+use Rattle.skim.specs.Inner.Skim.{entered}
+use Rattle.skim.proofs.Entering.{exact-entered}
+use Rattle.skim.proofs.HeadTail.{exact-head, exact-tail}
+use Rattle.skim.proofs.OneFunction as one
 use Rattle.copy_parts.specs.Inner.Parts.{sourceBytes, headBytes, tailBytes, functionBytes}
 use Rattle.copy_parts.proofs.Lengths.{Short, short-then, short-none, stays}
 use Rattle.copy_parts.proofs.PartsAt.{HeadAt, head-at, TailAt, tail-at}
@@ -58,7 +59,7 @@ pub record Several (n : ℕ) (ps : List Prototype) (at to : ℕ) : Type 0 where
   pub short : Short (flatten (foldr nest [] ps)) at to
 
 -- one more before those that follow
-pub more-bytes : (ps qs : List Prototype) (at to : ℕ) → Single ps at to → flatten (foldr nest [] (ps ++ qs)) ≡ functionBytes false ps ++ flatten (foldr nest [] qs)
+more-bytes : (ps qs : List Prototype) (at to : ℕ) → Single ps at to → flatten (foldr nest [] (ps ++ qs)) ≡ functionBytes false ps ++ flatten (foldr nest [] qs)
 unfolding flatten
 more-bytes ps qs at to h = ap flatten (foldr-append nest [] ps qs ∙ h .stack (foldr nest [] qs))
 
@@ -105,17 +106,20 @@ module _ (s : Bytes) (bytes : Below 256 s) (L : ResourceLimits) where
             rw (m .stack later, take-at (m .pieces) later (p .protos) (m .count), drop-at (m .pieces) later (p .protos) (m .count), m .stack [], append-nil)
 
   by-parts : (left : ℕ) (w : Where) (at : ℕ) {P : ℕ → List Prototype → Type 0} → AtPlace s at (parts L (entered L left) w) P → AtPlace s at (function L left w) P
-  by-parts left w at h = record { holds = λ e. h .holds (sym (in-parts L (entered L left) w at (drop at s)) ∙ sym (function-body L left w at (drop at s)) ∙ e) }
+  by-parts left w at h = record { holds = λ e. h .holds (sym (one.by-parts s L left w at) ∙ e) }
 
   single : (left : ℕ) → ((w : Where) (at : ℕ) → AtPlace s at (entered L left w) (λ to ps. Single ps at to)) → (w : Where) (at : ℕ) → AtPlace s at (function L left w) (λ to ps. Single ps at to)
   single left one w at = by-parts left w at (record { holds = λ e. record { stack = parts-stack (exact-entered L left) one w at .holds e; short = parts-short (exact-entered L left) one false w at (λ f. absurd (true≢false (sym f))) .holds e } })
 
-  pub entered-single : (left : ℕ) (w : Where) (at : ℕ) → AtPlace s at (entered L left w) (λ to ps. Single ps at to)
+  entered-single : (left : ℕ) (w : Where) (at : ℕ) → AtPlace s at (entered L left w) (λ to ps. Single ps at to)
   entered-single zero w at = at-here λ place. at-refuse
   entered-single (suc left) w at = record { holds = λ e. (at-then {s = s} {at = at} (exact-atMost (w .number) (L .«max_total_prototypes») (TotalPrototypes at)) (stays (w .number) (L .«max_total_prototypes») (TotalPrototypes at)) λ _ to same. moved same (single left (entered-single left) w to)) .holds e }
     where
       moved : {to : ℕ} {q : Reader (List Prototype)} → to ≡ at → AtPlace s to q (λ up ps. Single ps to up) → AtPlace s to q (λ up ps. Single ps at up)
       moved e h = rw (← e) h
+
+  pub function-single : (left : ℕ) (w : Where) (at : ℕ) → AtPlace s at (function L left w) (λ to ps. Single ps at to)
+  function-single left = single left (entered-single left)
 
   -- main, with its source
   pub main-short : (left : ℕ) (w : Where) (at : ℕ) → w .source ≡ none → AtPlace s at (function L left w) (λ to ps. Short (functionBytes true ps) at to)

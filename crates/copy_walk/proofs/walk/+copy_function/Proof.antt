@@ -1,5 +1,5 @@
 -- The proof of `copy_function`, which calls itself for the functions that nest in it: the levels left fall. The loop's measure is the functions left.
--- What each return shows is in skim's Skims.antt, what it has put in Loops.antt and Functions.antt.
+-- What each return shows is in skim's SoFar.antt and in Functions.antt, what it has put in Loops.antt and Functions.antt.
 -- Assumes nothing.
 use Prim.Native.Nat.{ℕ, _<_, _+_}
 use mathlib.Core.Path.{_≡_, refl, sym, _∙_}
@@ -9,23 +9,24 @@ use lib.ListN.{length, drop}
 use borrow.Author.Needs.{needs}
 use borrow.Fn.Kinds.{In}
 use borrow.Fn.PlainCycle.{Measures, is, falls, and}
-use Rattle.format.specs.GrammarChunk as grammar
-use Rattle.format.specs.ReadChunk.{function}
+use Rattle.format.specs.GrammarChunk.{Where}
+use Rattle.format.specs.ReadChunk.{forest, function}
 use Rattle.format.specs.declared.refusal.Refusal.{Refusal}
 use Rattle.cursor.specs.declared.Cursor.{Cursor}
 use Rattle.prototype.specs.declared.parts.Head as declared-head
 use Rattle.prototype.specs.declared.parts.HeadResult.the-variants as head-answer
 use Rattle.prototype.specs.Parts as parts
 use Rattle.prototype.specs.PartsShown.{headResult}
-use Rattle.chunk.proofs.Functions.{in-total}
 use Rattle.skim.specs.declared.walk.Skimmed.{Skimmed}
 use Rattle.skim.specs.declared.walk.SkimResult.the-variants as skim
-use Rattle.skim.specs.Inner.Skim.{skimResult}
-use Rattle.skim.proofs.Skims as skims
+use Rattle.skim.specs.Inner.Skim.{entered, on, skimResult}
+use Rattle.skim.proofs.HeadTail.{in-total}
+use Rattle.skim.proofs.SoFar as so-far
 use Rattle.copy_parts.specs.Inner.Parts.{functionBytes}
 use Rattle.copy_walk.proofs.Tails.{tail-inside, part-kept, put-part}
-use Rattle.copy_walk.proofs.Loops.{GoesOn, on-first, on-next, on-last}
-use Rattle.copy_walk.proofs.Functions.{not-read, end-shows, whole-put}
+use Rattle.copy_walk.proofs.Loops.{Copies, copies-none, copies-one, copies-all}
+use Rattle.copy_walk.proofs.Functions as copied
+use Rattle.copy_walk.proofs.Functions.{not-read}
 use Rattle.copy_walk.proofs.walk.copy_function.Reads as copy-function
 use Rattle.copy_walk.proofs.walk.copy_function.Kinds as copy-function-kinds
 use Rattle.copy_walk.proofs.walk.+copy_function.Lts-copy_function as copy-function-lts
@@ -73,7 +74,7 @@ calls t = (
 
 abbrev Inv : copy-function-lts.InvT-loop
 Inv s limits named left out₀ head len₀ nested₀ more₀ out len nested more =
-    (length out ≡ length out₀) × skims.Rest s limits nested₀ more₀ left nested more × GoesOn s limits nested₀ more₀ left len₀ out₀ nested more len out
+    (length out ≡ length out₀) × ((w : Where) → nested₀ .number ≡ w .number → nested₀ .instructions ≡ w .instructions → Copies s limits left w more₀ (nested₀ .next .at) len₀ out₀ nested more len out)
 
 abbrev μ-loop : copy-function-lts.MeasureT-loop
 μ-loop s limits named left out₀ head len₀ nested₀ more₀ out len nested more = more
@@ -95,19 +96,19 @@ module _ (t : ℕ) (f : copy-function-lts.After-put-head (calls t) (at t) copy-f
   begun : head-answer.Ok head behind ≡ headResult (parts.head (a .limits) (a .from .instructions) (a .from .next .at) (drop (a .from .next .at) (a .s .now)))
   begun = sym (f .before .before .before .begins2 .given .1) ∙ f .before .before .before .before .before .read-head .ensures
 
-  module _ (w : grammar.Where) (n : a .from .number ≡ w .number) (i : a .from .instructions ≡ w .instructions) where
-    abbrev inner-place : grammar.Where
-    inner-place = skims.first (a .s .now) (a .limits) (a .left) (a .from) w n i head behind begun
+  module _ (w : Where) (n : a .from .number ≡ w .number) (i : a .from .instructions ≡ w .instructions) where
+    abbrev first : Where
+    first = copied.first (a .s .now) (a .limits) (a .left) w (a .from .next .at) i head behind begun
 
-    its-number : inside .number ≡ inner-place .number
-    its-number = skims.first-number (a .s .now) (a .limits) (a .left) (a .from) w n i head behind begun
+    first-number : inside .number ≡ first .number
+    first-number = λ j. n j + 1
 
-    its-instructions : inside .instructions ≡ inner-place .instructions
-    its-instructions = skims.first-instructions (a .s .now) (a .limits) (a .left) (a .from) w n i head behind begun
+    first-instructions : inside .instructions ≡ first .instructions
+    first-instructions = copied.first-instructions (a .s .now) (a .limits) (a .left) w (a .from .next .at) i head behind begun
 
-    refused-inside : (q : Refusal) → ((w : grammar.Where) → inside .number ≡ w .number → inside .instructions ≡ w .instructions → skim.Err q ≡ skims.all (a .s .now) (a .limits) inside (head .protos .count) (a .left) w)
+    refused-inside : (q : Refusal) → skim.Err q ≡ skimResult first (forest (head .protos .count) (entered (a .limits) (a .left)) first (behind .at) (drop (behind .at) (a .s .now)))
         → skim.Err q ≡ skimResult w (function (a .limits) (a .left) w (a .from .next .at) (drop (a .from .next .at) (a .s .now)))
-    refused-inside q e = skims.nested-refused (a .s .now) (a .limits) (a .left) (a .from) w n i head behind begun q (e inner-place its-number its-instructions)
+    refused-inside = copied.nested-refused (a .s .now) (a .limits) (a .left) w (a .from .next .at) i head behind begun
 
 -- a head that was read, before what follows it
 total : (t : ℕ) → copy-function-lts.Need-add-t24 (calls t) (at t) copy-function.Post Inv μ-loop
@@ -124,21 +125,21 @@ number t c = let few = c .before .before .before .before .before .before .before
 loop-holds : (t : ℕ) → copy-function-lts.Need-loop-holds (calls t) (at t) copy-function.Post Inv μ-loop
 loop-holds t c =
     let f = c .before .before .before .before .before in
-    (refl, skims.starts (a t f .s .now) (a t f .limits) (inside t f) (head t f .protos .count) (a t f .left), on-first (a t f .s .now) (a t f .limits) (inside t f) (head t f .protos .count) (a t f .left) _ _)
+    (refl, λ w n i. copies-none (a t f .s .now) (a t f .limits) (a t f .left) w (head t f .protos .count) (inside t f) _ _ n i)
 
 returns : (t : ℕ) → copy-function-lts.Need-returns (calls t) (at t) copy-function.Post Inv μ-loop
 returns t c =
     let l = c .before .before .before in
     let f = c .before .before .before .before .before .before .before .before .before in
     not-read (a t f .named) (a t f .from) (a t f .s .now) (λ w. function (a t f .limits) (a t f .left) w (a t f .from .next .at) (drop (a t f .from .next .at) (a t f .s .now))) _ _ _ _ _ _ (c .stopped2 .ensures) λ w n i.
-    refused-inside t f w n i _ (skims.deep (a t f .s .now) (a t f .limits) (inside t f) (head t f .protos .count) (a t f .left) (l .loop .nested) (l .loop .more) (l .loop .inv .1) (c .before .before .loop-test .taken) (c .before .if1 .taken))
+    refused-inside t f w n i _ (so-far.deep _ _ (l .loop .inv .1 (first t f w n i) (first-number t f w n i) (first-instructions t f w n i) .so-far) (c .before .before .loop-test .taken) (c .before .if1 .taken))
 
 returns-2 : (t : ℕ) → copy-function-lts.Need-returns-2 (calls t) (at t) copy-function.Post Inv μ-loop
 returns-2 t c =
     let l = c .before .before .before .before .before .before in
     let f = c .before .before .before .before .before .before .before .before .before .before .before .before in
     not-read (a t f .named) (a t f .from) (a t f .s .now) (λ w. function (a t f .limits) (a t f .left) w (a t f .from .next .at) (drop (a t f .from .next .at) (a t f .s .now))) _ _ _ _ _ _ (c .stopped3 .ensures) λ w n i.
-    refused-inside t f w n i _ (skims.many (a t f .s .now) (a t f .limits) (inside t f) (head t f .protos .count) (a t f .left) (l .loop .nested) (l .loop .more) (l .loop .inv .1) (c .before .before .before .before .before .loop-test .taken) (level (a t f .left) (c .before .before .before .before .if1 .left)) (c .before .if2 .taken))
+    refused-inside t f w n i _ (so-far.many _ _ (l .loop .inv .1 (first t f w n i) (first-number t f w n i) (first-instructions t f w n i) .so-far) (c .before .before .before .before .before .loop-test .taken) (level (a t f .left) (c .before .before .before .before .if1 .left)) (c .before .if2 .taken))
 
 copy-function-requires : (t : ℕ) → copy-function-lts.Need-copy-function-requires (calls t) (at t) copy-function.Post Inv μ-loop
 copy-function-requires t c κs =
@@ -154,7 +155,7 @@ returns-3 t c =
     let f = c .before .before .before .before .before .before .before .before .before .before .before .before .before .before .before .before .before .before .before .before in
     let r = c .before .before .before .before .before .before in
     not-read (a t f .named) (a t f .from) (a t f .s .now) (λ w. function (a t f .limits) (a t f .left) w (a t f .from .next .at) (drop (a t f .from .next .at) (a t f .s .now))) _ _ _ _ _ _ (c .stopped4 .ensures) λ w n i.
-    refused-inside t f w n i _ (skims.stops (a t f .s .now) (a t f .limits) (inside t f) (head t f .protos .count) (a t f .left) (l .loop .nested) (l .loop .more) (l .loop .inv .1) (c .before .before .before .before .before .before .before .before .before .before .before .before .before .loop-test .taken) (level (a t f .left) (c .before .before .before .before .before .before .before .before .before .before .before .before .if1 .left)) (c .before .before .before .before .before .before .before .before .before .if2 .left) _ (r .copy-function .ensures .0) _ (c .before .before .walk .given .1))
+    refused-inside t f w n i _ (so-far.stops _ _ (l .loop .inv .1 (first t f w n i) (first-number t f w n i) (first-instructions t f w n i) .so-far) (c .before .before .before .before .before .before .before .before .before .before .before .before .before .loop-test .taken) (level (a t f .left) (c .before .before .before .before .before .before .before .before .before .before .before .before .if1 .left)) (c .before .before .before .before .before .before .before .before .before .if2 .left) _ (sym (c .before .before .walk .given .1) ∙ r .copy-function .ensures .0 (on (first t f w n i) (l .loop .nested)) refl refl))
 
 loop-again : (t : ℕ) → copy-function-lts.Need-loop-again (calls t) (at t) copy-function.Post Inv μ-loop
 loop-again t c =
@@ -164,26 +165,32 @@ loop-again t c =
     let some = c .before .before .before .before .before .before .before .before .before .before .before .before .before .loop-test .taken in
     let levels = level (a t f .left) (c .before .before .before .before .before .before .before .before .before .before .before .before .if1 .left) in
     let few = c .before .before .before .before .before .before .before .before .before .if2 .left in
-    let part = c .before .before .before .before .before .before .before .before .within .ensures in
-    (part-kept (l .loop .len) _ (l .loop .out) (r .copy-function .last .1 .1 .1 .1 .1 .0) part (r .copy-function .kept .1 .1 .1 .1 .1 .0) ∙ l .loop .inv .0, skims.goes-on (a t f .s .now) (a t f .limits) (inside t f) (head t f .protos .count) (a t f .left) (l .loop .nested) (l .loop .more) (l .loop .inv .1) some levels few _ (r .copy-function .ensures .0) _ (c .before .before .walk2 .given .1), on-next (a t f .s .now) (a t f .limits) (inside t f) (head t f .protos .count) (a t f .left) _ _ (l .loop .nested) (l .loop .more) _ _ (l .loop .inv .2) some levels few _ _ _ (r .copy-function .ensures .0) (λ w n i bytes ps to rest e. put-part (functionBytes _ ps) _ _ (l .loop .out) _ _ _ part (r .copy-function .ensures .1 w n i (λ f. absurd (true≢false (sym f))) bytes .put ps to rest e) (c .plus .ensures)) _ (c .before .before .walk2 .given .1))
+    let part = c .before .before .before .before .before .before .before .before .within .ensures in (
+      part-kept (l .loop .len) _ (l .loop .out) (r .copy-function .last .1 .1 .1 .1 .1 .0) part (r .copy-function .kept .1 .1 .1 .1 .1 .0) ∙ l .loop .inv .0,
+      λ w n i. copies-one (a t f .limits) (a t f .left) (l .loop .inv .1 w n i) some levels few _ (sym (c .before .before .walk2 .given .1) ∙ r .copy-function .ensures .0 (on w (l .loop .nested)) refl refl)
+          (λ bytes ps to rest e. put-part (functionBytes _ ps) _ _ (l .loop .out) _ _ _ part (r .copy-function .ensures .1 (on w (l .loop .nested)) refl refl (λ f. absurd (true≢false (sym f))) bytes .put ps to rest e) (c .plus .ensures)),
+    )
 
 returns-4 : (t : ℕ) → copy-function-lts.Need-returns-4 (calls t) (at t) copy-function.Post Inv μ-loop
 returns-4 t c =
     let a = c .before .before .before .before .before .before .before .args in
     not-read (a .named) (a .from) (a .s .now) (λ w. function (a .limits) (a .left) w (a .from .next .at) (drop (a .from .next .at) (a .s .now))) _ _ _ _ _ _ (c .stopped .ensures) λ w n i.
-    skims.head-refused (a .s .now) (a .limits) (a .left) (a .from) w n i _ (sym (c .before .before .begins .given .1) ∙ c .before .before .before .before .read-head .ensures)
+    copied.head-refused (a .s .now) (a .limits) (a .left) w (a .from .next .at) i _ (sym (c .before .before .begins .given .1) ∙ c .before .before .before .before .read-head .ensures)
 
 returns-5 : (t : ℕ) → copy-function-lts.Need-returns-5 (calls t) (at t) copy-function.Post Inv μ-loop
 returns-5 t c =
     let l = c .before .before .before .before .before in
     let f = c .before .before .before .before .before .before .before .before .before .before .before in
     let z = c .before .before .copy-end .ensures in
-    let over = c .before .before .before .before .loop-test .left in
-    let nested = skims.ends-at (a t f .s .now) (a t f .limits) (inside t f) (head t f .protos .count) (a t f .left) (l .loop .nested) (l .loop .more) (l .loop .inv .1) over in (
-      λ w n i. end-shows (a t f .s .now) (a t f .limits) (a t f .left) (a t f .from) w n i (head t f) (behind t f) (begun t f) (l .loop .nested) (nested (inner-place t f w n i) (its-number t f w n i) (its-instructions t f w n i)) _ (z .1 .0),
-      λ w n i main bytes. whole-put (a t f .s .now) (a t f .limits) (a t f .left) (a t f .from) w n i (head t f) (behind t f) (begun t f) (l .loop .nested) (nested (inner-place t f w n i) (its-number t f w n i) (its-instructions t f w n i)) (a t f .named) main (z .0)
+    let over = c .before .before .before .before .loop-test .left in (
+      λ w n i.
+          let those = l .loop .inv .1 (first t f w n i) (first-number t f w n i) (first-instructions t f w n i) in
+          copied.end-shows (a t f .s .now) (a t f .limits) (a t f .left) w (a t f .from .next .at) i (head t f) (behind t f) (begun t f) (l .loop .nested) (so-far.those (those .so-far) over) _ (z .1 .0),
+      λ w n i main bytes.
+          let those = l .loop .inv .1 (first t f w n i) (first-number t f w n i) (first-instructions t f w n i) in
+          copied.whole-put (a t f .s .now) (a t f .limits) (a t f .left) w (a t f .from .next .at) i (head t f) (behind t f) (begun t f) (l .loop .nested) (so-far.those (those .so-far) over) (a t f .named) main (z .0)
           (λ before from to v rest e g. f .put-head .ensures before from to v rest bytes e g)
-          (on-last (a t f .s .now) (a t f .limits) (inside t f) (head t f .protos .count) (a t f .left) _ _ (l .loop .nested) (l .loop .more) _ _ (l .loop .inv .2) over (inner-place t f w n i) (its-number t f w n i) (its-instructions t f w n i) bytes)
+          (copies-all (a t f .limits) (a t f .left) those bytes)
           (z .1 .1),
     )
 
