@@ -62,7 +62,7 @@ pub fn skim_function(s: &[u8], limits: ResourceLimits, left: usize, from: Skimme
 }
 
 // Passes over n functions one after the other, each nested in a function below which functions nest at most `left` deep.
-pub fn skim_functions(
+fn skim_functions(
     s: &[u8],
     limits: ResourceLimits,
     n: usize,
