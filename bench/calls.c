@@ -7,54 +7,19 @@
 #include <string.h>
 #include <sys/resource.h>
 #include <sys/wait.h>
-#include <time.h>
 #include <unistd.h>
 
 #include <lua5.4/lauxlib.h>
 #include <lua5.4/lua.h>
 
 #include "../include/lafzimdo.h"
-#include "skip.h"
 
-static const uint64_t limits[9] = LAFZIMDO_CEILINGS;
-static uint64_t out[18];
-
-/* Lent memory, enough for any chunk of the set. */
-static uint8_t *copy;
-static size_t copy_len, dumped;
-static uint32_t *rows;
-static size_t rows_len;
-static uint64_t list[4 * 10001];
-
-/* Processor time, not time that others had the processor. */
-double now(void) {
-    struct timespec t;
-    clock_gettime(CLOCK_PROCESS_CPUTIME_ID, &t);
-    return t.tv_sec + t.tv_nsec / 1e9;
-}
-
-static void must(int holds, const char *what) {
-    if (holds) return;
-    fprintf(stderr, "measure: %s\n", what);
-    exit(1);
-}
-
-/* Runs a statement on every chunk `c` of the set, as often as the set says, and returns what one round takes. */
-#define TIMED(set, statement)                                           \
-    double start = now();                                               \
-    for (unsigned r = 0; r < (set)->repeats; r++)                       \
-        for (size_t i = 0; i < (set)->count; i++) {                     \
-            const struct chunk *c = (set)->chunks + i;                  \
-            statement;                                                  \
-        }                                                               \
-    return (now() - start) / (set)->repeats
+static size_t dumped;
 
 double run_memcpy(const struct set *set) {
     /* The compiler must not see that nobody reads the copy. */
     TIMED(set, { memcpy(copy, c->bytes, c->len); __asm__ volatile("" : : "r"(copy) : "memory"); });
 }
-
-double run_skip(const struct set *set) { TIMED(set, must(skip_chunk(c->bytes, c->len, limits) == (int64_t)c->functions, "the C reader refused")); }
 
 double run_summary(const struct set *set) {
     TIMED(set, must(lafzimdo_summary(c->bytes, c->len, limits, out) == 0 && out[7] == c->functions, "summary"));
@@ -69,7 +34,7 @@ double run_copy(const struct set *set) { TIMED(set, must(lafzimdo_copy(c->bytes,
 double run_verdict(const struct set *set) { TIMED(set, must(lafzimdo_verdict(c->bytes, c->len, limits, out) == 0, "verdict")); }
 
 double run_findings(const struct set *set) {
-    TIMED(set, must(lafzimdo_findings(c->bytes, c->len, limits, list, sizeof list / sizeof *list, out) == 0, "findings"));
+    TIMED(set, must(lafzimdo_findings(c->bytes, c->len, limits, list, LIST_LEN, out) == 0, "findings"));
 }
 
 double run_line(const struct set *set) { TIMED(set, must(lafzimdo_line(c->bytes, c->len, limits, c->function, c->pc, out) == 0, "line")); }
@@ -167,38 +132,4 @@ int run_rust(const struct set *set, struct rust *took) {
     close(ends[0]);
     waitpid(child, NULL, 0);
     return ok;
-}
-
-/* ---- before measuring */
-
-static void *room(void *old, size_t bytes) {
-    void *p = realloc(old, bytes);
-    must(p != NULL, "no memory");
-    memset(p, 0, bytes);
-    return p;
-}
-
-void make_ready(struct set *set) {
-    size_t functions = 0, longest = 0;
-    for (size_t i = 0; i < set->count; i++) {
-        struct chunk *c = set->chunks + i;
-        int64_t n = skip_chunk(c->bytes, c->len, limits);
-        must(n > 0, "the C reader refused");
-        c->functions = (size_t)n;
-        if (functions < c->functions) functions = c->functions;
-        must(lafzimdo_copy_length(c->bytes, c->len, limits, out) == 0, "copy_length");
-        if (longest < out[0]) longest = out[0];
-        if (longest < c->len) longest = c->len;
-    }
-    copy = room(copy, copy_len = longest);
-    rows_len = 12 * functions;
-    rows = room(rows, rows_len * sizeof *rows);
-    for (size_t i = 0; i < set->count; i++) {
-        struct chunk *c = set->chunks + i;
-        must(lafzimdo_index(c->bytes, c->len, limits, rows, rows_len, out) == 0, "index");
-        size_t most = 0;
-        for (size_t f = 0; f < c->functions; f++)
-            if (rows[12 * f + 4] > most) c->function = f, most = rows[12 * f + 4];
-        c->pc = most ? most - 1 : 0;
-    }
 }

@@ -5,13 +5,9 @@
 #define _GNU_SOURCE
 #include "calls.h"
 
-#include <fcntl.h>
 #include <stdio.h>
 #include <stdlib.h>
 #include <string.h>
-#include <sys/mman.h>
-#include <sys/stat.h>
-#include <unistd.h>
 
 enum { MEMCPY, SKIP, SUMMARY, INDEX, COPY, VERDICT, FINDINGS, LINE, LOAD, DUMP, CALLS };
 static const char *const names[CALLS] = {"memcpy", "C reader", "summary", "index", "copy", "verdict", "findings", "line", "lua_load", "lua_dump"};
@@ -29,45 +25,10 @@ static int files;
 /* What the Rust takes is far above what is compared with it: few rounds do, and one on a long file, which takes it seconds and gigabytes. */
 static int rust_rounds(const struct set *set) { return set->bytes < 4 << 20 ? 2 : 1; }
 
-/* A timed stretch is at least this long. */
-#define SHORTEST 0.002
-
-static void fail(const char *what) {
-    perror(what);
-    exit(1);
-}
-
-static void load_set(struct set *set, const char *path) {
-    int file = open(path, O_RDONLY);
-    struct stat about;
-    if (file < 0 || fstat(file, &about) < 0) fail(path);
-    const uint8_t *bytes = mmap(NULL, about.st_size, PROT_READ, MAP_PRIVATE | MAP_POPULATE, file, 0);
-    if (bytes == MAP_FAILED) fail(path);
-    close(file);
-    const char *slash = strrchr(path, '/');
-    set->name = slash ? slash + 1 : path;
-    for (const uint8_t *at = bytes; at < bytes + about.st_size; at += 8 + set->chunks[set->count - 1].len) {
-        struct chunk c = {.bytes = at + 8};
-        memcpy(&c.len, at, 8);
-        set->chunks = realloc(set->chunks, (set->count + 1) * sizeof c);
-        if (!set->chunks) fail("memory");
-        set->chunks[set->count++] = c;
-        set->bytes += c.len;
-    }
-}
-
-/* Long enough for the clock: by what the C reader takes. */
-static unsigned repeats(struct set *set) {
-    set->repeats = 1;
-    double once = run_skip(set);
-    return once * 16 < SHORTEST ? (unsigned)(SHORTEST / once) + 1 : 1;
-}
-
 static void measure(int file, int rounds, int with_rust) {
     struct set *set = sets + file;
     fprintf(stderr, "%s\n", set->name);
     make_ready(set);
-    set->repeats = repeats(set);
     for (int call = 0; call < CALLS; call++) best[file][call] = 1e9;
     for (int round = 0; round < rounds; round++) {
         for (int call = 0; call < CALLS; call++) {

@@ -23,7 +23,7 @@ ROOT = os.path.join(os.path.dirname(os.path.abspath(__file__)), '..')
 PROMISES = {
     'demand 1': ['demands/Demand1', 'demands/Order', 'demands/AtOneByte', 'demands/CutShort', 'demands/Continued', 'demands/ByLimits', 'demands/Exactly', 'demands/Accepted',
                  'demands/ByC', 'demands/RefusedAt', 'demands/PartsInOrder', 'demands/Printed', 'format/RefusalNumbers', 'boundary/Numbers'],
-    'demand 2': ['demands/Demand2', 'demands/Demand2C', 'demands/Promise', 'format/LundumpBack:as-loaded read-is-loaded', 'format/LdumpWhole:copy-as-dumped copy-as-stripped',
+    'demand 2': ['demands/Demand2', 'demands/Demand2C', 'demands/Promise', 'format_lua/LundumpBack:as-loaded read-is-loaded', 'format_lua/LdumpWhole:copy-as-dumped copy-as-stripped',
                  'instructions/Macros', 'instructions/Created', 'opcodes/Opcodes', 'lines/Ldebug:same-line'],
     'demand 3': ['demands/Demand3', 'demands/ShownAt:shown-at', 'demands/Same:header-fixed same-exactly', 'demands/Complete'],
 }
@@ -39,7 +39,7 @@ GROUPS = [
     ('instruction words; lopcodes.h', 'opcodes/specs: Table Lopcodes; instructions/specs: Word; instructions/proofs: Ranges Words Macros Created'),
     ('for who links from C: limits, refusals and answers as numbers; parts at a place, with the readers of a function in two parts', 'boundary/specs: Status; boundary/proofs: Numbers; numbers/specs: Numbers Words; finding_list/specs: FindingNumbers; parts_at/specs: PartNumbers; prototype/specs: Front Parts PartsShown; lists/specs: Readers'),
     ('what `chunklist` prints', 'listing/specs: Listing; listing_text/specs: Lines; format/specs: Ascii; print/specs: Output'),
-    ("Lua's own loader, dumper and line lookup, close to the C", 'format/specs: Lundump LundumpFunctions Ldump LdumpFunctions; lines/specs: Ldebug; format/proofs: LundumpParts LundumpChunk LundumpBack LdumpChunk LdumpWhole Every'),
+    ("Lua's own loader, dumper and line lookup, close to the C", 'format_lua/specs: Lundump LundumpFunctions Ldump LdumpFunctions; lines/specs: Ldebug; format_lua/proofs: LundumpParts LundumpChunk LundumpBack LdumpChunk LdumpWhole; format/proofs: Every'),
     ("words of demand 1's statements: a call's conditions in order; what a refusal is about", 'demands/proofs: Refused Causes InOrder Early Order AtOneByte CutShort Continued ByLimits Exactly Accepted ByC RefusedAt PartsInOrder Printed Demand1; format/proofs: RefusalNumbers'),
     ("words of demand 2's statements: a whole contract", 'demands/proofs: Promise Demand2 Demand2C'),
     ("words of demand 3's statements: what is shown, what is set aside", 'demands/proofs: Demand3 Calls Written Same Alike Together Complete ShownAt SpeltHere EntriesAt Nested; format/proofs: Located OrderCases; entries/proofs: Strings'),

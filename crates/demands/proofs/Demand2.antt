@@ -25,13 +25,13 @@ use Rattle.format.specs.Refusals.{reported}
 use Rattle.format.specs.Warnings.{warned}
 use Rattle.format.specs.GrammarChunk.{Loaded, outermost, reading}
 use Rattle.format.specs.ReadChunk.{Outcome, shown, refusal, read}
-use Rattle.format.specs.LundumpFunctions.{Undump}
-use Rattle.format.specs.LdumpFunctions.{«luaU_dump»}
+use Rattle.format_lua.specs.LundumpFunctions.{Undump}
+use Rattle.format_lua.specs.LdumpFunctions.{«luaU_dump»}
 use Rattle.format.proofs.Every.{All}
 use Rattle.format.proofs.ReadChunkLaws.{read-sound}
-use Rattle.format.proofs.LundumpBack.{Loadable, LoadedAs, read-is-loaded}
-use Rattle.format.proofs.LdumpWhole.{sourceOf, AsLua, AsStripped, copy-as-dumped, copy-as-stripped}
-use Rattle.format.proofs.LundumpChunk.{FunctionsWithin, loaded-is-read}
+use Rattle.format_lua.proofs.LundumpBack.{Loadable, LoadedAs, read-is-loaded}
+use Rattle.format_lua.proofs.LdumpWhole.{sourceOf, AsLua, AsStripped, copy-as-dumped, copy-as-stripped}
+use Rattle.format_lua.proofs.LundumpChunk.{FunctionsWithin, loaded-is-read}
 use Rattle.access.specs.Asked.{functionOf, entryOf}
 use Rattle.index.specs.Index.{shownIndex, indexWritten}
 use Rattle.lines.specs.Lines.{shownLine}
@@ -271,7 +271,7 @@ pub validate-chunk-lua54-as-the-rust : Promise validate-chunk-lua54-call.ended v
     ∷ [])
 validate-chunk-lua54-as-the-rust = coe 0 1 (i. Promise validate-chunk-lua54-call.ended validate-chunk-lua54-call.Symbol.routine (λ _ chunk limits list list′ r. ((r ≡ findings-shown (length (now list)) limits (now chunk) i) × (now list′ ≡ findings-written (now list) limits (now chunk) i)) ∷ [])) validate-chunk-lua54
 
--- ## Lua's own loader (crates/format/specs/LundumpFunctions.antt, after lundump.c)
+-- ## Lua's own loader (crates/format_lua/specs/LundumpFunctions.antt, after lundump.c)
 -- what it takes at the front of a file and makes of it, within the limits, is the reading; what stands behind is the trailing bytes
 pub as-lua-loads : (L : ResourceLimits) (left : ℕ) (front trailing : Bytes) (m : Loaded) → Undump left 0 front m → FunctionsWithin L outermost (m .functions)
     → withinCeilings L ≡ true → length (front ++ trailing) ≤ L .«max_input_bytes» → read L (front ++ trailing) ≡ shown (reading L m (length front) trailing)
@@ -282,7 +282,7 @@ pub as-read-loads : (L : ResourceLimits) (chunk : Bytes) (r : Reading) → read 
     → LoadedAs (suc (L .«max_nesting_depth»)) chunk r
 as-read-loads L chunk r e = read-is-loaded L chunk r (read-sound L chunk r e)
 
--- ## Lua's own dumper (crates/format/specs/LdumpFunctions.antt, after ldump.c)
+-- ## Lua's own dumper (crates/format_lua/specs/LdumpFunctions.antt, after ldump.c)
 -- what `encode_chunk_lua54` writes (Written.antt) is what `luaU_dump` writes and the trailing bytes, where functions are as Lua would have them (`AsLua`), or stripped
 pub as-lua-dumps : (L : ResourceLimits) (chunk old written : Bytes) (r : Reading) → Writes L chunk old written → read L chunk ≡ shown r → All (AsLua (r .functions)) (r .functions)
     → written ≡ «luaU_dump» false (r .functions) ++ r .trailing

@@ -25,7 +25,7 @@ use Rattle.format.proofs.ExactFields.{exact-field, exact-number}
 use Rattle.format.proofs.ExactHeader.{exact-header}
 use Rattle.format.proofs.ExactChunk.{exact-forest, exact-function}
 use Rattle.format.proofs.Located.{Found, AtPlace, any, at-give, at-refuse, at-here, at-then}
-use Rattle.format.proofs.LdumpWhole.{sourceOf}
+use Rattle.format_lua.proofs.LdumpWhole.{sourceOf}
 use Rattle.format.proofs.ReadChunkLaws.{read-sound, main-complete}
 use Rattle.lists.specs.Readers.{protosCount}
 use Rattle.counted.proofs.Within.{exact-protosCount}

@@ -32,7 +32,7 @@ use Rattle.format.proofs.Exact.{never}
 use Rattle.format.proofs.ExactFields.{exact-field, exact-string}
 use Rattle.format.proofs.ExactChunk.{exact-constant, exact-upvalue, exact-anchor, exact-local}
 use Rattle.format.proofs.Located.{Located}
-use Rattle.format.proofs.LdumpWhole.{sourceOf}
+use Rattle.format_lua.proofs.LdumpWhole.{sourceOf}
 use Rattle.reader.specs.Shown.{optionString, u8Result, u32Result, stringResult}
 use Rattle.lists.specs.Readers.{RawLocal, rawLocal}
 use Rattle.lists.specs.Inner.Counts.{named}

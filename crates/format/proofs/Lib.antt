@@ -19,18 +19,6 @@ pub mod ReadChunkLaws
 pub mod Left
 pub mod Steps
 pub mod ShortestLaws
-pub mod LdumpLaws
-pub mod LdumpChunk
-pub mod LdumpKnown
-pub mod LdumpWhole
-pub mod LundumpLaws
-pub mod LundumpParts
-pub mod LundumpChunk
-pub mod LundumpRead
-pub mod LundumpBack
-pub mod LuaChunks
-pub mod LundumpCase
-pub mod LdumpCase
 pub mod Cases
 pub mod ChunkCases
 pub mod OrderCases
@@ -38,8 +26,6 @@ pub mod Below
 pub mod Build
 pub mod FieldBytes
 pub mod Wider
-pub mod WiderIf
-pub mod WiderBytes
 pub mod WiderChunk
 pub mod Copies
 pub mod CopyEntries

@@ -1,5 +1,5 @@
 -- The archive copy of a reading (01 'chunk.rs', `encode_chunk_lua54`): format 0, byte 31 is main's upvalue count modulo 256, shortest numbers,
--- nested sources absent, trailing bytes as they were; and what a copy keeps of a reading. After ldump.c (`specs/LdumpFunctions.antt`).
+-- nested sources absent, trailing bytes as they were; and what a copy keeps of a reading. After ldump.c (crates/format_lua/specs/LdumpFunctions.antt).
 use mathlib.Core.Bool.{Bool, true, false}
 use mathlib.Core.List.{List, [], _∷_, _++_, map, foldr, flatten}
 use mathlib.Core.Option.{Option, none, some, Option·map}

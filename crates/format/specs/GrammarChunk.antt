@@ -1,5 +1,5 @@
 -- The grammar of a chunk (01 'The grammar', 'chunk.rs'), and what the bytes spell. `L` are the limits, tested where the Rust tests them.
--- Each production names the function of lundump.c that loads it (`specs/LundumpFunctions.antt`) and says how 01 makes it differ.
+-- Each production names the function of lundump.c that loads it (crates/format_lua/specs/LundumpFunctions.antt) and says how 01 makes it differ.
 use mathlib.Core.Path.{_≡_}
 use mathlib.Core.Bool.{Bool, true, false}
 use mathlib.Core.List.{List, [], _∷_, _++_}

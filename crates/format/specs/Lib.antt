@@ -14,7 +14,3 @@ pub mod ReadHeader
 pub mod ReadChunk
 pub mod Shortest
 pub mod Copy
-pub mod Lundump
-pub mod Ldump
-pub mod LundumpFunctions
-pub mod LdumpFunctions

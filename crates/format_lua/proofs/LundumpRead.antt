@@ -15,12 +15,12 @@ use native.Mathlib.Omega.{arith}
 use lib.Dec.{T, ltb, eqb, ltb→lt, lt→ltb}
 use lib.ListN.{length, take}
 use lib.Seq.{take-at}
 use Rattle.format.specs.declared.refusal.Refusal.the-variants.{Overflow}
 use Rattle.format.specs.Form.{Bytes, Below, Form, Then, Is, Here, Nothing, When, Run, Spelt, Many}
 use Rattle.format.specs.GrammarFields.{Field, Number, LuaString}
 use Rattle.format.specs.Reading.{Prototype}
 use Rattle.format.specs.GrammarChunk.{inherit, Where, after, within, Loaded, outermost}
-use Rattle.format.specs.LundumpFunctions.{
+use Rattle.format_lua.specs.LundumpFunctions.{
   LoadSize,
   LoadInt,
   Content,
@@ -39,15 +39,15 @@ use Rattle.format.specs.LundumpFunctions.{
   CheckHeader,
   Undump,
 }
 use Rattle.format.specs.Read.{Read, ok, refused, Reader, _>>=_, give, here, refuse, run, many}
 use Rattle.format.specs.ReadFields.{field, number}
 use Rattle.format.specs.ReadHeader.{expect}
 use Rattle.format.proofs.Exact.{Exact, Split, never, exact-give, exact-here, exact-then, exact-as, exact-run, exact-many}
 use Rattle.format.proofs.ExactFields.{exact-field, exact-number}
 use Rattle.format.proofs.ExactHeader.{both, both-of, exact-expect}
 use Rattle.format.proofs.ExactChunk.{exact-refuse}
-use Rattle.format.proofs.LundumpLaws.{Ours, size-exactly, int-exactly}
-use Rattle.format.proofs.LundumpParts.{size-wider, int-wider}
+use Rattle.format_lua.proofs.LundumpLaws.{Ours, size-exactly, int-exactly}
+use Rattle.format_lua.proofs.LundumpParts.{size-wider, int-wider}
 
 pub record Takes {A : Type 0} (F : Form A) : Type 0 where
   pub reader : Reader A

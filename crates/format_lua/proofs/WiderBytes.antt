@@ -11,12 +11,12 @@ use mathlib.Core.Bool.{Bool, true, false}
 use mathlib.Core.List.{[], _++_}
 use Prim.Native.Nat.{ℕ, zero, suc}
 use native.Mathlib.Nat.{add-zero}
 use Rattle.format.specs.Form.{Bytes, Below, Form, Then, Is, Here, Given, When, Many}
 use Rattle.format.proofs.Build.{skip}
 use Rattle.format.proofs.Copies.{parts}
 use Rattle.format.proofs.Every.{Every, All}
 use Rattle.format.proofs.Wider.{Wider}
-use Rattle.format.proofs.WiderIf.{WiderIf, seen-as, ends, learns, tested, knows, untested}
+use Rattle.format_lua.proofs.WiderIf.{WiderIf, seen-as, ends, learns, tested, knows, untested}
 
 abbrev pub AsBytes : {A : Type 0} → Form A → Form A
 AsBytes F at b x = Below 256 b × F at b x

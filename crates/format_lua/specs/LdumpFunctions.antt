@@ -9,15 +9,15 @@ use mathlib.Core.Option.{Option, none, some}
 use Prim.Native.Nat.{ℕ, zero, suc, _+_, _*_}
 use lib.Dec.{leb, eqb}
 use lib.ListN.{length, take, drop}
 use Rattle.format.specs.declared.entry.UpvalueDesc.{UpvalueDesc}
 use Rattle.format.specs.declared.entry.AbsLineInfo.{AbsLineInfo}
 use Rattle.format.specs.Form.{Bytes}
 use Rattle.format.specs.GrammarFields.{LuaString}
 use Rattle.format.specs.GrammarHeader.{signature, luacData}
 use Rattle.format.specs.Reading.{ConstantValue, nil, boolean, integer, float, short-string, long-string, LocalVar, Prototype}
 use Rattle.format.specs.ReadHeader.{sameBytes}
 use Rattle.format.specs.Copy.{fieldBytes}
-use Rattle.format.specs.Ldump.{dumpSize}
+use Rattle.format_lua.specs.Ldump.{dumpSize}
 
 -- dumpSize(D, x). C's x is an int: numbers from 2^31 on are outside the C
 abbrev pub dumpInt : ℕ → Bytes

@@ -9,10 +9,10 @@ use native.Mathlib.Nat.{suc-inj}
 use lib.Bits.{bitAnd, bitOr, and-mask, or-shifted-r}
 use lib.Dec.{eqb}
 use borrow.Author.Tests.{eqb-true, eqb-false}
 use Rattle.format.specs.Form.{Bytes}
 use Rattle.format.specs.Shortest.{groupsOf, shortest}
-use Rattle.format.specs.Ldump.{DIBS, dumpSizeLoop, markLast, dumpSize}
+use Rattle.format_lua.specs.Ldump.{DIBS, dumpSizeLoop, markLast, dumpSize}
 use Rattle.format.proofs.ShortestLaws.{groups-none, div-high}
 
 groups-some : (f n : ℕ) → (n ≡ 0 → ⊥) → groupsOf (suc f) n ≡ groupsOf f (n / 128) ++ n % 128 ∷ []
 groups-some f zero some = absurd (some refl)

@@ -14,16 +14,16 @@ use mathlib.Core.Option.{Option, none, some}
 use Prim.Native.Nat.{ℕ, zero, suc}
 use native.Mathlib.Omega.{arith}
 use lib.ListN.{replicate, set, take}
 use Rattle.format.specs.Form.{Bytes}
 use Rattle.format.specs.Limits.{ceilings}
 use Rattle.format.specs.GrammarChunk.{Loaded, outermost, reading}
-use Rattle.format.specs.LundumpFunctions.{LoadFunction, Undump}
+use Rattle.format_lua.specs.LundumpFunctions.{LoadFunction, Undump}
 use Rattle.format.specs.ReadChunk.{shown, read}
 use Rattle.format.proofs.Every.{All}
-use Rattle.format.proofs.LundumpChunk.{FunctionsWithin, loaded-is-read}
-use Rattle.format.proofs.LundumpBack.{Loadable}
-use Rattle.format.proofs.LundumpRead.{take-function, loads, loads-exactly, never-loads}
-use Rattle.format.proofs.LuaChunks.{header, small, full, small-function, full-functions, loaded}
+use Rattle.format_lua.proofs.LundumpChunk.{FunctionsWithin, loaded-is-read}
+use Rattle.format_lua.proofs.LundumpBack.{Loadable}
+use Rattle.format_lua.proofs.LundumpRead.{take-function, loads, loads-exactly, never-loads}
+use Rattle.format_lua.proofs.LuaChunks.{header, small, full, small-function, full-functions, loaded}
 
 -- ## Loaded
 pub small-loaded : Undump 1 0 small (loaded (small-function ∷ []))

@@ -14,21 +14,21 @@ use mathlib.Core.Option.{Option, none, some}
 use Prim.Native.Nat.{ℕ, zero, suc, _+_, _≤_}
 use native.Mathlib.Omega.{arith}
 use lib.ListN.{length, length-append}
 use Rattle.format.specs.declared.limits.ResourceLimits.{ResourceLimits}
 use Rattle.format.specs.Form.{Bytes, Form, Then, Spelt}
 use Rattle.format.specs.GrammarFields.{LuaString, Byte, little}
 use Rattle.format.specs.GrammarHeader.{Header}
 use Rattle.format.specs.Limits.{withinCeilings}
 use Rattle.format.specs.Reading.{Prototype}
 use Rattle.format.specs.GrammarChunk.{inherit, instructionsOf, Where, after, within, Forest, Body, Function, Loaded, outermost, Main, reading, Chunk}
-use Rattle.format.specs.LundumpFunctions.{LoadProtos, LoadFunction, CheckHeader, Undump}
+use Rattle.format_lua.specs.LundumpFunctions.{LoadProtos, LoadFunction, CheckHeader, Undump}
 use Rattle.format.specs.ReadChunk.{shown, read}
 use Rattle.format.proofs.ReadChunkLaws.{read-complete}
 use Rattle.format.proofs.Every.{Any, any, every-many, All, all-any, all-split}
 use Rattle.format.proofs.Totals.{instructions-append}
 use Rattle.format.proofs.Wider.{Wider, same-wider, joined, behind, grouped, at-place}
-use Rattle.format.proofs.WiderIf.{WiderIf, ends, tested, untested, tested-in, knows-in, untested-in, ends-in, limited, unasked, none-if, learnt, refuted}
-use Rattle.format.proofs.LundumpParts.{int-wider, list-wider, counted-within, upTo-within, StringWithin, string-within, ConstantWithin, constant-within, LocalWithin, local-within, anchor-wider}
+use Rattle.format_lua.proofs.WiderIf.{WiderIf, ends, tested, untested, tested-in, knows-in, untested-in, ends-in, limited, unasked, none-if, learnt, refuted}
+use Rattle.format_lua.proofs.LundumpParts.{int-wider, list-wider, counted-within, upTo-within, StringWithin, string-within, ConstantWithin, constant-within, LocalWithin, local-within, anchor-wider}
 
 -- ## The header
 -- the format byte is 0, and ours shows it

@@ -11,16 +11,16 @@ use mathlib.Core.Option.{Option, none, some}
 use Prim.Native.Nat.{ℕ, suc, _^_, _<_}
 use lib.Dec.{lit<}
 use lib.ListN.{length}
 use Rattle.format.specs.declared.entry.AbsLineInfo.{AbsLineInfo}
 use Rattle.format.specs.Reading.{ConstantValue, nil, boolean, integer, float, short-string, long-string, LocalVar, Prototype}
 use Rattle.format.specs.Shortest.{shortest}
 use Rattle.format.specs.Copy.{fieldBytes, optionBytes, constantBytes, upvalueBytes, anchorBytes, localBytes, listBytes, behindSource}
-use Rattle.format.specs.LdumpFunctions.{dumpString, dumpEach, isShort, dumpConstant, Dump, dumpAbsLineInfo, dumpLocVar, upvalueNames, dumpDebug, dumpSource, dumpFunction}
+use Rattle.format_lua.specs.LdumpFunctions.{dumpString, dumpEach, isShort, dumpConstant, Dump, dumpAbsLineInfo, dumpLocVar, upvalueNames, dumpDebug, dumpSource, dumpFunction}
 use Rattle.format.specs.ReadHeader.{sameBytes}
 use Rattle.format.specs.Form.{Bytes}
 use Rattle.format.specs.GrammarFields.{LuaString}
 use Rattle.format.proofs.Every.{All, all-any}
-use Rattle.format.proofs.LdumpLaws.{dumped}
+use Rattle.format_lua.proofs.LdumpLaws.{dumped}
 
 abbrev pub Fits : ℕ → Type 0
 Fits n = n < 2 ^ 64

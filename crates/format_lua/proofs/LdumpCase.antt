@@ -12,19 +12,19 @@ use mathlib.Core.Bool.{Bool, true, false}
 use mathlib.Core.List.{List, [], _∷_, _++_, map}
 use mathlib.Core.Option.{none}
 use lib.ListN.{replicate}
 use Rattle.format.specs.Form.{Bytes}
 use Rattle.format.specs.Limits.{ceilings}
 use Rattle.format.specs.Reading.{Prototype, Reading}
 use Rattle.format.specs.ReadHeader.{sameBytes}
 use Rattle.format.specs.ReadChunk.{body, function, Outcome, shown, refusal, read}
 use Rattle.format.specs.Shortest.{shortest}
 use Rattle.format.specs.Copy.{listBytes, behindSource, copy}
-use Rattle.format.specs.Ldump.{dumpSize}
-use Rattle.format.specs.LdumpFunctions.{dumpFunction, «luaU_dump»}
+use Rattle.format_lua.specs.Ldump.{dumpSize}
+use Rattle.format_lua.specs.LdumpFunctions.{dumpFunction, «luaU_dump»}
 use Rattle.format.proofs.Every.{All}
 use Rattle.format.proofs.ReadChunkLaws.{read-sound}
-use Rattle.format.proofs.LdumpWhole.{sourceOf, AsLua, AsStripped, copy-as-dumped}
-use Rattle.format.proofs.LuaChunks.{header, full}
+use Rattle.format_lua.proofs.LdumpWhole.{sourceOf, AsLua, AsStripped, copy-as-dumped}
+use Rattle.format_lua.proofs.LuaChunks.{header, full}
 
 -- a function of lines 1 and 2, no words, and two registers: its source, constants, upvalues, nested functions, no deltas and no anchors, its locals and upvalue names
 fn : Bytes → Bytes → Bytes → Bytes → Bytes → Bytes → Bytes

@@ -12,13 +12,13 @@ use native.Mathlib.Omega.{arith}
 use lib.Bits.{bitAnd, bitOr, and-mask, and-high, or-shifted}
 use lib.Dec.{ltb, leb, eqb, lit<}
 use borrow.Author.Tests.{lt-ltb, le-ltb, ltb-true, ltb-false, leb-true, leb-false, lt-leb, eq-eqb, ne-eqb, eqb-true, eqb-false}
 use Rattle.format.specs.declared.refusal.Refusal.the-variants.{VarintOverflow}
 use Rattle.format.specs.Form.{Bytes, Below}
 use Rattle.format.specs.Read.{Read, ok, refused}
 use Rattle.format.specs.ReadFields.{groups, number}
-use Rattle.format.specs.Lundump.{LoadedNumber, loaded, truncatedChunk, integerOverflow, loadUnsignedLoop, loadUnsigned, loadSize, loadInt}
+use Rattle.format_lua.specs.Lundump.{LoadedNumber, loaded, truncatedChunk, integerOverflow, loadUnsignedLoop, loadUnsigned, loadSize, loadInt}
 use Rattle.format.proofs.Exact.{never}
 use Rattle.format.proofs.ExactFields.{groups-least, exact-number}
 
 -- we read v, and leave these bytes
 pub record Ours (high at : ℕ) (s : Bytes) (v : ℕ) (rest : Bytes) : Type 0 where

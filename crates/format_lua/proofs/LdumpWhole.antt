@@ -15,19 +15,19 @@ use native.Mathlib.Nat.{add-zero, zero-add, add-suc, suc-add}
 use lib.Dec.{T, lit<, ltb, eqb, eqb→eq, eqb-refl}
 use borrow.Author.Tests.{ltb-true, ltb-false}
 use lib.ListN.{length, take, drop}
 use Rattle.format.specs.declared.limits.ResourceLimits.{ResourceLimits}
 use Rattle.format.specs.Form.{Bytes}
 use Rattle.format.specs.GrammarFields.{LuaString}
 use Rattle.format.specs.Reading.{Prototype, Reading}
 use Rattle.format.specs.GrammarChunk.{Chunk}
 use Rattle.format.specs.ReadHeader.{sameBytes}
 use Rattle.format.specs.Copy.{fieldBytes, optionBytes, nest, functionsBytes, headerBytes, upvaluesOfMain, copy}
-use Rattle.format.specs.LdumpFunctions.{object, Dump, sameSource, dumpSource, dumpNested, dumpHeader, «luaU_dump»}
+use Rattle.format_lua.specs.LdumpFunctions.{object, Dump, sameSource, dumpSource, dumpNested, dumpHeader, «luaU_dump»}
 use Rattle.format.proofs.Every.{All}
 use Rattle.format.proofs.ExactHeader.{both, both-of, same-eq, same-refl}
-use Rattle.format.proofs.LdumpLaws.{dumped}
-use Rattle.format.proofs.LdumpChunk.{StringFits, FunctionFits, TaggedByLength, Named, Alike, string-is, copied-as-dumped}
-use Rattle.format.proofs.LdumpKnown.{BehindParents, Known, There, functions-known}
+use Rattle.format_lua.proofs.LdumpLaws.{dumped}
+use Rattle.format_lua.proofs.LdumpChunk.{StringFits, FunctionFits, TaggedByLength, Named, Alike, string-is, copied-as-dumped}
+use Rattle.format_lua.proofs.LdumpKnown.{BehindParents, Known, There, functions-known}
 
 -- the source of the function with this number
 abbrev pub sourceOf : List Prototype → ℕ → Option LuaString

@@ -11,17 +11,17 @@ use mathlib.Core.Option.{Option, none, some, Option·getD}
 use Prim.Native.Nat.{ℕ, zero, suc, _≤_}
 use lib.Dec.{eqb}
 use lib.ListN.{length}
 use Rattle.format.specs.Form.{Bytes, Form, Then, Is, Here}
 use Rattle.format.specs.GrammarFields.{Number, LuaString, String}
 use Rattle.format.specs.GrammarFields as ours
 use Rattle.format.specs.Reading.{ConstantValue, nil, boolean, integer, float, short-string, long-string, LocalVar}
 use Rattle.format.specs.GrammarChunk.{Counted, CountedUpTo, Always, Constant, Anchor, Local}
-use Rattle.format.specs.LundumpFunctions.{LoadSize, LoadInt, Content, LoadStringN, NotNull, LoadString, LoadCounted, LoadConstant, LoadAbsLineInfo, LoadVarName, LoadLocVar}
+use Rattle.format_lua.specs.LundumpFunctions.{LoadSize, LoadInt, Content, LoadStringN, NotNull, LoadString, LoadCounted, LoadConstant, LoadAbsLineInfo, LoadVarName, LoadLocVar}
 use Rattle.format.proofs.ExactFields.{exact-number}
-use Rattle.format.proofs.LundumpLaws.{Ours, size-exactly, int-exactly}
+use Rattle.format_lua.proofs.LundumpLaws.{Ours, size-exactly, int-exactly}
 use Rattle.format.proofs.Every.{any, every-run, every-many, All}
 use Rattle.format.proofs.Wider.{Wider, then-wider, behind, so, many-wider, same-wider}
-use Rattle.format.proofs.WiderIf.{WiderIf, ends, learns, tested, knows, untested, limited, by-test, noted, unasked, none-if, many-if}
+use Rattle.format_lua.proofs.WiderIf.{WiderIf, ends, learns, tested, knows, untested, limited, by-test, noted, unasked, none-if, many-if}
 
 -- a number that is read to the last byte
 ours-spells : {at v : ℕ} {b : Bytes} → Ours 0 at b v [] → Number at b v

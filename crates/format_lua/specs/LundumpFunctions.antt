@@ -13,14 +13,14 @@ use mathlib.Core.Option.{Option, none, some, Option·getD}
 use Prim.Native.Nat.{ℕ, zero, suc, _+_}
 use lib.Dec.{eqb}
 use lib.ListN.{length}
 use Rattle.format.specs.declared.entry.UpvalueDesc.{UpvalueDesc}
 use Rattle.format.specs.declared.entry.AbsLineInfo.{AbsLineInfo}
 use Rattle.format.specs.Form.{Bytes, Below, Form, Then, _>>=_, _>>_, Is, Here, Spelt, Nothing, When, Run, Many}
 use Rattle.format.specs.GrammarFields.{Field, LuaString}
 use Rattle.format.specs.GrammarHeader.{Headed, signature, luacData, luacInt, luacNum, headerOf}
 use Rattle.format.specs.Reading.{ConstantValue, nil, boolean, integer, float, short-string, long-string, LocalVar, Places, Prototype}
 use Rattle.format.specs.GrammarChunk.{Listed, inherit, Where, after, within, prototype, Loaded, outermost}
-use Rattle.format.specs.Lundump.{loaded, loadSize, loadInt}
+use Rattle.format_lua.specs.Lundump.{loaded, loadSize, loadInt}
 
 -- the bytes that `loadSize` and `loadInt` take to the last. Ours is a number for both: an int is below 2^31 - 128 here
 abbrev pub LoadSize : Form ℕ

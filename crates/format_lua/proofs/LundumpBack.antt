@@ -16,24 +16,24 @@ use Prim.Native.Nat.{ℕ, zero, suc, _-_, _^_, _≤_, _<_}
 use native.Mathlib.Omega.{arith}
 use lib.Dec.{eqb}
 use lib.ListN.{length}
 use Rattle.format.specs.declared.limits.ResourceLimits.{ResourceLimits}
 use Rattle.format.specs.declared.entry.AbsLineInfo.{AbsLineInfo}
 use Rattle.format.specs.Form.{Bytes, Below, Form, Then, Is, Here, Spelt}
 use Rattle.format.specs.GrammarFields.{Byte, Number, LuaString, String}
 use Rattle.format.specs.GrammarFields as ours
 use Rattle.format.specs.GrammarHeader.{Headed, Header, headerOf, formatWarnings}
 use Rattle.format.specs.Reading.{ConstantValue, nil, boolean, integer, float, short-string, long-string, LocalVar, Prototype, Reading}
 use Rattle.format.specs.GrammarChunk.{Counted, CountedUpTo, Always, Constant, Anchor, Local, inherit, Where, after, within, Forest, Body, Function, Loaded, outermost, Main, Chunk}
-use Rattle.format.specs.LundumpFunctions.{LoadSize, LoadInt, Content, LoadStringN, NotNull, LoadString, LoadCounted, LoadConstant, LoadAbsLineInfo, LoadVarName, LoadLocVar, LoadProtos, LoadFunction, CheckHeader, Undump}
+use Rattle.format_lua.specs.LundumpFunctions.{LoadSize, LoadInt, Content, LoadStringN, NotNull, LoadString, LoadCounted, LoadConstant, LoadAbsLineInfo, LoadVarName, LoadLocVar, LoadProtos, LoadFunction, CheckHeader, Undump}
 use Rattle.format.proofs.Below.{below-split}
 use Rattle.format.proofs.Copies.{parts}
 use Rattle.format.proofs.Every.{Any, any, every-run, every-many, All, all-any, all-split}
 use Rattle.format.proofs.Wider.{opened, grouped}
-use Rattle.format.proofs.WiderIf.{WiderIf, seen-as, learnt, unasked, none-if}
-use Rattle.format.proofs.WiderBytes.{AsBytes, plain, inside, asks, asks-known, keeps, keeps-known, closes, untests, unplaced, tests, regrouped, ended, many-back}
-use Rattle.format.proofs.LundumpLaws.{size-exactly, int-exactly}
-use Rattle.format.proofs.LundumpChunk.{FunctionsWithin, undumped}
-use Rattle.format.proofs.LundumpRead.{ours-of}
+use Rattle.format_lua.proofs.WiderIf.{WiderIf, seen-as, learnt, unasked, none-if}
+use Rattle.format_lua.proofs.WiderBytes.{AsBytes, plain, inside, asks, asks-known, keeps, keeps-known, closes, untests, unplaced, tests, regrouped, ended, many-back}
+use Rattle.format_lua.proofs.LundumpLaws.{size-exactly, int-exactly}
+use Rattle.format_lua.proofs.LundumpChunk.{FunctionsWithin, undumped}
+use Rattle.format_lua.proofs.LundumpRead.{ours-of}
 
 -- ## Numbers
 abbrev pub IsInt : ℕ → Type 0

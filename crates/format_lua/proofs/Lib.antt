@@ -1,0 +1,14 @@
+pub mod LdumpLaws
+pub mod LdumpChunk
+pub mod LdumpKnown
+pub mod LdumpWhole
+pub mod LundumpLaws
+pub mod LundumpParts
+pub mod LundumpChunk
+pub mod LundumpRead
+pub mod LundumpBack
+pub mod LuaChunks
+pub mod LundumpCase
+pub mod LdumpCase
+pub mod WiderIf
+pub mod WiderBytes

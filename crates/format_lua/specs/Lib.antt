@@ -1,0 +1,4 @@
+pub mod Lundump
+pub mod Ldump
+pub mod LundumpFunctions
+pub mod LdumpFunctions
