@@ -1,6 +1,7 @@
 # From a request and the judge's answer (docs/PROTOCOL.md) to the lines that `vectors` compares: a call, its arguments, and the numbers that it must answer. All numbers are the judge's, but for what
 # 01 says by itself: 23 and 24 behind the last function and entry, 26 where lent memory is one too short, and one refusal for all calls on a chunk that is refused.
 from .ask import FAR
+from .shape import has_shape
 
 # Each byte or number of lent memory before a call.
 BEFORE = 165
@@ -50,7 +51,8 @@ def string(word):
 
 
 def expected(request, answer):
-    """The limits, the chunk (of a word neither) and the lines."""
+    """The limits, the chunk (of a word neither) and the lines. No other answer has the same lines."""
+    assert has_shape(request, answer), f"{request:.200}: {answer[:3]}"
     words = request.split(" ")
     answer = [shown.split(" ") for shown in answer]
     match words[0]:
@@ -70,6 +72,7 @@ def expected(request, answer):
 
 def word(digits, answer):
     words = answer[0]
+    assert words[1] == digits
     at = words.index("encode")
     fields = dict(zip(words[2:at:2], words[3:at:2]))
     shown = [unsigned(fields[name]) for name in "a k b sb c sc bx sbx ax sj".split()]
@@ -112,8 +115,8 @@ def whole(answer):
     begins = [at for at, words in enumerate(answer) if words[0] == "function"] + [next(at for at, words in enumerate(answer) if words[0] == "row")]
     looked_up = [words for words in answer if words[0] == "line"]
     assert len(looked_up) == len(of["row"]) == functions == len(begins) - 1
-    for shown, start, end in zip(looked_up, begins, begins[1:]):
-        yield from function(answer[start:end], shown)
+    for row, shown, start, end in zip(of["row"], looked_up, begins, begins[1:]):
+        yield from function(answer[start:end], row, shown)
     yield from no_function(functions)
     yield from lent("r", [functions], [int(n) for row in of["row"] for n in row])
     yield from lent("c", [len(copy)], copy)
@@ -133,9 +136,10 @@ def summary(of, functions):
     return line("s", [], [0, *version_format, *bytes_[2:], int(bits, 16), functions, place, len(data(trailing)), *(warnings + [0] * 4)[:4], data(trailing)])
 
 
-def function(answer, looked_up):
-    """A function's fields, entries and lines."""
-    (_, number, _, depth, _, parent, *_), (_, source), (_, *lines), (_, *bytes_), (_, *counts), *entries = answer
+def function(answer, row, looked_up):
+    """A function's fields, entries and lines. Where it starts and ends is told by its row."""
+    (_, number, _, depth, _, parent, _, start, _, end), (_, source), (_, *lines), (_, *bytes_), (_, *counts), *entries = answer
+    assert row == [start, end, depth, parent, *counts] and looked_up[1] == number
     yield line("f", [number], [0, depth, parent, absent(source), *string(source), *lines, *bytes_, *counts])
     lists = {letter: [words[1:] for words in entries if words[0] == letter] for letter in LISTS}
     assert sum(map(len, lists.values())) == len(entries)
@@ -230,7 +234,7 @@ def lookups(asked, answer):
         pcs = pcs or ["0"]
         found = [[status(answer)]] * len(pcs)
     else:
-        assert [pair.split(":")[0] for pair in answer[2:]] == pcs
+        assert answer[1] == function and [pair.split(":")[0] for pair in answer[2:]] == pcs
         found = [[0, pair.split(":")[1]] for pair in answer[2:]]
     runs = []
     for pc, numbers in zip(map(int, pcs), found):
