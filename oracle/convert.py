@@ -1,6 +1,7 @@
 #!/usr/bin/env python3
-# From requests and the judge's answers in the text of docs/PROTOCOL.md to the lines that `vectors` compares: convert.py REQUESTS ANSWERS prints them; convert.py REQUESTS ANSWERS FOLDER writes
-# FOLDER/stdin, with a last line that is altered on purpose, and FOLDER/stdout, what `vectors` then prints. kept/expected.py has the numbers.
+# From requests and the judge's answers in the text of docs/PROTOCOL.md to the lines that `vectors` compares: convert.py REQUESTS ANSWERS prints them, without the requests that are too long for it,
+# and says how many these are; convert.py REQUESTS ANSWERS FOLDER writes FOLDER/stdin, with a last line that is altered on purpose, and FOLDER/stdout, what `vectors` then prints.
+# kept/expected.py has the numbers.
 import sys
 from pathlib import Path
 
@@ -8,10 +9,25 @@ sys.dont_write_bytecode = True
 
 from kept.expected import expected
 
+# What `vectors` has room for: bytes of a chunk and of lent memory, and a number more than a line may have; bytes of a line.
+ROOM, LONGEST = 65536, 1048576
+
 
 def answers(text):
     """The lines of each answer."""
     return [answer.strip("\n").split("\n") for answer in text.split("\nend\n")[:-1]]
+
+
+def fits(chunk, lines):
+    """Whether `vectors` has room for the chunk, for the numbers of each line, and for the memory that it lends."""
+    return len(chunk or "") <= 2 * ROOM and all(map(fits_line, lines))
+
+
+def fits_line(line):
+    words = line.split(" ")
+    numbers = sum(len(word) // 2 if word[0] == "x" else 1 for word in words[1:] if word != "=")
+    lent = {"l": 2, "c": 1, "r": 1, "v": 1}.get(words[0])
+    return numbers < ROOM and len(line) <= LONGEST and (lent is None or int(words[lent]) + 64 <= ROOM)
 
 
 class Lines:
@@ -20,9 +36,13 @@ class Lines:
     def __init__(self):
         self.lines = []
         self.subject = {"limits": None, "chunk": None}
+        self.too_long = 0
 
     def add(self, comments, request, answer):
         limits, chunk, numbers = expected(request, answer)
+        if not fits(chunk, numbers):
+            self.too_long += 1
+            return
         if limits:
             self.lines += [""]
         self.lines += comments
@@ -65,7 +85,9 @@ def main():
     lines = converted(*(Path(name).read_text() for name in sys.argv[1:3]))
     if len(sys.argv) < 4:
         print(*lines.lines, sep="\n")
+        print(f"{lines.asked()} calls; {lines.too_long} requests are too long", file=sys.stderr)
         return
+    assert not lines.too_long, "requests that are too long cannot be kept"
     difference = lines.alter()
     folder = Path(sys.argv[3])
     folder.mkdir(parents=True, exist_ok=True)
