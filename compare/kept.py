@@ -1,7 +1,7 @@
 #!/usr/bin/env python3
 # Asks the static library what crates/vectors/stdin asks, and compares, as the program `vectors` does: kept.py prints its differences and its totals, which must be crates/vectors/stdout. Then the same
 # requests in the text of docs/PROTOCOL.md, by answers.c: functions and entries once by their numbers and once by the parts at their places, held against the same lines. Exit status 1 on a difference.
-# kept.py self-test [SEED] alters 1,000 lines by chance, and says how many of them are found. Needs `rt staticlib lafzimdo` (or a library in the folder LAFZIMDO_LIB) and a C compiler.
+# kept.py self-test [SEED] alters 1,000 lines by chance, then 20,000 answers in text, and says how many are found. Needs `rt staticlib lafzimdo` (or a library in the folder LAFZIMDO_LIB) and a C compiler.
 import collections
 import random
 import subprocess
@@ -21,7 +21,8 @@ from convert import answers
 from kept.expected import expected
 from kept.stored import requests
 
-ALTERED = 1000
+# How many lines and answers in text the self-test alters, and the number of lines from which on an answer is left out.
+ALTERED, ALTERED_TEXTS, LONG = 1000, 20000, 2000
 
 
 # ---- Lines
@@ -63,12 +64,16 @@ def report(library, lines):
 
 # ---- Text
 
+def answered(kept, *argument):
+    """The answers of answers.c."""
+    asked = "".join(request.text() + "\n" for request in kept)
+    return answers(subprocess.run([BUILT / "answers", *argument], input=asked, capture_output=True, text=True, check=True).stdout)
+
+
 def in_text(kept, *argument):
     """Whether answers.c answers these requests with the kept lines."""
-    asked = "".join(request.text() + "\n" for request in kept)
-    found = answers(subprocess.run([BUILT / "answers", *argument], input=asked, capture_output=True, text=True, check=True).stdout)
     differ = collections.Counter()
-    for request, answer in zip_longest(kept, found):
+    for request, answer in zip_longest(kept, answered(kept, *argument)):
         if lines_of(request.text(), answer) != request.lines:
             if not differ:
                 print(f"differs: line {request.number}, {request.text():.300}")
@@ -122,12 +127,35 @@ def numbers_of(line):
     return numbers(line.split(" =")[1].split())
 
 
+def altered_text(chance, answer):
+    """The answer without a line, with one twice, or with another character. Each kind of line is as likely as another."""
+    word = chance.choice(sorted({line.split(" ")[0] for line in answer}))
+    at = chance.choice([at for at, line in enumerate(answer) if line.split(" ")[0] == word])
+    line, way = answer[at], chance.randrange(4)
+    if way < 2:
+        return answer[:at] + [line] * (2 * way) + answer[at + 1:]
+    where = chance.randrange(len(line))
+    other = chance.choice("0123456789abcdef -x".replace(line[where], ""))
+    return [*answer[:at], line[:where] + other + line[where + 1:], *answer[at + 1:]]
+
+
+def self_test_in_text(kept, seed):
+    chance = random.Random(seed)
+    asked = [(request, answer) for request, answer in zip(kept, answered(kept)) if len(answer) < LONG]
+    missed = 0
+    for request, answer in chance.choices(asked, k=ALTERED_TEXTS):
+        missed += lines_of(request.text(), altered_text(chance, answer)) == request.lines
+    print(f"seed {seed}: {ALTERED_TEXTS} answers in text altered, {ALTERED_TEXTS - missed} of them found")
+    return not missed
+
+
 def main():
     subprocess.run([HERE / "build.sh", "answers"], check=True)
     library = Library(BUILT / "liblafzimdo.so")
     text = (KEPT / "stdin").read_text()
     if sys.argv[1:2] == ["self-test"]:
-        return self_test(library, text.splitlines(), int(sys.argv[2]) if len(sys.argv) > 2 else 1)
+        seed = int(sys.argv[2]) if len(sys.argv) > 2 else 1
+        return self_test(library, text.splitlines(), seed) & self_test_in_text(requests(text), seed)
     shown = report(library, text.splitlines())
     print(*shown[-20:], sep="\n")
     alike = "\n".join(shown) + "\n" == (KEPT / "stdout").read_text()
