@@ -37,7 +37,7 @@ def status(words):
     return int(number) if place == "-" else int(number) + 256 * (int(place) + 1)
 
 
-def absent(word):
+def present(word):
     return int(word != "-")
 
 
@@ -140,7 +140,7 @@ def function(answer, row, looked_up):
     """A function's fields, entries and lines. Where it starts and ends is told by its row."""
     (_, number, _, depth, _, parent, _, start, _, end), (_, source), (_, *lines), (_, *bytes_), (_, *counts), *entries = answer
     assert row == [start, end, depth, parent, *counts] and looked_up[1] == number
-    yield line("f", [number], [0, depth, parent, absent(source), *string(source), *lines, *bytes_, *counts])
+    yield line("f", [number], [0, depth, parent, present(source), *string(source), *lines, *bytes_, *counts])
     lists = {letter: [words[1:] for words in entries if words[0] == letter] for letter in LISTS}
     assert sum(map(len, lists.values())) == len(entries)
     for letter, shown in lists.items():
@@ -162,7 +162,7 @@ def entry(letter, words):
         case "d", [delta]:
             return [unsigned(delta)]
         case "n", [name]:
-            return [absent(name), *string(name)]
+            return [present(name), *string(name)]
     return words
 
 
