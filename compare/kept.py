@@ -1,7 +1,7 @@
 #!/usr/bin/env python3
 # Asks the static library what crates/vectors/stdin asks, and compares, as the program `vectors` does: kept.py prints its differences and its totals, which must be crates/vectors/stdout. Then the same
 # requests in the text of docs/PROTOCOL.md, by answers.c: functions and entries once by their numbers and once by the parts at their places, held against the same lines. Exit status 1 on a difference.
-# kept.py self-test [SEED] alters 1,000 lines by chance, then 20,000 answers in text, and says how many are found. Needs `rt staticlib lafzimdo` (or a library in the folder LAFZIMDO_LIB) and a C compiler.
+# kept.py self-test [SEED] alters 1,000 lines by chance, asks target/bin/vectors them too where it is there (rt check vectors), then alters 20,000 answers in text, and says how many are found. Needs `rt staticlib lafzimdo` (or a library in the folder LAFZIMDO_LIB) and a C compiler.
 import collections
 import random
 import subprocess
@@ -14,6 +14,7 @@ HERE = Path(__file__).resolve().parent
 TOP = HERE.parent
 BUILT = TOP / "target/compare"
 KEPT = TOP / "crates/vectors"
+VECTORS = TOP / "target/bin/vectors"
 sys.path.insert(0, str(TOP / "oracle"))
 
 from calls import Library
@@ -51,15 +52,10 @@ def compared(library, lines):
             yield number, difference(numbers(words[at + 1:]), library.answer(word, numbers(words[1:at])))
 
 
-def report(library, lines):
+def report(results):
     """What `vectors` prints."""
-    agree, shown = 0, []
-    for number, differs in compared(library, lines):
-        if differs:
-            shown.append("line {}, number {}: expected {}, found {}".format(number, *differs))
-        else:
-            agree += 1
-    return [*shown, f"{agree} agree, {len(shown)} differ"]
+    shown = ["line {}, number {}: expected {}, found {}".format(number, *differs) for number, differs in results if differs]
+    return [*shown, f"{len(results) - len(shown)} agree, {len(shown)} differ"]
 
 
 # ---- Text
@@ -118,9 +114,22 @@ def self_test(library, lines, seed):
     for at in changed:
         while numbers_of(changed[at] or lines[at]) == numbers_of(lines[at]):
             changed[at] = altered(chance, lines[at])
-    found = {number - 1 for number, differs in compared(library, [changed.get(at, line) for at, line in enumerate(lines[:-1])]) if differs}
+    asked = [changed.get(at, line) for at, line in enumerate(lines[:-1])]
+    results = list(compared(library, asked))
+    found = {number - 1 for number, differs in results if differs}
     print(f"seed {seed}: {len(changed)} lines altered, {len(changed.keys() & found)} of them found, {len(found - changed.keys())} others differ")
-    return found == changed.keys()
+    return (found == changed.keys()) & by_vectors(asked, report(results))
+
+
+def by_vectors(asked, shown):
+    """Whether `vectors` prints the same of these lines, where it is there."""
+    if not VECTORS.exists():
+        print("vectors is not there")
+        return True
+    out = subprocess.run([VECTORS], input="\n".join(asked) + "\n", capture_output=True, text=True, check=True).stdout.splitlines()
+    alike = sum(a == b for a, b in zip(out, shown))
+    print(f"vectors: {len(out)} lines, {alike} of them the same; {out[-1]}")
+    return out == shown
 
 
 def numbers_of(line):
@@ -156,7 +165,7 @@ def main():
     if sys.argv[1:2] == ["self-test"]:
         seed = int(sys.argv[2]) if len(sys.argv) > 2 else 1
         return self_test(library, text.splitlines(), seed) & self_test_in_text(requests(text), seed)
-    shown = report(library, text.splitlines())
+    shown = report(list(compared(library, text.splitlines())))
     print(*shown[-20:], sep="\n")
     alike = "\n".join(shown) + "\n" == (KEPT / "stdout").read_text()
     print("as crates/vectors/stdout says" if alike else "crates/vectors/stdout says otherwise")
