@@ -1,6 +1,7 @@
 #!/bin/sh
 # Builds the comparison over the Rust, as oracle/build.sh compiles it, and over liblafzimdo.a from the folder LAFZIMDO_LIB (default target/staticlib):
-# `build.sh run` target/compare/run; `build.sh fuzz` target/fuzz/fuzz, the Rust with coverage for libFuzzer.
+# `build.sh run` target/compare/run; `build.sh fuzz` target/fuzz/fuzz, the Rust with coverage for libFuzzer. Without the Rust: `build.sh answers` target/compare/answers, which answers
+# requests in text, and target/compare/liblafzimdo.so, for Python.
 set -eu
 here=$(cd "$(dirname "$0")" && pwd)
 top=$(dirname "$here")
@@ -8,6 +9,12 @@ library=${LAFZIMDO_LIB:-$top/target/staticlib}
 [ -f "$library/liblafzimdo.a" ] || { echo "compare/build.sh: no liblafzimdo.a in $library; run rt staticlib lafzimdo" >&2; exit 1; }
 
 case $1 in
+answers)
+    out=$top/target/compare
+    mkdir -p "$out"
+    cc -O2 -Wall "$here/answers.c" "$here/parts.c" "$library/liblafzimdo.a" -o "$out/answers"
+    exec cc -shared -Wl,--whole-archive "$library/liblafzimdo.a" -Wl,--no-whole-archive -o "$out/liblafzimdo.so"
+    ;;
 run)
     out=$top/target/compare judge=$top/target/oracle
     "$top/oracle/build.sh"

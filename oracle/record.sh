@@ -1,6 +1,7 @@
 #!/bin/sh
-# Builds the judge, and records its answers to every generator's requests: stdin and stdout in crates/vectors. The two files there are only ever made
-# by this script. To try others: record.sh FOLDER GENERATOR .., and nothing outside that folder is written but target/oracle.
+# Builds the judge, asks it every generator's requests, and writes what `vectors` compares: stdin and stdout in crates/vectors. The two files there are only ever made
+# by this script. To try others: record.sh FOLDER GENERATOR .., and nothing outside that folder is written but target/oracle. The judge's own text, requests and
+# answers (docs/PROTOCOL.md), is left in target/oracle/text.
 set -eu
 here=$(cd "$(dirname "$0")" && pwd)
 top=$(dirname "$here")
@@ -17,15 +18,18 @@ if [ $# -gt 0 ]; then
 fi
 
 "$here/build.sh"
+mkdir -p "$out/text" "$out/kept" "$kept"
 {
-    echo "# Made by oracle/record.sh from oracle/: $generators. The answers in stdout are the Rust's."
+    echo "# Made by oracle/record.sh from oracle/: $generators. What stands behind \`=\` is the Rust's answer; docs/PROTOCOL.md says how it is spelt."
     for generator in $generators; do
         "$here/$generator"
     done
-} > "$out/stdin"
-"$out/oracle" < "$out/stdin" > "$out/stdout"
-"$here/tally.py" "$out/stdin" "$out/stdout"
+    echo "# smallest: the 46 bytes of 01"
+    echo "16777216 200 16777216 16777216 16777216 16777216 16777216 16777216 10000 1b4c7561540019930d0a1a0a04080878560000000000000000000000287740008080800000028080808080808080"
+} > "$out/text/requests"
+"$out/oracle" < "$out/text/requests" > "$out/text/answers"
+"$here/tally.py" "$out/text/requests" "$out/text/answers"
 
 # Both files are there in full before either is replaced.
-mkdir -p "$kept"
-mv "$out/stdin" "$out/stdout" "$kept/"
+"$here/convert.py" "$out/text/requests" "$out/text/answers" "$out/kept"
+mv "$out/kept/stdin" "$out/kept/stdout" "$kept/"

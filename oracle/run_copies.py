@@ -1,8 +1,8 @@
 #!/usr/bin/env python3
-# Runs archive copies. Every sample is compiled, as it comes and stripped; `vectors` copies each chunk, and besides the same chunk spelt otherwise: numbers
+# Runs archive copies. Every sample is compiled, as it comes and stripped; the library copies each chunk (by compare/answers.c), and besides the same chunk spelt otherwise: numbers
 # padded, another format, another byte 31, a source in every function, trailing bytes. lua runs each copy, and what it prints must be what it prints of
-# luac's own chunk. The last line says how many ran alike; the status is 1 where one did not. Needs luac5.4 and lua5.4, and target/bin/vectors
-# (rt check vectors); where one of them is missing it says so, and the status is 2.
+# luac's own chunk. The last line says how many ran alike; the status is 1 where one did not. Needs luac5.4 and lua5.4, a C compiler and
+# liblafzimdo.a (rt staticlib lafzimdo); where one of them is missing it says so, and the status is 2.
 import os
 import shutil
 import subprocess
@@ -18,7 +18,8 @@ from kept.parse import main_of
 
 HERE = Path(__file__).resolve().parent
 SAMPLES = HERE / "samples"
-VECTORS = HERE.parent / "target" / "bin" / "vectors"
+COMPARE = HERE.parent / "compare"
+ANSWERS = HERE.parent / "target/compare/answers"
 LUAC, LUA = os.environ.get("LUAC", "luac5.4"), os.environ.get("LUA", "lua5.4")
 
 
@@ -41,9 +42,9 @@ def compiled(folder):
 
 
 def copies(chunks):
-    """The archive copies, by `vectors`."""
+    """The archive copies, by the library."""
     asked = "".join(f"{limited({})} {hexed(data)}\n" for data in chunks)
-    answers = subprocess.run([VECTORS], input=asked, capture_output=True, text=True, check=True).stdout.split("end\n")[:-1]
+    answers = subprocess.run([ANSWERS], input=asked, capture_output=True, text=True, check=True).stdout.split("end\n")[:-1]
     assert len(answers) == len(chunks)
     for answer in answers:
         (copy,) = (line.split(" ", 1)[1] for line in answer.splitlines() if line.startswith("copy "))
@@ -58,10 +59,12 @@ def run(folder, data):
 
 
 def main():
-    for tool in (LUAC, LUA, VECTORS):
+    for tool in (LUAC, LUA, "cc"):
         if not shutil.which(tool):
             print(f"run_copies.py: no copy was run: {tool} is not there")
             return 2
+    if subprocess.run([COMPARE / "build.sh", "answers"]).returncode:
+        return 2
     with tempfile.TemporaryDirectory() as name:
         folder = Path(name)
         named = dict(compiled(folder))

@@ -32,11 +32,7 @@ impl Cases {
         let mut real: Vec<Vec<u8>> = lines.map(last_word).collect();
         // Short ones are drawn more often.
         real.sort_by_key(Vec::len);
-        let chunks = requests.lines().filter(|line| line.starts_with(|first: char| first.is_ascii_digit()));
-        let kept = chunks
-            .map(|line| (last_word(line), first_numbers(line)))
-            .filter(|(chunk, _)| chunk.len() <= LONGEST_KEPT)
-            .collect();
+        let kept = kept(requests).into_iter().filter(|(chunk, _)| chunk.len() <= LONGEST_KEPT).collect();
         Cases { seed, real, kept }
     }
 
@@ -74,15 +70,29 @@ impl Cases {
     }
 }
 
+/// Each chunk that the kept lines ask about in full, with its limits: such a one has a line `m`.
+fn kept(requests: &str) -> Vec<(Vec<u8>, Limits)> {
+    let (mut chunk, mut limits, mut found) = (Vec::new(), CEILINGS, Vec::new());
+    for line in requests.lines() {
+        match line.split(' ').next() {
+            Some("limits") => limits = last_numbers(line),
+            Some("chunk") => chunk = last_word(line),
+            Some("m") => found.push((chunk.clone(), limits)),
+            _ => {}
+        }
+    }
+    found
+}
+
 /// The chunk at the end of a line.
 fn last_word(line: &str) -> Vec<u8> {
     let word = line.rsplit(' ').next().expect("a chunk");
     hex::decode(word.trim_matches('-')).expect("hex")
 }
 
-/// The nine limits at the start of a line.
-fn first_numbers(line: &str) -> Limits {
-    let mut words = line.split(' ').map(|word| word.parse().expect("a limit"));
+/// The nine limits behind the word of a line.
+fn last_numbers(line: &str) -> Limits {
+    let mut words = line.split(' ').skip(1).map(|word| word.parse().expect("a limit"));
     std::array::from_fn(|_| words.next().expect("nine limits"))
 }
 

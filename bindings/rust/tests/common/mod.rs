@@ -4,6 +4,7 @@ use lafzimdo::Limits;
 use std::fs;
 use std::path::{Path, PathBuf};
 
+pub mod kept;
 pub mod run;
 pub mod undump;
 
@@ -18,16 +19,7 @@ pub fn text(name: &str) -> String {
 
 /// The kept requests, each with the answer of the Rust (docs/PROTOCOL.md), without its line `end`.
 pub fn kept() -> Vec<(String, Vec<String>)> {
-    let requests = text("crates/vectors/stdin");
-    let requests = requests.lines().filter(|line| !line.is_empty() && !line.starts_with('#'));
-    let answers = text("crates/vectors/stdout");
-    let mut lines = answers.lines();
-    let kept: Vec<_> = requests
-        .map(|request| {
-            (request.to_string(), lines.by_ref().take_while(|line| *line != "end").map(String::from).collect())
-        })
-        .collect();
-    assert_eq!(lines.next(), None, "more answers than requests");
+    let kept = kept::told(&text("crates/vectors/stdin"));
     assert!(kept.len() > 11_000, "only {} requests", kept.len());
     kept
 }
