@@ -1,8 +1,5 @@
-// Lists of numbers: put together from numbers and from parts of memory, and compared. A list that is full takes no more, and nothing is asked of a caller.
-ghost use mathlib.Core.Path.{_≡_};
-ghost use mathlib.Core.Bool.{true};
-ghost use Prim.Native.Nat.{_-_, _≤_, _<_};
-ghost use lib.ListN.{length, take, drop};
+// Lists of numbers, put together from numbers and from parts of memory. A list that is full takes no more, and nothing is asked of a caller.
+// Memory is lent with 165 in every place, so that it shows what a call wrote.
 
 pub const ROOM: usize = 65536;
 
@@ -63,45 +60,74 @@ pub fn bytes(list: &mut Numbers, at: usize, memory: &[u8], from: usize, count: u
     at
 }
 
+// The end of what is looked at.
+fn behind(lent: usize) -> usize {
+    if lent < ROOM {
+        return lent + 64;
+    }
+    lent
+}
+
+fn more(n: u64) -> u64 {
+    if n < u64::MAX {
+        return n + 1;
+    }
+    n
+}
+
+// How many places of lent memory, and of the 64 behind it, are no longer as they were.
+pub fn written_bytes(memory: &[u8], lent: usize) -> u64 {
+    let end = behind(lent);
+    let mut n = 0;
+    let mut i = 0;
+    while i < memory.len() {
+        if end <= i {
+            return n;
+        }
+        if memory[i] != 165 {
+            n = more(n);
+        }
+        i += 1;
+    }
+    n
+}
+
+pub fn written_words(memory: &[u32], lent: usize) -> u64 {
+    let end = behind(lent);
+    let mut n = 0;
+    let mut i = 0;
+    while i < memory.len() {
+        if end <= i {
+            return n;
+        }
+        if memory[i] != 165 {
+            n = more(n);
+        }
+        i += 1;
+    }
+    n
+}
+
+pub fn written_longs(memory: &[u64], lent: usize) -> u64 {
+    let end = behind(lent);
+    let mut n = 0;
+    let mut i = 0;
+    while i < memory.len() {
+        if end <= i {
+            return n;
+        }
+        if memory[i] != 165 {
+            n = more(n);
+        }
+        i += 1;
+    }
+    n
+}
+
 pub fn wide(x: u8) -> u64 {
     x as u64
 }
 
 fn wide_word(x: u32) -> u64 {
     x as u64
-}
-
-// Ruled out: a comparison that cannot fail, one that stops before the end.
-fn same(a: &[u64], b: &[u64]) -> bool
-    ensures { λ r. ⌜ (r ≡ true → now (a .entry) ≡ now (b .entry)) × (now (a .entry) ≡ now (b .entry) → r ≡ true) ⌝ }
-{
-    if a.len() != b.len() {
-        return false;
-    }
-    let mut i = 0;
-    while i < a.len() {
-        if a[i] != b[i] {
-            return false;
-        }
-        i += 1;
-    }
-    true
-}
-
-// Whether the first n numbers that came are those that are wanted, from one place to another. A list that is full may have been cut, and agrees with none.
-// Ruled out: an answer that is not compared, or only as far as it goes.
-pub fn agrees(want: &[u64], from: usize, to: usize, got: &[u64], n: usize) -> bool
-    ensures { λ r. ⌜ (r ≡ true → take (to - from) (drop from (now (want .entry))) ≡ take n (now (got .entry))) ⌝ }
-    ensures { λ r. ⌜ (from ≤ to → to < length (now (want .entry)) → n < length (now (got .entry)) → take (to - from) (drop from (now (want .entry))) ≡ take n (now (got .entry)) → r ≡ true) ⌝ }
-{
-    if to < from {
-        return false;
-    }
-    if want.len() <= to {
-        return false;
-    }
-    if got.len() <= n {
-        return false;
-    }
-    same(&want[from..to], &got[..n])
 }

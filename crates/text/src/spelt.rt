@@ -5,7 +5,7 @@ use crate::number::digit;
 use crate::token;
 use crate::token::NumberAt;
 
-// How far the line is read, how many numbers stand before the `=`, and how many there are in all: more than a list has room for where a word spells none.
+// How far the line is read, how many numbers stand before the `=`, and how many there are in all. Where there is no `=`, or a word spells none, `from` is more than any list has.
 pub struct Spelt {
     pub at: usize,
     pub from: usize,
@@ -13,12 +13,12 @@ pub struct Spelt {
 }
 
 // No list is so long.
-const BAD: usize = 65537;
+pub const BAD: usize = 65537;
 
 pub fn numbers(line: &[u8], start: usize, want: &mut Numbers) -> Spelt {
     let mut s = Spelt {
         at: start,
-        from: 0,
+        from: BAD,
         to: 0,
     };
     let mut left = line.len();
@@ -63,15 +63,15 @@ fn word(line: &[u8], want: &mut Numbers, s: Spelt) -> Spelt {
                 to,
             }
         }
-        NumberAt::None => bad(line, s),
+        NumberAt::None => bad(line),
     }
 }
 
-fn bad(line: &[u8], s: Spelt) -> Spelt {
+fn bad(line: &[u8]) -> Spelt {
     Spelt {
         at: line.len(),
-        from: s.from,
-        to: BAD,
+        from: BAD,
+        to: 0,
     }
 }
 
@@ -88,15 +88,15 @@ fn pairs(line: &[u8], start: usize, want: &mut Numbers, s: Spelt) -> Spelt {
             };
         }
         if line.len() - at < 2 {
-            return bad(line, s);
+            return bad(line);
         }
         let high = digit(line[at]);
         let low = digit(line[at + 1]);
         if 15 < high {
-            return bad(line, s);
+            return bad(line);
         }
         if 15 < low {
-            return bad(line, s);
+            return bad(line);
         }
         to = list::push(want, to, list::wide(high * 16 + low));
         at += 2;
