@@ -36,7 +36,7 @@ returns c =
 returns-2 : tie.Need-returns-2 Inv-loop μ-loop
 returns-2 c =
     let h = c .before .before .before .before .before .loop .inv in
-    ((h .1, h .2), (h .0, (λ l m e. c .if2 .taken e)))
+    ((h .1, h .2), (h .0, (λ l m e. absurd (omega (arith, e, c .if2 .taken)))))
 
 loop-again : tie.Need-loop-again Inv-loop μ-loop
 loop-again c =

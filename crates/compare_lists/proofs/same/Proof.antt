@@ -19,7 +19,7 @@ unequal a b i differ e = differ (ap (λ (l : List ℕ). getD l i 0) e)
 
 -- the lengths differ
 returns : tie.Need-returns
-returns c = ((λ e. never e), (λ e. absurd (c .if1 .taken (ap (λ (l : List ℕ). length l) e))))
+returns c = ((λ e. never e), (λ e. absurd (omega (arith, ap (λ (l : List ℕ). length l) e, c .if1 .taken))))
 
 -- the numbers at one place differ
 returns-2 : tie.Need-returns-2
