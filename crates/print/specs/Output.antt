@@ -2,13 +2,12 @@
 --     puts s w                        the bytes s are put behind what waits
 --     Digits base least front n w w′  the fewest digits of n, at least `least`, are put behind `front`
 use mathlib.Core.Bool.{cond}
-use Prim.Native.Nat.{ℕ, _+_, _/_, _%_, _≤_}
+use Prim.Native.Nat.{ℕ, _+_}
 use mathlib.Core.Path.{_≡_}
 use mathlib.Core.List.{List, [], _∷_, _++_}
 use lib.Dec.{ltb}
-use lib.IntN.{ℤ, pos, negsuc}
 use lib.ListN.{set}
-use Rattle.io.specs.Digits.{glyph, digits, Fewest}
+use Rattle.io.specs.Digits.{digits, Fewest}
 
 -- the buffer, and how many of its bytes wait
 pub record Waiting : Type 0 where
@@ -30,16 +29,3 @@ pub record Digits (base least : ℕ) (front : List ℕ) (n : ℕ) (w w′ : Wait
   pub places : ℕ
   pub fewest : Fewest base least n places
   pub written : w′ ≡ puts (front ++ digits base places n) w
-
--- `-`, 45, before a number below 0
-abbrev pub sign : ℤ → List ℕ
-sign (pos n) = []
-sign (negsuc n) = 45 ∷ []
-
--- two hexadecimal digits for each byte
-abbrev pub putByte : ℕ → Waiting → Waiting
-putByte b w = putOf (glyph (b % 16)) (putOf (glyph (b / 16)) w)
-
-unfoldable pub hexOf : List ℕ → List ℕ
-hexOf [] = []
-hexOf (b ∷ s) = glyph (b / 16) ∷ glyph (b % 16) ∷ hexOf s

@@ -1,16 +1,15 @@
--- Laws of `spelling`, one digit more, and the end; and of `signedOf`, by its first byte. Assumes nothing.
+-- Laws of `spelling`, one digit more, and the end. Assumes nothing.
 use mathlib.Core.Path.{_≡_, refl}
 use mathlib.Core.List.{List, [], _∷_}
 use Prim.Native.Nat.{ℕ, zero, suc, _+_, _-_, _*_, _/_, _<_, _≤_}
 use native.Mathlib.Numerals.{add-one}
 use native.Mathlib.Nat.{div-lt-iff-lt-mul, le-div-iff-mul-le}
 use native.Mathlib.Omega.{arith}
-use borrow.Author.Tests.{lt-ltb, le-ltb, le-leb, lt-leb, eq-eqb, ne-eqb}
-use lib.ListN.{length, getD, take, drop, length-drop, drop-of-length-le}
-use lib.Seq.{drop-cons, take-all}
+use borrow.Author.Tests.{lt-ltb, le-ltb, le-leb, lt-leb}
+use lib.ListN.{length, getD, drop, drop-of-length-le}
+use lib.Seq.{drop-cons}
 use Rattle.text.specs.declared.number.Number.the-variants.{Value, None}
-use Rattle.text.specs.declared.number.Integer.the-variants as integer
-use Rattle.text.specs.Inner.Numbers.{digitOf, spelling, spelt, positive, negative, signedOf}
+use Rattle.text.specs.Inner.Numbers.{digitOf, spelling, spelt}
 
 -- the test of the code, without a product
 pub above : (base most d n : ℕ) → 0 < base → d ≤ most → (most - d) / base < n → most < n * base + d
@@ -46,18 +45,3 @@ pub spelt-all : (base most : ℕ) (s : List ℕ) → (length s ≡ 0 → ⊥) �
 unfolding spelt
 spelt-all base most [] h = absurd (h refl)
 spelt-all base most (b ∷ s) h = refl
-
--- the first byte is `-`, or it is not
-module _ (most : ℕ) (s : List ℕ) where
-  pub signed-below : getD s 0 0 ≡ 45 → negative (spelt 10 (most + 1) (take (length s - 1) (drop 1 s))) ≡ signedOf most s
-  unfolding signedOf
-  signed-below e = rw (take-all (length s - 1) (drop 1 s) (simp length-drop (omega arith)), eq-eqb _ _ e)
-
-  pub signed-above : (getD s 0 0 ≡ 45 → ⊥) → positive (spelt 10 most s) ≡ signedOf most s
-  unfolding signedOf
-  signed-above e = rw (ne-eqb _ _ e)
-
-pub signed-empty : (most : ℕ) (s : List ℕ) → length s ≡ 0 → integer.None ≡ signedOf most s
-unfolding signedOf spelt
-signed-empty most [] h = refl
-signed-empty most (b ∷ s) h = absurd (omega arith)

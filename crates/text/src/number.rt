@@ -1,16 +1,10 @@
 // Numbers as a request spells them.
 ghost use mathlib.Core.Path.{_≡_};
-ghost use Prim.Native.Nat.{_≤_, _<_, _^_};
-ghost use lib.IntN.{pos, negℤ};
-ghost use Rattle.text.specs.Inner.Numbers.{digitOf, spelt, signedOf, Most, MostSigned};
+ghost use Prim.Native.Nat.{_≤_, _<_};
+ghost use Rattle.text.specs.Inner.Numbers.{digitOf, spelt, Most};
 
 pub enum Number {
     Value(u64),
-    None,
-}
-
-pub enum Integer {
-    Value(i64),
     None,
 }
 
@@ -56,36 +50,4 @@ pub fn unsigned(s: &[u8], base: u64, most: u64) -> Number
         i += 1;
     }
     Number::Value(value)
-}
-
-// The number that s spells in base 10, from -most - 1 to most.
-pub fn signed(s: &[u8], most: u64) -> Integer
-    requires { ⌜ (10 ≤ most) × (most < 2 ^ 63) ⌝ }
-    ensures { λ r. ⌜ MostSigned most r ⌝ }
-    ensures { λ r. ⌜ r ≡ signedOf most (now (s .entry)) ⌝ }
-{
-    if s.len() == 0 {
-        return Integer::None;
-    }
-    if s[0] == b'-' {
-        let Number::Value(n) = unsigned(&s[1..], 10, most + 1) else {
-            return Integer::None;
-        };
-        return Integer::Value(negated(n));
-    }
-    let Number::Value(n) = unsigned(s, 10, most) else {
-        return Integer::None;
-    };
-    Integer::Value(n as i64)
-}
-
-// -n, which may be -2^63.
-fn negated(n: u64) -> i64
-    requires { ⌜ n ≤ 2 ^ 63 ⌝ }
-    ensures { λ r. ⌜ r ≡ negℤ (pos n) ⌝ }
-{
-    if n == 0 {
-        return 0;
-    }
-    -1 - (n - 1) as i64
 }

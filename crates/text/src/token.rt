@@ -1,10 +1,9 @@
 // The words of a line, one space between two of them.
 ghost use mathlib.Core.Path.{_≡_};
-ghost use Prim.Native.Nat.{_≤_, _<_, _^_};
+ghost use Prim.Native.Nat.{_≤_};
 ghost use lib.ListN.{length};
-ghost use Rattle.text.specs.Inner.Tokens.{starts, wordAt, numberAt, integerAt, Inside, MostAt, MostSignedAt};
+ghost use Rattle.text.specs.Inner.Tokens.{starts, wordAt, numberAt, Inside, MostAt};
 use crate::number;
-use crate::number::Integer;
 use crate::number::Number;
 
 // Where a word of a line begins and ends, or none: the line has ended before it. The next word
@@ -17,11 +16,6 @@ pub enum Token {
 // A number and the place where the next word begins.
 pub enum NumberAt {
     Value(u64, usize),
-    None,
-}
-
-pub enum IntegerAt {
-    Value(i64, usize),
     None,
 }
 
@@ -73,19 +67,4 @@ pub fn unsigned(line: &[u8], at: usize, most: u64) -> NumberAt
         return NumberAt::None;
     };
     NumberAt::Value(n, to + 1)
-}
-
-// The same with a sign, from -most - 1 to most.
-pub fn signed(line: &[u8], at: usize, most: u64) -> IntegerAt
-    requires { ⌜ (10 ≤ most) × (most < 2 ^ 63) ⌝ }
-    ensures { λ r. ⌜ MostSignedAt most r ⌝ }
-    ensures { λ r. ⌜ r ≡ integerAt most (now (line .entry)) at ⌝ }
-{
-    let Token::Word(from, to) = next(line, at) else {
-        return IntegerAt::None;
-    };
-    let Integer::Value(n) = number::signed(&line[from..to], most) else {
-        return IntegerAt::None;
-    };
-    IntegerAt::Value(n, to + 1)
 }

@@ -1,153 +1,233 @@
-// Answers the requests on standard input, a line each, on standard output.
+// Asks the exported calls what the lines on standard input ask, and compares the answers with those that the lines give (docs/PROTOCOL.md). A line of output for each difference, and last how
+// many agree and how many differ.
 ghost use Prim.Native.Nat.{_<_};
 ghost use lib.ListN.{length};
 ghost use Rattle.text.specs.Inner.Lines.{Within};
-use answers::Rows;
-use answers::reply;
-use answers::reply::Asked;
-use chunk_text::copies::Copies;
-use entry_text::Name;
-use print::Out;
-use text::line;
+
+mod calls;
+mod entries;
+mod lent;
+mod records;
+mod report;
+mod words;
+
+use compare_lists::Tally;
+use compare_lists::agrees;
+use compare_lists::counted;
+use compare_lists::differed;
+use text::hex;
+use text::hex::Length;
+use text::line as input;
 use text::line::Found;
 use text::line::LONGEST;
 use text::line::Lines;
 use text::line::Step;
+use text::list::Numbers;
+use text::spelt;
 use text::token;
-use words::answer;
 
-// Room for the bytes of a chunk: a request has two digits for each.
-type Space = [u8; 524288];
+type Chunk = [u8; 65536];
 
-// The answer to one line. An empty line and a comment have none.
-fn answer_line(
-    line: &[u8],
-    out: &mut Out,
-    used: usize,
-    space: &mut Space,
-    rows: &mut Rows,
-    name: &mut Name,
-    copies: &mut Copies,
-) -> usize
-    requires { ⌜ used < 65536 ⌝ }
-    ensures { λ r. ⌜ r < 65536 ⌝ }
-{
-    if line.len() == 0 {
-        return used;
-    }
-    if line[0] == b'#' {
-        return used;
-    }
-    if line.len() > LONGEST {
-        return print::bad_request(out, used);
-    }
-    if token::begins(line, b"word ") {
-        return answer::word(line, 5, out, used);
-    }
-    if token::begins(line, b"enc ") {
-        return answer::enc(line, 4, out, used);
-    }
-    if line.len() > 6 {
-        if token::begins(line, b"lines ") {
-            return reply::lines(&line[6..], out, used, space);
-        }
-    }
-    if line.len() > 8 {
-        if token::begins(line, b"verdict ") {
-            return reply::chunk(
-                &line[8..],
-                out,
-                used,
-                space,
-                rows,
-                name,
-                copies,
-                Asked::Verdict,
-            );
-        }
-    }
-    reply::chunk(line, out, used, space, rows, name, copies, Asked::All)
+// The length of the chunk that is asked about; how many lines were read; how many answers agreed and how many differed.
+struct State {
+    len: usize,
+    lines: u64,
+    tally: Tally,
 }
 
-// The answer to what a step along the input found.
+fn bad(s: State) -> State {
+    report::no_request(s.lines);
+    let tally = differed(s.tally);
+    State {
+        len: s.len,
+        lines: s.lines,
+        tally,
+    }
+}
+
+// Holds an answer of n numbers against those that are wanted, and counts it.
+fn judged(want: &[u64], from: usize, to: usize, got: &[u64], n: usize, s: State) -> State {
+    if !agrees(want, from, to, got, n) {
+        report::difference(s.lines, want, from, to, got, n);
+    }
+    let tally = counted(s.tally, want, from, to, got, n);
+    State {
+        len: s.len,
+        lines: s.lines,
+        tally,
+    }
+}
+
+// `chunk HEX`
+fn chunk_line(line: &[u8], chunk: &mut Chunk, s: State) -> State {
+    if line.len() < 6 {
+        return bad(s);
+    }
+    let read = hex::read(&line[6..], chunk);
+    let tally = s.tally;
+    match read {
+        Length::None => bad(s),
+        Length::Value(len) => State {
+            len,
+            lines: s.lines,
+            tally,
+        },
+    }
+}
+
+// `limits L1 .. L9`
+fn limits_line(line: &[u8], limits: &mut [u64; 9], want: &mut Numbers, s: State) -> State {
+    let spelt = spelt::numbers(line, 7, want);
+    if spelt.to != 9 {
+        return bad(s);
+    }
+    *limits = [
+        want[0],
+        want[1],
+        want[2],
+        want[3],
+        want[4],
+        want[5],
+        want[6],
+        want[7],
+        want[8],
+    ];
+    s
+}
+
+// `LETTER ARGUMENTS = NUMBERS`
+fn call_line(
+    line: &[u8],
+    kind: u8,
+    chunk: &[u8],
+    limits: &[u64; 9],
+    want: &mut Numbers,
+    got: &mut Numbers,
+    s: State,
+) -> State {
+    let spelt = spelt::numbers(line, 1, want);
+    let len = s.len;
+    if chunk.len() < len {
+        return bad(s);
+    }
+    let n = calls::ask(kind, &chunk[..len], limits, want, got);
+    judged(want, spelt.from, spelt.to, got, n, s)
+}
+
+// What a line asks. An empty line and a comment ask nothing.
+fn respond_line(
+    line: &[u8],
+    chunk: &mut Chunk,
+    limits: &mut [u64; 9],
+    want: &mut Numbers,
+    got: &mut Numbers,
+    s: State,
+) -> State {
+    if line.len() == 0 {
+        return s;
+    }
+    let kind = line[0];
+    if kind == b'#' {
+        return s;
+    }
+    if line.len() > LONGEST {
+        return bad(s);
+    }
+    if token::begins(line, b"chunk ") {
+        return chunk_line(line, chunk, s);
+    }
+    if token::begins(line, b"limits ") {
+        return limits_line(line, limits, want, s);
+    }
+    call_line(line, kind, chunk, limits, want, got, s)
+}
+
+fn next_line(s: State) -> State {
+    let tally = s.tally;
+    let mut lines = s.lines;
+    if lines < u64::MAX {
+        lines += 1;
+    }
+    State {
+        len: s.len,
+        lines,
+        tally,
+    }
+}
+
 fn respond(
     buf: &[u8],
     step: Step,
-    out: &mut Out,
-    used: usize,
-    space: &mut Space,
-    rows: &mut Rows,
-    name: &mut Name,
-    copies: &mut Copies,
-) -> usize
+    chunk: &mut Chunk,
+    limits: &mut [u64; 9],
+    want: &mut Numbers,
+    got: &mut Numbers,
+    s: State,
+) -> State
     requires { ⌜ Within step (length (now buf)) ⌝ }
-    requires { ⌜ used < 65536 ⌝ }
-    ensures { λ r. ⌜ r < 65536 ⌝ }
 {
     let found = step.found;
     let from = step.from;
     let to = step.to;
     match found {
-        Found::Line => answer_line(&buf[from..to], out, used, space, rows, name, copies),
-        Found::Nothing => used,
-        Found::End => used,
+        Found::Line => {
+            let s = next_line(s);
+            respond_line(&buf[from..to], chunk, limits, want, got, s)
+        }
+        Found::Nothing => s,
+        Found::End => s,
     }
 }
 
-// Answers every line, and says how much of the last answers still waits in the buffer. Nothing
-// says that the input ends, so the loop counts its turns down from a number that no run uses up.
-fn answer_all(
+// Answers every line. Nothing says that the input ends, so the loop counts its turns down from a number that no run uses up.
+fn respond_all(
     buf: &mut [u8],
-    out: &mut Out,
-    space: &mut Space,
-    rows: &mut Rows,
-    name: &mut Name,
-    copies: &mut Copies,
-) -> usize
-    ensures { λ r. ⌜ r < 65536 ⌝ }
-{
+    chunk: &mut Chunk,
+    limits: &mut [u64; 9],
+    want: &mut Numbers,
+    got: &mut Numbers,
+) -> State {
+    let mut s = State {
+        len: 0,
+        lines: 0,
+        tally: Tally {
+            agree: 0,
+            differ: 0,
+        },
+    };
     let mut lines = Lines::new();
-    let mut used = 0;
     let mut turns = u64::MAX;
     while turns > 0 {
-        let step = line::next(buf, lines);
+        let step = input::next(buf, lines);
         let found = step.found;
         if let Found::End = found {
-            return used;
+            return s;
         }
-        used = respond(buf, step, out, used, space, rows, name, copies);
+        s = respond(buf, step, chunk, limits, want, got, s);
         lines = step.rest;
         turns -= 1;
     }
-    used
+    s
 }
 
 fn run(
     buf: &mut [u8],
-    out: &mut Out,
-    space: &mut Space,
-    rows: &mut Rows,
-    name: &mut Name,
-    copies: &mut Copies,
+    chunk: &mut Chunk,
+    limits: &mut [u64; 9],
+    want: &mut Numbers,
+    got: &mut Numbers,
 ) {
-    let used = answer_all(buf, out, space, rows, name, copies);
-    print::flush(out, used);
+    let s = respond_all(buf, chunk, limits, want, got);
+    let tally = s.tally;
+    report::totals(tally);
 }
 
-// The buffer of the input has room for two of the longest requests (line.rt says why).
+// The buffer of the input has room for two of the longest requests (line.rt of crate text says why).
 fn main() {
     let mut buf = [0u8; 2097152];
-    let mut out = [0u8; 65536];
-    let mut space = [0u8; 524288];
-    let mut rows = [0u32; 449400];
-    let mut name = [0u8; 524288];
-    let mut copies = [0u8; 1400000];
-    run(
-        &mut buf,
-        &mut out,
-        &mut space,
-        &mut rows,
-        &mut name,
-        &mut copies,
-    );
+    let mut chunk = [0u8; 65536];
+    let mut limits = [0u64; 9];
+    let mut want = [0u64; 65536];
+    let mut got = [0u64; 65536];
+    run(&mut buf, &mut chunk, &mut limits, &mut want, &mut got);
 }

@@ -1,17 +1,11 @@
 -- Numbers as a request spells them.
 --     spelt base most s     the number that s spells in base, where it is at most `most`
---     signedOf most s       the same in base 10 with a sign, from -most - 1 to most
 use mathlib.Core.Bool.{cond}
 use Prim.Native.Nat.{ℕ, _+_, _-_, _*_, _≤_}
 use mathlib.Core.List.{List, [], _∷_}
-use lib.Dec.{leb, ltb, eqb}
-use lib.ListN.{getD, drop}
-use lib.IntN.{ℤ, pos, negℤ}
-use lib.Signed.{mag}
+use lib.Dec.{leb, ltb}
 use Rattle.text.specs.declared.number.Number.{Number}
 use Rattle.text.specs.declared.number.Number.the-variants.{Value, None}
-use Rattle.text.specs.declared.number.Integer.{Integer}
-use Rattle.text.specs.declared.number.Integer.the-variants as integer
 
 -- a byte as a digit: `0` to `9`, then `a` to `f`, and 255 for any other
 abbrev pub digitOf : ℕ → ℕ
@@ -28,23 +22,7 @@ unfoldable pub spelt : ℕ → ℕ → List ℕ → Number
 spelt base most [] = None
 spelt base most (b ∷ s) = spelling base most 0 (b ∷ s)
 
-abbrev pub positive : Number → Integer
-positive (Value n) = integer.Value (pos n)
-positive None = integer.None
-
-abbrev pub negative : Number → Integer
-negative (Value n) = integer.Value (negℤ (pos n))
-negative None = integer.None
-
--- 45 is `-`
-unfoldable pub signedOf : ℕ → List ℕ → Integer
-signedOf most s = cond (eqb (getD s 0 0) 45) (negative (spelt 10 (most + 1) (drop 1 s))) (positive (spelt 10 most s))
-
--- a number is at most m; an integer is from -m - 1 to m
+-- a number is at most m
 abbrev pub Most : ℕ → Number → Type 0
 Most m (Value n) = n ≤ m
 Most m None = Unit {0}
-
-abbrev pub MostSigned : ℕ → Integer → Type 0
-MostSigned m (integer.Value z) = mag z ≤ m
-MostSigned m integer.None = Unit {0}

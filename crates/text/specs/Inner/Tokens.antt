@@ -1,24 +1,19 @@
 -- The words of a line.
 --     starts line word      whether the line begins with these bytes
 --     wordAt line at        the word that begins at a place
---     numberAt most line at the number there, at most `most`; integerAt, the same with a sign
+--     numberAt most line at the number there, at most `most`
 use Prim.Native.Nat.{ℕ, suc, _+_, _-_, _≤_}
 use mathlib.Core.Bool.{Bool, true, false, _&&_, cond}
 use mathlib.Core.List.{List, [], _∷_}
 use lib.Dec.{leb, eqb}
 use lib.ListN.{length, take, drop}
-use lib.Signed.{mag}
 use Rattle.text.specs.declared.number.Number.{Number}
 use Rattle.text.specs.declared.number.Number.the-variants as numbers
-use Rattle.text.specs.declared.number.Integer.{Integer}
-use Rattle.text.specs.declared.number.Integer.the-variants as integers
 use Rattle.text.specs.declared.token.Token.{Token}
 use Rattle.text.specs.declared.token.Token.the-variants.{Word, None}
 use Rattle.text.specs.declared.token.NumberAt.{NumberAt}
 use Rattle.text.specs.declared.token.NumberAt.the-variants as number
-use Rattle.text.specs.declared.token.IntegerAt.{IntegerAt}
-use Rattle.text.specs.declared.token.IntegerAt.the-variants as integer
-use Rattle.text.specs.Inner.Numbers.{spelt, signedOf}
+use Rattle.text.specs.Inner.Numbers.{spelt}
 
 unfoldable pub starts : List ℕ → List ℕ → Bool
 starts s [] = true
@@ -38,34 +33,19 @@ abbrev pub numberThen : Number → ℕ → NumberAt
 numberThen (numbers.Value n) next = number.Value n next
 numberThen numbers.None next = number.None
 
-abbrev pub integerThen : Integer → ℕ → IntegerAt
-integerThen (integers.Value z) next = integer.Value z next
-integerThen integers.None next = integer.None
-
 abbrev pub numberIn : ℕ → List ℕ → Token → NumberAt
 numberIn most line (Word from to) = numberThen (spelt 10 most (take (to - from) (drop from line))) (to + 1)
 numberIn most line None = number.None
 
-abbrev pub integerIn : ℕ → List ℕ → Token → IntegerAt
-integerIn most line (Word from to) = integerThen (signedOf most (take (to - from) (drop from line))) (to + 1)
-integerIn most line None = integer.None
-
 abbrev pub numberAt : ℕ → List ℕ → ℕ → NumberAt
 numberAt most line at = numberIn most line (wordAt line at)
-
-abbrev pub integerAt : ℕ → List ℕ → ℕ → IntegerAt
-integerAt most line at = integerIn most line (wordAt line at)
 
 -- a word lies inside a line of n bytes
 abbrev pub Inside : ℕ → Token → Type 0
 Inside n (Word from to) = (from ≤ to) × (to ≤ n)
 Inside n None = Unit {0}
 
--- a number is at most m; an integer is from -m - 1 to m
+-- a number is at most m
 abbrev pub MostAt : ℕ → NumberAt → Type 0
 MostAt m (number.Value n next) = n ≤ m
 MostAt m number.None = Unit {0}
-
-abbrev pub MostSignedAt : ℕ → IntegerAt → Type 0
-MostSignedAt m (integer.Value z next) = mag z ≤ m
-MostSignedAt m integer.None = Unit {0}

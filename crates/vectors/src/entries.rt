@@ -1,0 +1,144 @@
+// The entries of a function's lists, from the first up to the refusal behind the last.
+use crate::calls::one;
+use crate::calls::string;
+use crate::calls::three;
+use crate::calls::two;
+use lafzimdo::entry::lafzimdo_anchor;
+use lafzimdo::entry::lafzimdo_constant;
+use lafzimdo::entry::lafzimdo_delta;
+use lafzimdo::entry::lafzimdo_instruction;
+use lafzimdo::entry::lafzimdo_upvalue;
+use lafzimdo::entry::lafzimdo_upvalue_name;
+use text::list;
+use text::list::Numbers;
+use text::spelt::BAD;
+
+fn instruction(
+    chunk: &[u8],
+    limits: &[u64; 9],
+    f: usize,
+    e: usize,
+    got: &mut Numbers,
+    at: usize,
+) -> usize {
+    let mut out = [0u64; 1];
+    let status = lafzimdo_instruction(chunk, limits, f, e, &mut out);
+    one(got, at, status, out[0])
+}
+
+fn constant(
+    chunk: &[u8],
+    limits: &[u64; 9],
+    f: usize,
+    e: usize,
+    got: &mut Numbers,
+    at: usize,
+) -> usize {
+    let mut out = [0u64; 3];
+    let status = lafzimdo_constant(chunk, limits, f, e, &mut out);
+    let at = one(got, at, status, out[0]);
+    if status != 0 {
+        return at;
+    }
+    if out[0] % 16 == 4 {
+        return string(got, at, chunk, out[1], out[2]);
+    }
+    list::push(got, at, out[1])
+}
+
+fn upvalue(
+    chunk: &[u8],
+    limits: &[u64; 9],
+    f: usize,
+    e: usize,
+    got: &mut Numbers,
+    at: usize,
+) -> usize {
+    let mut out = [0u64; 3];
+    let status = lafzimdo_upvalue(chunk, limits, f, e, &mut out);
+    three(got, at, status, out[0], out[1], out[2])
+}
+
+fn delta(
+    chunk: &[u8],
+    limits: &[u64; 9],
+    f: usize,
+    e: usize,
+    got: &mut Numbers,
+    at: usize,
+) -> usize {
+    let mut out = [0u64; 1];
+    let status = lafzimdo_delta(chunk, limits, f, e, &mut out);
+    one(got, at, status, out[0])
+}
+
+fn anchor(
+    chunk: &[u8],
+    limits: &[u64; 9],
+    f: usize,
+    e: usize,
+    got: &mut Numbers,
+    at: usize,
+) -> usize {
+    let mut out = [0u64; 2];
+    let status = lafzimdo_anchor(chunk, limits, f, e, &mut out);
+    two(got, at, status, out[0], out[1])
+}
+
+fn name(
+    chunk: &[u8],
+    limits: &[u64; 9],
+    f: usize,
+    e: usize,
+    got: &mut Numbers,
+    at: usize,
+) -> usize {
+    let mut out = [0u64; 3];
+    let status = lafzimdo_upvalue_name(chunk, limits, f, e, &mut out);
+    let at = one(got, at, status, out[0]);
+    if status != 0 {
+        return at;
+    }
+    string(got, at, chunk, out[1], out[2])
+}
+
+// One entry of the list that a letter means.
+fn entry(
+    kind: u8,
+    chunk: &[u8],
+    limits: &[u64; 9],
+    f: usize,
+    e: usize,
+    got: &mut Numbers,
+    at: usize,
+) -> usize {
+    match kind {
+        b'i' => instruction(chunk, limits, f, e, got, at),
+        b'k' => constant(chunk, limits, f, e, got, at),
+        b'u' => upvalue(chunk, limits, f, e, got, at),
+        b'd' => delta(chunk, limits, f, e, got, at),
+        b'a' => anchor(chunk, limits, f, e, got, at),
+        b'n' => name(chunk, limits, f, e, got, at),
+        _ => BAD,
+    }
+}
+
+pub fn entries(kind: u8, chunk: &[u8], limits: &[u64; 9], f: usize, got: &mut Numbers) -> usize {
+    let mut at = 0;
+    let mut e = 0;
+    while e < list::ROOM {
+        let start = at;
+        at = entry(kind, chunk, limits, f, e, got, start);
+        if at >= list::ROOM {
+            return at;
+        }
+        if start >= list::ROOM {
+            return at;
+        }
+        if got[start] != 0 {
+            return at;
+        }
+        e += 1;
+    }
+    at
+}

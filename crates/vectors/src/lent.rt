@@ -1,0 +1,151 @@
+// The calls that write into lent memory. What is lent is the front of 65,536 places, each 165 before the call; behind the answer stand some of the places, and how many were written.
+use crate::calls::one;
+use crate::calls::three;
+use crate::calls::two;
+use lafzimdo::finding::lafzimdo_findings;
+use lafzimdo::space::lafzimdo_copy;
+use lafzimdo::space::lafzimdo_index;
+use lafzimdo::space::lafzimdo_local;
+use text::list;
+use text::list::Numbers;
+
+pub fn copy(
+    chunk: &[u8],
+    limits: &[u64; 9],
+    lent: usize,
+    from: usize,
+    count: usize,
+    got: &mut Numbers,
+) -> usize {
+    let mut memory = [165u8; 65536];
+    let at = copy_in(chunk, limits, &mut memory, lent, got);
+    let at = list::bytes(got, at, &memory, from, count);
+    list::push(got, at, list::written_bytes(&memory, lent))
+}
+
+fn copy_in(
+    chunk: &[u8],
+    limits: &[u64; 9],
+    memory: &mut [u8],
+    lent: usize,
+    got: &mut Numbers,
+) -> usize {
+    if memory.len() < lent {
+        return list::ROOM;
+    }
+    let mut out = [0u64; 1];
+    let status = lafzimdo_copy(chunk, limits, &mut memory[..lent], &mut out);
+    one(got, 0, status, out[0])
+}
+
+pub fn index(
+    chunk: &[u8],
+    limits: &[u64; 9],
+    lent: usize,
+    from: usize,
+    count: usize,
+    got: &mut Numbers,
+) -> usize {
+    let mut memory = [165u32; 65536];
+    let at = index_in(chunk, limits, &mut memory, lent, got);
+    let at = list::words(got, at, &memory, from, count);
+    list::push(got, at, list::written_words(&memory, lent))
+}
+
+fn index_in(
+    chunk: &[u8],
+    limits: &[u64; 9],
+    memory: &mut [u32],
+    lent: usize,
+    got: &mut Numbers,
+) -> usize {
+    if memory.len() < lent {
+        return list::ROOM;
+    }
+    let mut out = [0u64; 1];
+    let status = lafzimdo_index(chunk, limits, &mut memory[..lent], &mut out);
+    one(got, 0, status, out[0])
+}
+
+pub fn findings(
+    chunk: &[u8],
+    limits: &[u64; 9],
+    lent: usize,
+    from: usize,
+    count: usize,
+    got: &mut Numbers,
+) -> usize {
+    let mut memory = [165u64; 65536];
+    let at = findings_in(chunk, limits, &mut memory, lent, got);
+    let at = list::longs(got, at, &memory, from, count);
+    list::push(got, at, list::written_longs(&memory, lent))
+}
+
+fn findings_in(
+    chunk: &[u8],
+    limits: &[u64; 9],
+    memory: &mut [u64],
+    lent: usize,
+    got: &mut Numbers,
+) -> usize {
+    if memory.len() < lent {
+        return list::ROOM;
+    }
+    let mut out = [0u64; 2];
+    let status = lafzimdo_findings(chunk, limits, &mut memory[..lent], &mut out);
+    two(got, 0, status, out[0], out[1])
+}
+
+fn local(
+    chunk: &[u8],
+    limits: &[u64; 9],
+    f: usize,
+    e: usize,
+    lent: usize,
+    got: &mut Numbers,
+    at: usize,
+) -> usize {
+    let mut memory = [165u8; 65536];
+    let at = local_in(chunk, limits, f, e, &mut memory, lent, got, at);
+    list::push(got, at, list::written_bytes(&memory, lent))
+}
+
+fn local_in(
+    chunk: &[u8],
+    limits: &[u64; 9],
+    f: usize,
+    e: usize,
+    memory: &mut [u8],
+    lent: usize,
+    got: &mut Numbers,
+    at: usize,
+) -> usize {
+    if memory.len() < lent {
+        return list::ROOM;
+    }
+    let mut out = [0u64; 3];
+    let status = lafzimdo_local(chunk, limits, f, e, &mut memory[..lent], &mut out);
+    let at = three(got, at, status, out[0], out[1], out[2]);
+    list::bytes(got, at, memory, 0, out[0] as usize)
+}
+
+// The local variables of a function, from the first up to a refusal that is not for want of memory.
+pub fn locals(chunk: &[u8], limits: &[u64; 9], f: usize, lent: usize, got: &mut Numbers) -> usize {
+    let mut at = 0;
+    let mut e = 0;
+    while e < list::ROOM {
+        let start = at;
+        at = local(chunk, limits, f, e, lent, got, start);
+        if start >= list::ROOM {
+            return at;
+        }
+        let status = got[start];
+        if status != 0 {
+            if status != 26 {
+                return at;
+            }
+        }
+        e += 1;
+    }
+    at
+}

@@ -1,0 +1,81 @@
+// The findings as records, in the list that `findings::validate_chunk_lua54` fills: no call behind C, but the form that a caller in Rattle has.
+use boundary::limits_of;
+use boundary::refused;
+use boundary::signed::complement_of;
+use finding_array::chunk_findings;
+use finding_plan::FindingsAnswer;
+use numbers::verdict_number;
+use rules::finding::Finding;
+use rules::finding::Rule;
+use rules::finding::Severity;
+use rules::finding::Verdict;
+use text::list;
+use text::list::Numbers;
+use validator::tally::severity;
+
+type Records = [Finding; 10001];
+
+pub fn findings(chunk: &[u8], limits: &[u64; 9], got: &mut Numbers) -> usize {
+    let found = chunk_findings(chunk, limits_of(limits));
+    let answer = found.answer;
+    let records = found.list;
+    match answer {
+        FindingsAnswer::Err(q) => list::push(got, 0, refused(q)),
+        FindingsAnswer::Ok { verdict, count } => {
+            let at = totals(got, verdict, count);
+            all_of(got, at, records, count)
+        }
+    }
+}
+
+fn totals(got: &mut Numbers, verdict: Verdict, count: usize) -> usize {
+    let at = list::push(got, 0, 0);
+    let at = list::push(got, at, verdict_number(verdict));
+    list::push(got, at, count as u64)
+}
+
+fn all_of(got: &mut Numbers, at: usize, records: Records, count: usize) -> usize {
+    let mut at = at;
+    let mut k = 0;
+    while k < 10001 {
+        if count <= k {
+            return at;
+        }
+        at = record(got, at, records[k]);
+        k += 1;
+    }
+    at
+}
+
+fn record(got: &mut Numbers, at: usize, finding: Finding) -> usize {
+    let rule = finding.rule;
+    let at = list::push(got, at, finding.function as u64);
+    let at = list::push(got, at, finding.pc as u64);
+    let at = broken(got, at, rule);
+    list::push(got, at, severity_number(severity(rule)))
+}
+
+// The rule's number, and the number that breaks it.
+fn broken(got: &mut Numbers, at: usize, rule: Rule) -> usize {
+    match rule {
+        Rule::Opcode(x) => pair(got, at, 1, x as u64),
+        Rule::Register(x) => pair(got, at, 2, x as u64),
+        Rule::Constant(x) => pair(got, at, 3, x as u64),
+        Rule::Upvalue(x) => pair(got, at, 4, x as u64),
+        Rule::TableUpvalue(x) => pair(got, at, 5, x as u64),
+        Rule::Prototype(x) => pair(got, at, 6, x as u64),
+        Rule::Jump(x) => pair(got, at, 7, complement_of(x)),
+    }
+}
+
+fn pair(got: &mut Numbers, at: usize, a: u64, b: u64) -> usize {
+    let at = list::push(got, at, a);
+    list::push(got, at, b)
+}
+
+fn severity_number(s: Severity) -> u64 {
+    match s {
+        Severity::Error => 0,
+        Severity::Warning => 1,
+    }
+}

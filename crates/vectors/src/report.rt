@@ -1,0 +1,79 @@
+// What is printed: a line for each difference, and last how many answers agreed.
+ghost use Prim.Native.Nat.{_<_};
+use compare_lists::Tally;
+use compare_lists::first_difference;
+use print::Out;
+use text::list;
+
+// A number of a list behind its label, or that there is none.
+fn number(out: &mut Out, used: usize, label: &[u8], numbers: &[u64], at: usize) -> usize
+    requires { ⌜ used < 65536 ⌝ }
+    ensures { λ r. ⌜ r < 65536 ⌝ }
+{
+    if at < numbers.len() {
+        return print::field(out, used, label, numbers[at]);
+    }
+    let used = print::text(out, used, label);
+    print::text(out, used, b"nothing")
+}
+
+// The first number that differs: its place, and what it is in each list.
+fn first(out: &mut Out, line: u64, want: &[u64], got: &[u64]) {
+    let at = first_difference(want, got);
+    let used = print::field(out, 0, b"line ", line);
+    let used = print::field(out, used, b", number ", at as u64);
+    let used = number(out, used, b": expected ", want, at);
+    let used = number(out, used, b", found ", got, at);
+    let used = print::text(out, used, b"\n");
+    print::flush(out, used);
+}
+
+fn note(out: &mut Out, line: u64, why: &[u8]) {
+    let used = print::field(out, 0, b"line ", line);
+    let used = print::text(out, used, why);
+    print::flush(out, used);
+}
+
+pub fn no_request(line: u64) {
+    let mut out = [0u8; 65536];
+    note(&mut out, line, b" is no request\n");
+}
+
+fn too_long(line: u64) {
+    let mut out = [0u8; 65536];
+    note(&mut out, line, b" is too long\n");
+}
+
+fn reported(line: u64, want: &[u64], got: &[u64]) {
+    let mut out = [0u8; 65536];
+    first(&mut out, line, want, got);
+}
+
+// An answer of n numbers that differs from what is wanted, or cannot be held against it.
+pub fn difference(line: u64, want: &[u64], from: usize, to: usize, got: &[u64], n: usize) {
+    if to < from {
+        return no_request(line);
+    }
+    if list::ROOM < n {
+        return no_request(line);
+    }
+    if want.len() <= to {
+        return too_long(line);
+    }
+    if got.len() <= n {
+        return too_long(line);
+    }
+    reported(line, &want[from..to], &got[..n]);
+}
+
+pub fn totals(t: Tally) {
+    let mut out = [0u8; 65536];
+    sum(&mut out, t);
+}
+
+fn sum(out: &mut Out, t: Tally) {
+    let used = print::decimal(out, 0, t.agree);
+    let used = print::field(out, used, b" agree, ", t.differ);
+    let used = print::text(out, used, b" differ\n");
+    print::flush(out, used);
+}

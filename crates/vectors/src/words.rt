@@ -1,0 +1,47 @@
+// Instruction words.
+use crate::calls::one;
+use lafzimdo::word::lafzimdo_decode;
+use lafzimdo::word::lafzimdo_encode;
+use text::list;
+use text::list::Numbers;
+
+// The low bits of a number.
+fn byte(x: u64) -> u8 {
+    (x % 256) as u8
+}
+
+fn low(x: u64) -> u32 {
+    (x % 4294967296) as u32
+}
+
+fn signed(x: u64) -> i32 {
+    let n = x % 4294967296;
+    if n < 2147483648 {
+        return n as i32;
+    }
+    -1 - (4294967295 - n) as i32
+}
+
+pub fn decode(word: u64, got: &mut Numbers) -> usize {
+    let mut out = [0u64; 12];
+    let status = lafzimdo_decode(low(word), &mut out);
+    let at = list::push(got, 0, status);
+    list::longs(got, at, &out, 0, 12)
+}
+
+pub fn encode(f: &Numbers, got: &mut Numbers) -> usize {
+    let mut out = [0u64; 1];
+    let status = lafzimdo_encode(
+        byte(f[0]),
+        byte(f[1]),
+        byte(f[2]),
+        byte(f[3]),
+        byte(f[4]),
+        low(f[5]),
+        signed(f[6]),
+        low(f[7]),
+        signed(f[8]),
+        &mut out,
+    );
+    one(got, 0, status, out[0])
+}
