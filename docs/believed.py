@@ -4,7 +4,8 @@
     python3 docs/believed.py             lines by demand, and in all
     python3 docs/believed.py files       the same, file by file
     python3 docs/believed.py table       the table of docs/PROOF.md: the files in reading order, with their lines
-    python3 docs/believed.py check       is that table in docs/PROOF.md, and does every theorem stand where PROOF.md says? Exit status 1 if not
+    python3 docs/believed.py check       is that table in docs/PROOF.md, does every theorem stand where PROOF.md says, has crate lua54 every call that
+                                         is promised, and is README's program the one that is proved? Exit status 1 if not
     python3 docs/believed.py unreached   definitions in specs/ that no promise reaches (inner contracts use them)
 
 A promise is a public theorem of the files in PROMISES: its statement counts, not its proof. From the names in a
@@ -222,6 +223,21 @@ def cited(text):
     return bad
 
 
+def facade():
+    """What crate lua54 or README leaves out: a call of Demand2.antt (but for the inner part of a program), the program of crates/lua54_example."""
+    names = open(os.path.join(ROOT, 'crates/lua54/src/lib.rt'), encoding='utf-8').read()
+    text = '\n'.join(FILES[('demands', 'proofs', 'Demand2')].lines)
+    bad = []
+    for m in re.finditer(r'^use Rattle·(\w+)\.proofs\.([\w.]+) as (\S+)-call$', text, re.M):
+        path = m.group(1) + '::' + m.group(2).replace('.', '::')
+        if f': PromiseWhere {m.group(3)}-call' not in text and f'pub use {path};' not in names and f'pub use {path.rpartition("::")[0]};' not in names:
+            bad.append(f'crates/lua54 has no {path}')
+    program = open(os.path.join(ROOT, 'crates/lua54_example/src/main.rt'), encoding='utf-8').read()
+    if program not in open(os.path.join(ROOT, 'README.md'), encoding='utf-8').read():
+        bad.append('README.md does not show crates/lua54_example/src/main.rt as it stands')
+    return bad
+
+
 def main(words):
     every, all_roots = set(), []
     by = {}
@@ -239,8 +255,8 @@ def main(words):
         return
     if word == 'check':
         text = open(os.path.join(ROOT, 'docs/PROOF.md'), encoding='utf-8').read()
-        bad = cited(text) + [c for c in counts + [table(every)] if c not in text]
-        print('\n'.join(bad) if bad else 'docs/PROOF.md is true of the sources')
+        bad = cited(text) + facade() + [c for c in counts + [table(every)] if c not in text]
+        print('\n'.join(bad) if bad else 'docs/PROOF.md is true of the sources; crate lua54 has every call, and README its program')
         sys.exit(1 if bad else 0)
     print('\n'.join(counts))
     if word == 'files':
