@@ -11,7 +11,7 @@ use mathlib.Core.List.{List, [], _∷_, append-nil}
 use mathlib.Core.Option.{Option, none, some}
 use Prim.Native.Nat.{ℕ, _+_}
 use native.Mathlib.Omega.{arith}
-use lib.ListN.{length, drop, getD}
+use lib.ListN.{length, drop, getD, replicate}
 use lib.Seq.{drop-append-seam}
 use Rattle.format.specs.GrammarFields.{LuaString}
 use Rattle.format.specs.declared.limits.ResourceLimits.{ResourceLimits}
@@ -135,9 +135,9 @@ module _ (L : ResourceLimits) (s : Bytes) (l : List ℕ) where
   row-there h c₁ e₁ t c₃ e₃ own e = λ i. rowFrom (getD l 3 0) (getD l 4 0) (e i) start (e₁ i) (e₃ i)
 
 -- none at the end of the file
-pub no-row-left : (L : ResourceLimits) (s : Bytes) (tail instructions depth parent source : ℕ) → rowAt L s (length s ∷ tail ∷ instructions ∷ depth ∷ parent ∷ source ∷ []) ≡ option.None
-no-row-left L s tail instructions depth parent source =
-    ap (λ rest. rowFrom depth parent (optionString (sourceAt (L .«max_string_bytes») s source)) (length s) (headResult (parts.head L instructions (length s) rest)) (tailResult (parts.tail (L .«max_string_bytes») tail (drop tail s)))) (nothing-left s)
+pub no-row-left : (L : ResourceLimits) (s : Bytes) → rowAt L s (replicate 6 (length s)) ≡ option.None
+no-row-left L s =
+    ap (λ rest. rowFrom (length s) (length s) (optionString (sourceAt (L .«max_string_bytes») s (length s))) (length s) (headResult (parts.head L (length s) (length s) rest)) (tailResult (parts.tail (L .«max_string_bytes») (length s) (drop (length s) s)))) (nothing-left s)
 
 inherited : (own parent : Option LuaString) → inheritShown (optionString own) (optionString parent) ≡ optionString (inherit own parent)
 inherited (some t) parent = refl
