@@ -1,4 +1,2 @@
-pub mod Forests
-pub mod Functions
+pub mod Finds
 pub mod Spots
-pub mod Turns

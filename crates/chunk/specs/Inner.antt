@@ -1,2 +1,1 @@
 pub mod Spot
-pub mod Walk

@@ -5,9 +5,10 @@
 --     judged-read          .. or is shown, without a row
 --     decoded-read         .. or with one
 -- Assumes nothing.
-use mathlib.Core.Path.{_≡_, refl, sym, _∙_, ap}
+use mathlib.Core.Path.{_≡_, refl, sym, subst, _∙_, ap}
 use mathlib.Core.Bool.{Bool, true, false, cond}
 use mathlib.Core.List.{List, _++_}
+use mathlib.Core.Option.{Option, none, some}
 use Prim.Native.Nat.{ℕ, _+_, _≤_, _<_}
 use native.Mathlib.Nat.{zero-add}
 use native.Mathlib.Omega.{arith}
@@ -35,12 +36,15 @@ use Rattle.format.proofs.Left.{left}
 use Rattle.cursor.specs.Shown.{cursorAt}
 use Rattle.header.specs.Shown.{firstWarning}
 use Rattle.prototype.specs.Inner.Row.{shownRow, lookup}
-use Rattle.chunk.specs.declared.walk.Walked.{Walked}
-use Rattle.chunk.specs.declared.walk.WalkResult.the-variants as walk
-use Rattle.chunk.specs.Inner.Walk.{walkResult}
+use Rattle.prototype.specs.declared.row.OptionRow.{OptionRow}
+use Rattle.prototype.specs.declared.row.OptionRow.the-variants as row-option
 use Rattle.skim.specs.declared.walk.Skimmed.{Skimmed}
 use Rattle.skim.specs.declared.walk.SkimResult.the-variants as skim
 use Rattle.skim.specs.Inner.Skim.{skimResult}
+use Rattle.skim.proofs.OneFunction.{skim-err}
+use Rattle.chunk.specs.declared.spot.Above.{Above}
+use Rattle.chunk.specs.Inner.Spot.{standing, functionAt, rowOr, Found}
+use Rattle.chunk.proofs.Spots.{main-stands}
 use Rattle.decode.specs.declared.Opening.{Opening}
 use Rattle.decode.specs.declared.OpeningResult.the-variants as begins
 use Rattle.decode.specs.declared.summary.DecodedResult.the-variants as decoded
@@ -220,11 +224,7 @@ module _ (L : ResourceLimits) (s : Bytes) (f : Opening) (e : begins.Ok f ≡ ope
         }
 
   pub judged-refused : (q : Refusal) → skim.Err q ≡ skimResult outermost functions → judged.Err q ≡ judgedResult (read L s)
-  judged-refused q e = by functions refl e
-    where
-      by : (o : Read (List Prototype)) → functions ≡ o → skim.Err q ≡ skimResult outermost o → judged.Err q ≡ judgedResult (read L s)
-      by (ok ps to rest) is e = absurd (let z : _≡_ {A = ℕ} 0 1 = cc in omega arith)
-      by (refused p) is e = let same : q ≡ p = cc in ap judged.Err same ∙ sym (ap judgedResult (functions-refused p is))
+  judged-refused q e = let is = skim-err outermost functions q e in sym (ap judgedResult (functions-refused q is))
 
   pub judged-read : (k : Skimmed) → skim.Ok k ≡ skimResult outermost functions → judged.Ok (summaryShown s (L .«max_diagnostics») f (k .next) (k .number)) ≡ judgedResult (read L s)
   judged-read k e = by functions refl e
@@ -238,21 +238,36 @@ module _ (L : ResourceLimits) (s : Bytes) (f : Opening) (e : begins.Ok f ≡ ope
           ∙ sym (ap judgedResult (shows ps to rest is))
       by (refused p) is e = absurd (let z : _≡_ {A = ℕ} 0 1 = cc in omega arith)
 
-  module _ (wanted : ℕ) where
-    pub decoded-refused : (q : Refusal) → walk.Err q ≡ walkResult wanted outermost functions → decoded.Err q ≡ decodedResult wanted (read L s)
-    decoded-refused q e = by functions refl e
-      where
-        by : (o : Read (List Prototype)) → functions ≡ o → walk.Err q ≡ walkResult wanted outermost o → decoded.Err q ≡ decodedResult wanted (read L s)
-        by (ok ps to rest) is e = absurd (let z : _≡_ {A = ℕ} 0 1 = cc in omega arith)
-        by (refused p) is e = let same : q ≡ p = cc in ap decoded.Err same ∙ sym (ap (decodedResult wanted) (functions-refused p is))
+  -- the walk that finds a function begins with main
+  abbrev no-parent : Above
+  no-parent = record { depth = 0; parent = 0; source = length s }
 
-    pub decoded-read : (k : Walked) → walk.Ok k ≡ walkResult wanted outermost functions → decoded.Ok (record { summary = summaryShown s (L .«max_diagnostics») f (k .next) (k .number); row = k .row }) ≡ decodedResult wanted (read L s)
-    decoded-read k e = by functions refl e
+  abbrev from : Skimmed
+  from = record { next = f .next; number = 0; instructions = 0 }
+
+  abbrev as-main : skimResult (standing L s no-parent from) (functionAt L s (L .«max_nesting_depth») no-parent from) ≡ skimResult outermost functions
+  as-main = ap (λ w. skimResult w (function L (L .«max_nesting_depth») w (f .next .at) (drop (f .next .at) s))) (main-stands L s (f .next))
+
+  module _ (wanted : ℕ) where
+    pub decoded-refused : (q : Refusal) → skim.Err q ≡ skimResult (standing L s no-parent from) (functionAt L s (L .«max_nesting_depth») no-parent from) → decoded.Err q ≡ decodedResult wanted (read L s)
+    decoded-refused q e = let is = skim-err outermost functions q (e ∙ as-main) in sym (ap (decodedResult wanted) (functions-refused q is))
+
+    pub decoded-read : (k : Skimmed) → skim.Ok k ≡ skimResult (standing L s no-parent from) (functionAt L s (L .«max_nesting_depth») no-parent from) → (none-yet row : OptionRow) → none-yet ≡ row-option.None → Found wanted 0 (functionAt L s (L .«max_nesting_depth») no-parent from) none-yet row
+        → decoded.Ok (record { summary = summaryShown s (L .«max_diagnostics») f (k .next) (k .number); row = row }) ≡ decodedResult wanted (read L s)
+    decoded-read k e none-yet row no-row found = by functions refl (e ∙ as-main)
       where
-        by : (o : Read (List Prototype)) → functions ≡ o → walk.Ok k ≡ walkResult wanted outermost o → decoded.Ok (record { summary = summaryShown s (L .«max_diagnostics») f (k .next) (k .number); row = k .row }) ≡ decodedResult wanted (read L s)
+        none-or : (o : Option Prototype) → rowOr o row-option.None ≡ shownRow o
+        none-or none = refl
+        none-or (some p) = refl
+
+        there : (ps : List Prototype) (to : ℕ) (rest : Bytes) → functions ≡ ok ps to rest → row ≡ rowOr (lookup wanted 0 ps) none-yet
+        there = subst (λ w. Found wanted 0 (function L (L .«max_nesting_depth») w (f .next .at) (drop (f .next .at) s)) none-yet row) (main-stands L s (f .next)) found .found
+
+        by : (o : Read (List Prototype)) → functions ≡ o → skim.Ok k ≡ skimResult outermost o → decoded.Ok (record { summary = summaryShown s (L .«max_diagnostics») f (k .next) (k .number); row = row }) ≡ decodedResult wanted (read L s)
         by (ok ps to rest) is e =
-            let all : k ≡ record { next = cursorAt to; number = 0 + length ps; instructions = 0 + instructionsOf ps; row = shownRow (lookup wanted 0 ps) } = cc in
-            ap (λ k. decoded.Ok (record { summary = summaryShown s (L .«max_diagnostics») f (k .next) (k .number); row = k .row })) all
+            let all : k ≡ record { next = cursorAt to; number = 0 + length ps; instructions = 0 + instructionsOf ps } = cc in
+            let its-row : row ≡ shownRow (lookup wanted 0 ps) = there ps to rest is ∙ ap (rowOr (lookup wanted 0 ps)) no-row ∙ none-or (lookup wanted 0 ps) in
+            (λ i. decoded.Ok (record { summary = summaryShown s (L .«max_diagnostics») f (all i .next) (all i .number); row = its-row i }))
             ∙ ap (λ n. decoded.Ok (record { summary = summaryShown s (L .«max_diagnostics») f (cursorAt to) n; row = shownRow (lookup wanted 0 ps) })) (zero-add (length ps))
             ∙ ap (λ t. decoded.Ok (record { summary = t; row = shownRow (lookup wanted 0 ps) })) (sums ps to rest is)
             ∙ sym (ap (decodedResult wanted) (shows ps to rest is))

@@ -12,10 +12,9 @@ ghost use Rattle.decode.specs.Inner.Decoded.{judgedResult, decodedResult
 use crate::Opening;
 use crate::OpeningResult;
 use crate::open_chunk;
-use crate::outermost;
-use chunk::spot::SpotResult;
+use chunk::row::row_at;
+use chunk::spot::Above;
 use chunk::spot::find_function;
-use chunk::spot::row_at;
 use cursor::Cursor;
 use cursor::remaining;
 use format::header::Header;
@@ -161,22 +160,27 @@ pub fn decode_chunk_lua54(s: &[u8], limits: ResourceLimits, wanted: usize) -> De
     match begins {
         OpeningResult::Err(refusal) => DecodedResult::Err(refusal),
         OpeningResult::Ok(opening) => {
-            let place = outermost();
             let first = opening.next;
-            let functions = find_function(
-                s,
-                limits,
-                place,
-                limits.max_nesting_depth,
-                wanted,
-                first,
-            );
+            let from = Skimmed {
+                next: first,
+                number: 0,
+                instructions: 0,
+            };
+            // No function stands at the end of the file: main inherits no source, and no spot was found.
+            let end = s.len();
+            let main = Above {
+                depth: 0,
+                parent: 0,
+                source: end,
+            };
+            let mut spot = [end; 6];
+            let deepest = limits.max_nesting_depth;
+            let functions = find_function(s, limits, deepest, main, wanted, from, &mut spot);
             match functions {
-                SpotResult::Err(refusal) => DecodedResult::Err(refusal),
-                SpotResult::Ok(walked) => {
+                SkimResult::Err(refusal) => DecodedResult::Err(refusal),
+                SkimResult::Ok(walked) => {
                     let next = walked.next;
-                    let spot = walked.spot;
-                    let row = row_at(s, limits, spot);
+                    let row = row_at(s, limits, &spot);
                     let summary = summarised(
                         s,
                         limits.max_diagnostics,
