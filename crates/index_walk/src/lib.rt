@@ -3,8 +3,8 @@ ghost use mathlib.Core.Path.{_≡_};
 ghost use Prim.Native.Nat.{_+_, _≤_};
 ghost use lib.ListN.{drop};
 ghost use Rattle.format.specs.GrammarChunk as grammar;
-ghost use Rattle.format.specs.ReadChunk.{forest, function};
-ghost use Rattle.skim.specs.Inner.Skim.{entered, skimResult};
+ghost use Rattle.format.specs.ReadChunk.{function};
+ghost use Rattle.skim.specs.Inner.Skim.{skimResult};
 ghost use Rattle.index_walk.specs.Inner.Written.{Wrote};
 use format::limits::ResourceLimits;
 use format::refusal::Refusal;
@@ -37,87 +37,53 @@ pub fn write_function(
             counts: head,
             next: behind,
         } => {
-            let first = Skimmed {
+            let mut nested = Skimmed {
                 next: behind,
                 number: from.number + 1,
                 instructions: from.instructions + head.instructions,
             };
-            let inner = write_functions(
-                s,
-                limits,
-                head.protos,
-                left,
-                depth + 1,
-                from.number,
-                first,
-                rows,
-            );
-            match inner {
-                SkimResult::Err(refusal) => SkimResult::Err(refusal),
-                SkimResult::Ok(nested) => {
-                    let ends = pass_tail(s, limits.max_string_bytes, nested.next);
-                    match ends {
-                        TailCountsResult::Err(refusal) => SkimResult::Err(refusal),
-                        TailCountsResult::Ok {
-                            counts: tail,
-                            next: next,
-                        } => {
-                            put_row(
-                                rows,
-                                from.number,
-                                from.next.at,
-                                next.at,
-                                depth,
-                                parent,
-                                head,
-                                tail,
-                            );
-                            SkimResult::Ok(Skimmed {
-                                next: next,
-                                number: nested.number,
-                                instructions: nested.instructions,
-                            })
-                        }
+            let mut more = head.protos;
+            while more > 0 {
+                let at = nested.next.at;
+                if left == 0 {
+                    return SkimResult::Err(Refusal::NestingDepth(at));
+                }
+                if limits.max_total_prototypes < nested.number {
+                    return SkimResult::Err(Refusal::TotalPrototypes(at));
+                }
+                let one = write_function(s, limits, left - 1, depth + 1, from.number, nested, rows);
+                match one {
+                    SkimResult::Err(refusal) => return SkimResult::Err(refusal),
+                    SkimResult::Ok(later) => {
+                        nested = later;
                     }
+                }
+                more -= 1;
+            }
+            let ends = pass_tail(s, limits.max_string_bytes, nested.next);
+            match ends {
+                TailCountsResult::Err(refusal) => SkimResult::Err(refusal),
+                TailCountsResult::Ok {
+                    counts: tail,
+                    next: next,
+                } => {
+                    put_row(
+                        rows,
+                        from.number,
+                        from.next.at,
+                        next.at,
+                        depth,
+                        parent,
+                        head,
+                        tail,
+                    );
+                    SkimResult::Ok(Skimmed {
+                        next: next,
+                        number: nested.number,
+                        instructions: nested.instructions,
+                    })
                 }
             }
         }
     }
-}
-
-// The same of n functions one after the other, each at this depth in this parent, below which functions nest at most `left` deep.
-fn write_functions(
-    s: &[u8],
-    limits: ResourceLimits,
-    n: usize,
-    left: usize,
-    depth: usize,
-    parent: usize,
-    from: Skimmed,
-    rows: &mut [u32],
-) -> SkimResult
-    requires { ⌜ (limits .«max_total_prototypes» ≤ 16777216) × (limits .«max_total_instructions» ≤ 16777216) × (depth + left ≤ 201) ⌝ }
-    ensures { λ r. ⌜ ((w : grammar.Where) → from .number ≡ w .number → from .instructions ≡ w .instructions → r ≡ skimResult w (forest n (entered limits left) w (from .next .at) (drop (from .next .at) (now (s .entry))))) ⌝ }
-    ensures { λ _. ⌜ ((w : grammar.Where) → from .number ≡ w .number → from .instructions ≡ w .instructions → depth ≡ w .depth → parent ≡ w .parent → Wrote w (forest n (entered limits left) w (from .next .at) (drop (from .next .at) (now (s .entry)))) (now (rows .entry)) (now (rows .exit))) ⌝ }
-{
-    let mut nested = from;
-    let mut more = n;
-    while more > 0 {
-        let at = nested.next.at;
-        if left == 0 {
-            return SkimResult::Err(Refusal::NestingDepth(at));
-        }
-        if limits.max_total_prototypes < nested.number {
-            return SkimResult::Err(Refusal::TotalPrototypes(at));
-        }
-        let one = write_function(s, limits, left - 1, depth, parent, nested, rows);
-        match one {
-            SkimResult::Err(refusal) => return SkimResult::Err(refusal),
-            SkimResult::Ok(later) => {
-                nested = later;
-            }
-        }
-        more -= 1;
-    }
-    SkimResult::Ok(nested)
 }
