@@ -5,10 +5,9 @@
 --     judged-read          .. or is shown, without a row
 --     decoded-read         .. or with one
 -- Assumes nothing.
-use mathlib.Core.Path.{_≡_, refl, sym, subst, _∙_, ap}
+use mathlib.Core.Path.{_≡_, refl, sym, _∙_, ap}
 use mathlib.Core.Bool.{Bool, true, false, cond}
 use mathlib.Core.List.{List, _++_}
-use mathlib.Core.Option.{Option, none, some}
 use Prim.Native.Nat.{ℕ, _+_, _≤_, _<_}
 use native.Mathlib.Nat.{zero-add}
 use native.Mathlib.Omega.{arith}
@@ -37,14 +36,12 @@ use Rattle.cursor.specs.Shown.{cursorAt}
 use Rattle.header.specs.Shown.{firstWarning}
 use Rattle.prototype.specs.Inner.Row.{shownRow, lookup}
 use Rattle.prototype.specs.declared.row.OptionRow.{OptionRow}
-use Rattle.prototype.specs.declared.row.OptionRow.the-variants as row-option
 use Rattle.skim.specs.declared.walk.Skimmed.{Skimmed}
 use Rattle.skim.specs.declared.walk.SkimResult.the-variants as skim
-use Rattle.skim.specs.Inner.Skim.{skimResult}
+use Rattle.skim.specs.Inner.Skim.{skimmedOf, skimResult}
 use Rattle.skim.proofs.OneFunction.{skim-err}
-use Rattle.chunk.specs.declared.spot.Above.{Above}
-use Rattle.chunk.specs.Inner.Spot.{standing, functionAt, rowOr, Found}
-use Rattle.chunk.proofs.Spots.{main-stands}
+use Rattle.chunk.specs.declared.find.FindResult.the-variants as find
+use Rattle.chunk.specs.Inner.Find.{findResult}
 use Rattle.decode.specs.declared.Opening.{Opening}
 use Rattle.decode.specs.declared.OpeningResult.the-variants as begins
 use Rattle.decode.specs.declared.summary.DecodedResult.the-variants as decoded
@@ -238,35 +235,21 @@ module _ (L : ResourceLimits) (s : Bytes) (f : Opening) (e : begins.Ok f ≡ ope
           ∙ sym (ap judgedResult (shows ps to rest is))
       by (refused p) is e = absurd (let z : _≡_ {A = ℕ} 0 1 = cc in omega arith)
 
-  -- the walk that finds a function begins with main
-  abbrev no-parent : Above
-  no-parent = record { depth = 0; parent = 0; source = length s }
-
-  abbrev from : Skimmed
-  from = record { next = f .next; number = 0; instructions = 0 }
-
-  abbrev as-main : skimResult (standing L s no-parent from) (functionAt L s (L .«max_nesting_depth») no-parent from) ≡ skimResult outermost functions
-  as-main = ap (λ w. skimResult w (function L (L .«max_nesting_depth») w (f .next .at) (drop (f .next .at) s))) (main-stands L s (f .next))
-
   module _ (wanted : ℕ) where
-    pub decoded-refused : (q : Refusal) → skim.Err q ≡ skimResult (standing L s no-parent from) (functionAt L s (L .«max_nesting_depth») no-parent from) → decoded.Err q ≡ decodedResult wanted (read L s)
-    decoded-refused q e = let is = skim-err outermost functions q (e ∙ as-main) in sym (ap (decodedResult wanted) (functions-refused q is))
-
-    pub decoded-read : (k : Skimmed) → skim.Ok k ≡ skimResult (standing L s no-parent from) (functionAt L s (L .«max_nesting_depth») no-parent from) → (none-yet row : OptionRow) → none-yet ≡ row-option.None → Found wanted 0 (functionAt L s (L .«max_nesting_depth») no-parent from) none-yet row
-        → decoded.Ok (record { summary = summaryShown s (L .«max_diagnostics») f (k .next) (k .number); row = row }) ≡ decodedResult wanted (read L s)
-    decoded-read k e none-yet row no-row found = by functions refl (e ∙ as-main)
+    pub decoded-refused : (q : Refusal) → find.Err q ≡ findResult wanted functions → decoded.Err q ≡ decodedResult wanted (read L s)
+    decoded-refused q e = by functions refl e
       where
-        none-or : (o : Option Prototype) → rowOr o row-option.None ≡ shownRow o
-        none-or none = refl
-        none-or (some p) = refl
+        by : (o : Read (List Prototype)) → functions ≡ o → find.Err q ≡ findResult wanted o → decoded.Err q ≡ decodedResult wanted (read L s)
+        by (ok ps to rest) is e = absurd (let z : _≡_ {A = ℕ} 0 1 = cc in omega arith)
+        by (refused p) is e = let same : q ≡ p = cc in ap decoded.Err same ∙ sym (ap (decodedResult wanted) (functions-refused p is))
 
-        there : (ps : List Prototype) (to : ℕ) (rest : Bytes) → functions ≡ ok ps to rest → row ≡ rowOr (lookup wanted 0 ps) none-yet
-        there = subst (λ w. Found wanted 0 (function L (L .«max_nesting_depth») w (f .next .at) (drop (f .next .at) s)) none-yet row) (main-stands L s (f .next)) found .found
-
-        by : (o : Read (List Prototype)) → functions ≡ o → skim.Ok k ≡ skimResult outermost o → decoded.Ok (record { summary = summaryShown s (L .«max_diagnostics») f (k .next) (k .number); row = row }) ≡ decodedResult wanted (read L s)
+    pub decoded-read : (k : Skimmed) (row : OptionRow) → find.Ok k row ≡ findResult wanted functions → decoded.Ok (record { summary = summaryShown s (L .«max_diagnostics») f (k .next) (k .number); row = row }) ≡ decodedResult wanted (read L s)
+    decoded-read k row e = by functions refl e
+      where
+        by : (o : Read (List Prototype)) → functions ≡ o → find.Ok k row ≡ findResult wanted o → decoded.Ok (record { summary = summaryShown s (L .«max_diagnostics») f (k .next) (k .number); row = row }) ≡ decodedResult wanted (read L s)
         by (ok ps to rest) is e =
-            let all : k ≡ record { next = cursorAt to; number = 0 + length ps; instructions = 0 + instructionsOf ps } = cc in
-            let its-row : row ≡ shownRow (lookup wanted 0 ps) = there ps to rest is ∙ ap (rowOr (lookup wanted 0 ps)) no-row ∙ none-or (lookup wanted 0 ps) in
+            let all : k ≡ skimmedOf outermost ps to = cc in
+            let its-row : row ≡ shownRow (lookup wanted 0 ps) = cc in
             (λ i. decoded.Ok (record { summary = summaryShown s (L .«max_diagnostics») f (all i .next) (all i .number); row = its-row i }))
             ∙ ap (λ n. decoded.Ok (record { summary = summaryShown s (L .«max_diagnostics») f (cursorAt to) n; row = shownRow (lookup wanted 0 ps) })) (zero-add (length ps))
             ∙ ap (λ t. decoded.Ok (record { summary = t; row = shownRow (lookup wanted 0 ps) })) (sums ps to rest is)

@@ -12,9 +12,8 @@ ghost use Rattle.decode.specs.Inner.Decoded.{judgedResult, decodedResult
 use crate::Opening;
 use crate::OpeningResult;
 use crate::open_chunk;
-use chunk::row::row_at;
-use chunk::spot::Above;
-use chunk::spot::find_function;
+use chunk::find::FindResult;
+use chunk::find::find_row;
 use cursor::Cursor;
 use cursor::remaining;
 use format::header::Header;
@@ -161,26 +160,11 @@ pub fn decode_chunk_lua54(s: &[u8], limits: ResourceLimits, wanted: usize) -> De
         OpeningResult::Err(refusal) => DecodedResult::Err(refusal),
         OpeningResult::Ok(opening) => {
             let first = opening.next;
-            let from = Skimmed {
-                next: first,
-                number: 0,
-                instructions: 0,
-            };
-            // No function stands at the end of the file: main inherits no source, and no spot was found.
-            let end = s.len();
-            let main = Above {
-                depth: 0,
-                parent: 0,
-                source: end,
-            };
-            let mut spot = [end; 6];
-            let deepest = limits.max_nesting_depth;
-            let functions = find_function(s, limits, deepest, main, wanted, from, &mut spot);
-            match functions {
-                SkimResult::Err(refusal) => DecodedResult::Err(refusal),
-                SkimResult::Ok(walked) => {
+            let found = find_row(s, limits, wanted, first);
+            match found {
+                FindResult::Err(refusal) => DecodedResult::Err(refusal),
+                FindResult::Ok { walked, row } => {
                     let next = walked.next;
-                    let row = row_at(s, limits, &spot);
                     let summary = summarised(
                         s,
                         limits.max_diagnostics,
