@@ -1,4 +1,3 @@
-pub mod Forests
-pub mod Functions
+pub mod Finds
+pub mod Main
 pub mod Spots
-pub mod Turns

@@ -1,90 +1,164 @@
--- A walk that carries spots against one that carries rows.
---     passed-rows, passed-readable     behind a function that was read
---     both-rows, both-readable         behind two walks
+-- The spot of a function: what is read there, and what a walk leaves of it.
+--     no-source, source-there          what is read at the place of a source
 --     no-head, no-tail, row-there      what is read at a spot
+--     spelt-there, below-stands        what nested functions inherit, from the place of a source
+--     main-stands, no-row-left         at the end of the file no function stands: where main stands, and a spot that was not found
+--     this-row                         the row at the spot that a walk leaves of a function is the function's
 -- Assumes nothing.
-use mathlib.Core.Path.{_≡_, refl, sym, ap}
-use mathlib.Core.Bool.{Bool, true, false, true≢false, cond}
-use Prim.Native.Nat.{ℕ}
-use lib.Dec.{eqb}
-use lib.ListN.{drop}
+use mathlib.Core.Path.{_≡_, refl, sym, _∙_, ap}
+use mathlib.Core.Bool.{Bool, true, false, cond}
+use mathlib.Core.List.{List, [], _∷_, append-nil}
+use mathlib.Core.Option.{Option, none, some}
+use Prim.Native.Nat.{ℕ, _+_}
+use native.Mathlib.Omega.{arith}
+use lib.ListN.{length, drop, getD, replicate}
+use lib.Seq.{drop-append-seam}
+use Rattle.format.specs.GrammarFields.{LuaString}
 use Rattle.format.specs.declared.limits.ResourceLimits.{ResourceLimits}
 use Rattle.format.specs.declared.refusal.Refusal.{Refusal}
 use Rattle.format.specs.Form.{Bytes}
+use Rattle.format.specs.GrammarChunk as grammar
+use Rattle.format.specs.GrammarChunk.{inherit, outermost}
+use Rattle.format.specs.Read.{Read, ok, refused, Reader, next, give}
+use Rattle.format.proofs.Exact.{never}
+use Rattle.lists.specs.Readers.{Count, protosCount}
 use Rattle.cursor.specs.declared.Cursor.{Cursor}
+use Rattle.cursor.specs.Shown.{cursorAt}
+use Rattle.reader.specs.Shown.{optionString}
+use Rattle.reader.specs.declared.string.OptionString.{OptionString}
+use Rattle.reader.specs.declared.string.OptionString.the-variants as string
+use Rattle.prototype.specs.declared.front.Front as declared-front
+use Rattle.prototype.specs.declared.front.FrontResult.the-variants as front-answer
 use Rattle.prototype.specs.declared.parts.Head as declared-head
-use Rattle.prototype.specs.declared.parts.HeadResult.{HeadResult}
 use Rattle.prototype.specs.declared.parts.HeadResult.the-variants as head-answer
 use Rattle.prototype.specs.declared.parts.Tail as declared-tail
-use Rattle.prototype.specs.declared.parts.TailResult.{TailResult}
 use Rattle.prototype.specs.declared.parts.TailResult.the-variants as tail-answer
-use Rattle.prototype.specs.declared.row.OptionRow.{OptionRow}
 use Rattle.prototype.specs.declared.row.OptionRow.the-variants as option
-use Rattle.prototype.specs.Parts.{head, tail}
-use Rattle.prototype.specs.PartsShown.{headResult, tailResult}
-use Rattle.chunk.specs.declared.walk.Where.{Where}
-use Rattle.chunk.specs.declared.spot.Spot.{Spot}
-use Rattle.chunk.specs.declared.spot.OptionSpot.{OptionSpot}
-use Rattle.chunk.specs.declared.spot.OptionSpot.the-variants as spots
-use Rattle.chunk.specs.declared.spot.Spotted.{Spotted}
-use Rattle.chunk.specs.Inner.Walk.{orRow, rowShown, finishedShown, joinedShown}
-use Rattle.chunk.specs.Inner.Spot.{rowFrom, rowAt, isRow, Readable, rowed, orSpot, passedShown, bothShown}
+use Rattle.prototype.specs.Front.{Front, front}
+use Rattle.prototype.specs.Parts as parts
+use Rattle.prototype.specs.Parts.{Head, HeadLists, headLists, Tail}
+use Rattle.prototype.specs.PartsShown.{headOf, tailOf, headResult, tailResult}
+use Rattle.prototype.specs.Inner.Counts.{isSpelt, headCounts}
+use Rattle.prototype.specs.Inner.Results.{frontResult}
+use Rattle.prototype.specs.Inner.Row.{rowOf}
+use Rattle.prototype.specs.Inner.Whole.{prototypeOf, inside}
+use Rattle.skim.specs.declared.walk.Skimmed.{Skimmed}
+use Rattle.chunk.specs.declared.spot.Above.{Above}
+use Rattle.chunk.specs.Inner.Spot.{spotOf, belowShown, spelt, sourceAt, standing, inheritShown, rowShown, rowFrom, rowAt}
 
--- ## Two walks
-stays : (r later : OptionRow) → true ≡ isRow r → r ≡ orRow r later
-stays (option.Some x) later e = refl
-stays option.None later e = absurd (true≢false e)
-
-module _ (L : ResourceLimits) (s : Bytes) where
-  or-rows : (a b : OptionSpot) → Readable L s a → rowAt L s (orSpot a b) ≡ orRow (rowAt L s a) (rowAt L s b)
-  or-rows spots.None b e = refl
-  or-rows (spots.Some k) b e = stays (rowAt L s (spots.Some k)) (rowAt L s b) e
-
-  pub both-rows : (before later : Spotted) → Readable L s (before .spot) → rowed L s (bothShown before later) ≡ joinedShown (rowed L s before) (rowed L s later)
-  both-rows before later e = λ i. record { next = later .next; number = later .number; instructions = later .instructions; row = or-rows (before .spot) (later .spot) e i }
-
-  pub both-readable : (a b : OptionSpot) → Readable L s a → Readable L s b → Readable L s (orSpot a b)
-  both-readable spots.None b p q = q
-  both-readable (spots.Some k) b p q = p
-
--- ## What is read at a spot
-module _ (L : ResourceLimits) (s : Bytes) (k : Spot) where
-  abbrev head-there : HeadResult
-  head-there = headResult (head L (k .place .instructions) (k .start) (drop (k .start) s))
-
-  abbrev tail-there : TailResult
-  tail-there = tailResult (tail (L .«max_string_bytes») (k .tail) (drop (k .tail) s))
-
-  pub no-head : (q : Refusal) → head-answer.Err q ≡ head-there → option.None ≡ rowAt L s (spots.Some k)
-  no-head q e = λ i. rowFrom k (e i) tail-there
-
-  pub no-tail : (h : declared-head.Head) (c₁ : Cursor) → head-answer.Ok h c₁ ≡ head-there → (q : Refusal) → tail-answer.Err q ≡ tail-there → option.None ≡ rowAt L s (spots.Some k)
-  no-tail h c₁ e₁ q e₃ = λ i. rowFrom k (e₁ i) (e₃ i)
-
-  pub row-there : (h : declared-head.Head) (c₁ : Cursor) → head-answer.Ok h c₁ ≡ head-there → (t : declared-tail.Tail) (c₃ : Cursor) → tail-answer.Ok t c₃ ≡ tail-there → option.Some (rowShown (k .place) (k .start) h t (c₃ .at)) ≡ rowAt L s (spots.Some k)
-  row-there h c₁ e₁ t c₃ e₃ = λ i. rowFrom k (e₁ i) (e₃ i)
-
--- ## A function
-module _ (L : ResourceLimits) (s : Bytes) (place : Where) (start at : ℕ)
-    (h : declared-head.Head) (c₁ : Cursor) (e₁ : head-answer.Ok h c₁ ≡ headResult (head L (place .instructions) start (drop start s)))
-    (t : declared-tail.Tail) (c₃ : Cursor) (e₃ : tail-answer.Ok t c₃ ≡ tailResult (tail (L .«max_string_bytes») at (drop at s)))
-    (nested : Spotted) (wanted : ℕ) where
-  abbrev here : Spot
-  here = record { place = place; start = start; tail = at }
-
-  row-here : rowAt L s (spots.Some here) ≡ option.Some (rowShown place start h t (c₃ .at))
-  row-here = sym (row-there L s here h c₁ e₁ t c₃ e₃)
-
-  pub passed-rows : rowed L s (passedShown place start at c₃ nested wanted) ≡ finishedShown place start h t c₃ (rowed L s nested) wanted
-  passed-rows = λ i. record { next = c₃; number = nested .number; instructions = nested .instructions; row = by (eqb wanted (place .number)) i }
+-- ## The source at a place
+module _ (limit : ℕ) (s : Bytes) (at : ℕ) where
+  pub no-source : (q : Refusal) → front-answer.Err q ≡ frontResult (front limit at (drop at s)) → string.None ≡ optionString (sourceAt limit s at)
+  no-source q e = by (front limit at (drop at s)) e
     where
-      by : (b : Bool) → rowAt L s (cond b (spots.Some here) (nested .spot)) ≡ cond b (option.Some (rowShown place start h t (c₃ .at))) (rowAt L s (nested .spot))
-      by true = row-here
-      by false = refl
+      by : (o : Read Front) → front-answer.Err q ≡ frontResult o → string.None ≡ optionString (spelt o)
+      by (ok f to rest) e = absurd (let z : _≡_ {A = ℕ} 0 1 = cc in omega arith)
+      by (refused p) e = refl
 
-  pub passed-readable : Readable L s (nested .spot) → Readable L s (passedShown place start at c₃ nested wanted .spot)
-  passed-readable e = by (eqb wanted (place .number))
+  pub source-there : (f : declared-front.Front) (c : Cursor) → front-answer.Ok f c ≡ frontResult (front limit at (drop at s)) → f .source ≡ optionString (sourceAt limit s at)
+  source-there f c e = by (front limit at (drop at s)) e
     where
-      by : (b : Bool) → Readable L s (cond b (spots.Some here) (nested .spot))
-      by true = sym (ap isRow row-here)
-      by false = e
+      by : (o : Read Front) → front-answer.Ok f c ≡ frontResult o → f .source ≡ optionString (spelt o)
+      by (ok x to rest) e = let same : f ≡ record { source = optionString (x .source); lines = x .lines; sizes = x .sizes } = cc in ap (λ f. f .source) same
+      by (refused p) e = absurd (let z : _≡_ {A = ℕ} 0 1 = cc in omega arith)
+
+-- of the function that was read there
+pub spelt-there : (L : ResourceLimits) (before at : ℕ) (s : Bytes) {h : Head} {to : ℕ} {rest : Bytes} → parts.head L before at (drop at s) ≡ ok h to rest → sourceAt (L .«max_string_bytes») s at ≡ h .front .source
+spelt-there L before at s {h} {to} {rest} e = one (front (L .«max_string_bytes») at (drop at s)) e
+  where
+    whole : Front → HeadLists → Count → Reader Head
+    whole f l p = give (record { front = f; lists = l; protos = p })
+
+    three : (f : Front) (l : HeadLists) (o : Read Count) → next o (whole f l) ≡ ok h to rest → f .source ≡ h .front .source
+    three f l (refused q) e = absurd (never e)
+    three f l (ok p a b) e = let same : record { front = f; lists = l; protos = p } ≡ h = cc in ap (λ h. h .front .source) same
+
+    two : (f : Front) (o : Read HeadLists) → next o (λ l a b. next (protosCount (L .«max_total_prototypes») a b) (whole f l)) ≡ ok h to rest → f .source ≡ h .front .source
+    two f (refused q) e = absurd (never e)
+    two f (ok l a b) e = three f l (protosCount (L .«max_total_prototypes») a b) e
+
+    one : (o : Read Front) → next o (λ f a b. next (headLists L before a b) (λ l c d. next (protosCount (L .«max_total_prototypes») c d) (whole f l))) ≡ ok h to rest → spelt o ≡ h .front .source
+    one (refused q) e = absurd (never e)
+    one (ok f a b) e = two f (headLists L before a b) e
+
+pick-source : (at above : ℕ) (limit : ℕ) (s : Bytes) (own : Option LuaString) → sourceAt limit s at ≡ own → sourceAt limit s (cond (isSpelt (optionString own)) at above) ≡ inherit own (sourceAt limit s above)
+pick-source at above limit s none e = refl
+pick-source at above limit s (some t) e = e
+
+-- where the first function stands that nests in one
+pub below-stands : (L : ResourceLimits) (s : Bytes) (a : Above) (k : Skimmed) {h : Head} {to : ℕ} {rest : Bytes} → parts.head L (k .instructions) (k .next .at) (drop (k .next .at) s) ≡ ok h to rest → (behind : Cursor)
+    → standing L s (belowShown a k (headCounts h .named)) (record { next = behind; number = k .number + 1; instructions = k .instructions + headCounts h .instructions }) ≡ inside (standing L s a k) h
+below-stands L s a k {h} e behind = λ i. record {
+  number = k .number + 1;
+  instructions = k .instructions + length (h .lists .instructions .items);
+  depth = a .depth + 1;
+  parent = k .number;
+  source = pick-source (k .next .at) (a .source) (L .«max_string_bytes») s (h .front .source) (spelt-there L (k .instructions) (k .next .at) s e) i;
+}
+
+-- ## The end of the file: no function stands there
+nothing-left : (s : Bytes) → drop (length s) s ≡ []
+nothing-left s = ap (drop (length s)) (sym (append-nil s)) ∙ drop-append-seam s []
+
+no-source-left : (limit : ℕ) (s : Bytes) → sourceAt limit s (length s) ≡ none
+no-source-left limit s = ap (λ rest. spelt (front limit (length s) rest)) (nothing-left s)
+
+-- where main stands
+pub main-stands : (L : ResourceLimits) (s : Bytes) (at : Cursor) → standing L s (record { depth = 0; parent = 0; source = length s }) (record { next = at; number = 0; instructions = 0 }) ≡ outermost
+main-stands L s at = λ i. record { number = 0; instructions = 0; depth = 0; parent = 0; source = no-source-left (L .«max_string_bytes») s i }
+
+-- ## The row at a spot
+module _ (L : ResourceLimits) (s : Bytes) (l : List ℕ) where
+  abbrev start : ℕ
+  start = getD l 0 0
+
+  abbrev behind : ℕ
+  behind = getD l 1 0
+
+  abbrev source : OptionString
+  source = optionString (sourceAt (L .«max_string_bytes») s (getD l 5 0))
+
+  abbrev head-there : Read Head
+  head-there = parts.head L (getD l 2 0) start (drop start s)
+
+  abbrev tail-there : Read Tail
+  tail-there = parts.tail (L .«max_string_bytes») behind (drop behind s)
+
+  pub no-head : (q : Refusal) → head-answer.Err q ≡ headResult head-there → option.None ≡ rowAt L s l
+  no-head q e = λ i. rowFrom (getD l 3 0) (getD l 4 0) source start (e i) (tailResult tail-there)
+
+  pub no-tail : (h : declared-head.Head) (c₁ : Cursor) → head-answer.Ok h c₁ ≡ headResult head-there → (q : Refusal) → tail-answer.Err q ≡ tailResult tail-there → option.None ≡ rowAt L s l
+  no-tail h c₁ e₁ q e₃ = λ i. rowFrom (getD l 3 0) (getD l 4 0) source start (e₁ i) (e₃ i)
+
+  pub row-there : (h : declared-head.Head) (c₁ : Cursor) → head-answer.Ok h c₁ ≡ headResult head-there → (t : declared-tail.Tail) (c₃ : Cursor) → tail-answer.Ok t c₃ ≡ tailResult tail-there
+      → (own : OptionString) → own ≡ source → option.Some (rowShown (getD l 3 0) (getD l 4 0) own start h t (c₃ .at)) ≡ rowAt L s l
+  row-there h c₁ e₁ t c₃ e₃ own e = λ i. rowFrom (getD l 3 0) (getD l 4 0) (e i) start (e₁ i) (e₃ i)
+
+-- none at the end of the file
+pub no-row-left : (L : ResourceLimits) (s : Bytes) → rowAt L s (replicate 6 (length s)) ≡ option.None
+no-row-left L s =
+    ap (λ rest. rowFrom (length s) (length s) (optionString (sourceAt (L .«max_string_bytes») s (length s))) (length s) (headResult (parts.head L (length s) (length s) rest)) (tailResult (parts.tail (L .«max_string_bytes») (length s) (drop (length s) s)))) (nothing-left s)
+
+inherited : (own parent : Option LuaString) → inheritShown (optionString own) (optionString parent) ≡ optionString (inherit own parent)
+inherited (some t) parent = refl
+inherited none parent = refl
+
+row-shown : (w : grammar.Where) (at : ℕ) (v : Head) (t : Tail) (end : ℕ) → rowShown (w .depth) (w .parent) (optionString (w .source)) at (headOf v) (tailOf t) end ≡ rowOf (prototypeOf w at v t end)
+row-shown w at v t end = λ i. record {
+  start = at;
+  end = end;
+  depth = w .depth;
+  parent = w .parent;
+  «source_name» = inherited (v .front .source) (w .source) i;
+  lines = v .front .lines;
+  sizes = v .front .sizes;
+  lists = rowOf (prototypeOf w at v t end) .lists;
+}
+
+-- at the spot of a function
+pub this-row : (L : ResourceLimits) (s : Bytes) (a : Above) (k : Skimmed) (tail-at : ℕ) {h : Head} {c₁ : ℕ} {rest₁ : Bytes} {t : Tail} {c₃ : ℕ} {rest₃ : Bytes}
+    → parts.head L (k .instructions) (k .next .at) (drop (k .next .at) s) ≡ ok h c₁ rest₁ → parts.tail (L .«max_string_bytes») tail-at (drop tail-at s) ≡ ok t c₃ rest₃
+    → rowAt L s (spotOf a k tail-at) ≡ option.Some (rowOf (prototypeOf (standing L s a k) (k .next .at) h t c₃))
+this-row L s a k tail-at {h} {t} {c₃} e₁ e₃ =
+    sym (row-there L s (spotOf a k tail-at) (headOf h) _ (sym (ap headResult e₁)) (tailOf t) (cursorAt c₃) (sym (ap tailResult e₃)) _ refl)
+    ∙ ap option.Some (row-shown (standing L s a k) (k .next .at) h t c₃)

@@ -1,2 +1,2 @@
+pub mod Find
 pub mod Spot
-pub mod Walk

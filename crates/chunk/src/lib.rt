@@ -1,3 +1,4 @@
-// chunk.rs, decoding: the functions of a chunk with all that nest in them, one walk over the file.
+// chunk.rs, decoding: one function of a chunk, found by its number in one walk over the file, and its row.
+pub mod find;
+pub mod row;
 pub mod spot;
-pub mod walk;

@@ -3,13 +3,12 @@
 --     Single, Several  one function, n functions: what the copy makes of them, whatever follows, and that it is at most twice as long
 --     function-single  so it is with every function that is read
 -- Assumes nothing.
-use mathlib.Core.Path.{_≡_, refl, sym, _∙_, ap, ap₂}
-use mathlib.Core.Bool.{Bool, true, false, true≢false, cond}
+use mathlib.Core.Path.{_≡_, refl, sym, _∙_, ap}
+use mathlib.Core.Bool.{Bool, true, false, true≢false}
 use mathlib.Core.List.{List, [], _∷_, _++_, append-assoc, append-nil, foldr, flatten, foldr-append}
 use mathlib.Core.Option.{Option, none, some}
-use Prim.Native.Nat.{ℕ, zero, suc, _≤_}
-use native.Mathlib.Omega.{arith}
-use lib.ListN.{length, take, drop}
+use Prim.Native.Nat.{ℕ, zero, suc}
+use lib.ListN.{length, drop}
 use lib.Seq.{take-at, drop-at}
 use Rattle.format.specs.declared.limits.ResourceLimits.{ResourceLimits}
 use Rattle.format.specs.declared.refusal.Refusal.the-variants.{TotalPrototypes}
@@ -17,13 +16,13 @@ use Rattle.format.specs.Form.{Bytes, Below, Form}
 use Rattle.format.specs.GrammarFields.{LuaString}
 use Rattle.format.specs.Reading.{Prototype}
 use Rattle.format.specs.GrammarChunk.{inherit, Where, after}
-use Rattle.format.specs.Read.{Read, ok, Reader}
-use Rattle.format.specs.ReadChunk.{forest, function, body}
+use Rattle.format.specs.Read.{Reader}
+use Rattle.format.specs.ReadChunk.{forest, function}
 use Rattle.format.specs.Copy.{optionBytes, behindSource, nest}
 use Rattle.format.proofs.Exact.{Exact, exact-atMost}
 use Rattle.format.proofs.ExactChunk.{exact-forest}
 use Rattle.format.proofs.Located.{AtPlace, at-give, at-here, at-then, at-refuse}
-use Rattle.prototype.specs.Parts.{Head, head, Tail, tail}
+use Rattle.prototype.specs.Parts.{Head, Tail}
 use Rattle.prototype.specs.Inner.Whole.{prototypeOf, inside, parts}
 use Rattle.skim.specs.Inner.Skim.{entered}
 use Rattle.skim.proofs.Entering.{exact-entered}
@@ -31,7 +30,7 @@ use Rattle.skim.proofs.HeadTail.{exact-head, exact-tail}
 use Rattle.skim.proofs.OneFunction as one
 use Rattle.copy_parts.specs.Inner.Parts.{sourceBytes, headBytes, tailBytes, functionBytes}
 use Rattle.copy_parts.proofs.Lengths.{Short, short-then, short-none, stays}
-use Rattle.copy_parts.proofs.PartsAt.{HeadAt, head-at, TailAt, tail-at}
+use Rattle.copy_parts.proofs.PartsAt.{head-at, tail-at}
 
 -- ## The bytes of a function of its parts
 inherit-none : (t : Option LuaString) → inherit t none ≡ t

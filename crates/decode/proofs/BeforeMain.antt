@@ -35,12 +35,13 @@ use Rattle.format.proofs.Left.{left}
 use Rattle.cursor.specs.Shown.{cursorAt}
 use Rattle.header.specs.Shown.{firstWarning}
 use Rattle.prototype.specs.Inner.Row.{shownRow, lookup}
-use Rattle.chunk.specs.declared.walk.Walked.{Walked}
-use Rattle.chunk.specs.declared.walk.WalkResult.the-variants as walk
-use Rattle.chunk.specs.Inner.Walk.{walkResult}
+use Rattle.prototype.specs.declared.row.OptionRow.{OptionRow}
 use Rattle.skim.specs.declared.walk.Skimmed.{Skimmed}
 use Rattle.skim.specs.declared.walk.SkimResult.the-variants as skim
-use Rattle.skim.specs.Inner.Skim.{skimResult}
+use Rattle.skim.specs.Inner.Skim.{skimmedOf, skimResult}
+use Rattle.skim.proofs.OneFunction.{skim-err}
+use Rattle.chunk.specs.declared.find.FindResult.the-variants as find
+use Rattle.chunk.specs.Inner.Find.{findResult}
 use Rattle.decode.specs.declared.Opening.{Opening}
 use Rattle.decode.specs.declared.OpeningResult.the-variants as begins
 use Rattle.decode.specs.declared.summary.DecodedResult.the-variants as decoded
@@ -220,11 +221,7 @@ module _ (L : ResourceLimits) (s : Bytes) (f : Opening) (e : begins.Ok f ≡ ope
         }
 
   pub judged-refused : (q : Refusal) → skim.Err q ≡ skimResult outermost functions → judged.Err q ≡ judgedResult (read L s)
-  judged-refused q e = by functions refl e
-    where
-      by : (o : Read (List Prototype)) → functions ≡ o → skim.Err q ≡ skimResult outermost o → judged.Err q ≡ judgedResult (read L s)
-      by (ok ps to rest) is e = absurd (let z : _≡_ {A = ℕ} 0 1 = cc in omega arith)
-      by (refused p) is e = let same : q ≡ p = cc in ap judged.Err same ∙ sym (ap judgedResult (functions-refused p is))
+  judged-refused q e = let is = skim-err outermost functions q e in sym (ap judgedResult (functions-refused q is))
 
   pub judged-read : (k : Skimmed) → skim.Ok k ≡ skimResult outermost functions → judged.Ok (summaryShown s (L .«max_diagnostics») f (k .next) (k .number)) ≡ judgedResult (read L s)
   judged-read k e = by functions refl e
@@ -239,20 +236,21 @@ module _ (L : ResourceLimits) (s : Bytes) (f : Opening) (e : begins.Ok f ≡ ope
       by (refused p) is e = absurd (let z : _≡_ {A = ℕ} 0 1 = cc in omega arith)
 
   module _ (wanted : ℕ) where
-    pub decoded-refused : (q : Refusal) → walk.Err q ≡ walkResult wanted outermost functions → decoded.Err q ≡ decodedResult wanted (read L s)
+    pub decoded-refused : (q : Refusal) → find.Err q ≡ findResult wanted functions → decoded.Err q ≡ decodedResult wanted (read L s)
     decoded-refused q e = by functions refl e
       where
-        by : (o : Read (List Prototype)) → functions ≡ o → walk.Err q ≡ walkResult wanted outermost o → decoded.Err q ≡ decodedResult wanted (read L s)
+        by : (o : Read (List Prototype)) → functions ≡ o → find.Err q ≡ findResult wanted o → decoded.Err q ≡ decodedResult wanted (read L s)
         by (ok ps to rest) is e = absurd (let z : _≡_ {A = ℕ} 0 1 = cc in omega arith)
         by (refused p) is e = let same : q ≡ p = cc in ap decoded.Err same ∙ sym (ap (decodedResult wanted) (functions-refused p is))
 
-    pub decoded-read : (k : Walked) → walk.Ok k ≡ walkResult wanted outermost functions → decoded.Ok (record { summary = summaryShown s (L .«max_diagnostics») f (k .next) (k .number); row = k .row }) ≡ decodedResult wanted (read L s)
-    decoded-read k e = by functions refl e
+    pub decoded-read : (k : Skimmed) (row : OptionRow) → find.Ok k row ≡ findResult wanted functions → decoded.Ok (record { summary = summaryShown s (L .«max_diagnostics») f (k .next) (k .number); row = row }) ≡ decodedResult wanted (read L s)
+    decoded-read k row e = by functions refl e
       where
-        by : (o : Read (List Prototype)) → functions ≡ o → walk.Ok k ≡ walkResult wanted outermost o → decoded.Ok (record { summary = summaryShown s (L .«max_diagnostics») f (k .next) (k .number); row = k .row }) ≡ decodedResult wanted (read L s)
+        by : (o : Read (List Prototype)) → functions ≡ o → find.Ok k row ≡ findResult wanted o → decoded.Ok (record { summary = summaryShown s (L .«max_diagnostics») f (k .next) (k .number); row = row }) ≡ decodedResult wanted (read L s)
         by (ok ps to rest) is e =
-            let all : k ≡ record { next = cursorAt to; number = 0 + length ps; instructions = 0 + instructionsOf ps; row = shownRow (lookup wanted 0 ps) } = cc in
-            ap (λ k. decoded.Ok (record { summary = summaryShown s (L .«max_diagnostics») f (k .next) (k .number); row = k .row })) all
+            let all : k ≡ skimmedOf outermost ps to = cc in
+            let its-row : row ≡ shownRow (lookup wanted 0 ps) = cc in
+            (λ i. decoded.Ok (record { summary = summaryShown s (L .«max_diagnostics») f (all i .next) (all i .number); row = its-row i }))
             ∙ ap (λ n. decoded.Ok (record { summary = summaryShown s (L .«max_diagnostics») f (cursorAt to) n; row = shownRow (lookup wanted 0 ps) })) (zero-add (length ps))
             ∙ ap (λ t. decoded.Ok (record { summary = t; row = shownRow (lookup wanted 0 ps) })) (sums ps to rest is)
             ∙ sym (ap (decodedResult wanted) (shows ps to rest is))

@@ -2,9 +2,7 @@
 pub mod summary;
 
 ghost use mathlib.Core.Path.{_≡_};
-ghost use Rattle.reader.specs.declared.string.OptionString.the-variants as string;
 ghost use Rattle.decode.specs.Inner.Opening.{beforeMain, opened, openingResult};
-use chunk::walk::Where;
 use cursor::Cursor;
 use format::header::Header;
 use format::limits::ResourceLimits;
@@ -14,7 +12,6 @@ use header::OptionWarning;
 use header::parse_header_lua54;
 use reader::field::U8Result;
 use reader::field::read_u8;
-use reader::string::OptionString;
 
 // Where main begins, in every chunk that is read.
 pub const MAIN_AT: usize = 32;
@@ -29,19 +26,6 @@ pub struct Opening {
 pub enum OpeningResult {
     Ok(Opening),
     Err(Refusal),
-}
-
-// Where main stands.
-pub fn outermost() -> Where
-    ensures { λ r. ⌜ r ≡ record { number = 0; instructions = 0; depth = 0; parent = 0; source = string.None } ⌝ }
-{
-    Where {
-        number: 0,
-        instructions: 0,
-        depth: 0,
-        parent: 0,
-        source: OptionString::None,
-    }
 }
 
 // The header, and the byte behind it, which is forgotten.

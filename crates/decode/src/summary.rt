@@ -12,10 +12,8 @@ ghost use Rattle.decode.specs.Inner.Decoded.{judgedResult, decodedResult
 use crate::Opening;
 use crate::OpeningResult;
 use crate::open_chunk;
-use crate::outermost;
-use chunk::spot::SpotResult;
-use chunk::spot::find_function;
-use chunk::spot::row_at;
+use chunk::find::FindResult;
+use chunk::find::find_row;
 use cursor::Cursor;
 use cursor::remaining;
 use format::header::Header;
@@ -161,22 +159,12 @@ pub fn decode_chunk_lua54(s: &[u8], limits: ResourceLimits, wanted: usize) -> De
     match begins {
         OpeningResult::Err(refusal) => DecodedResult::Err(refusal),
         OpeningResult::Ok(opening) => {
-            let place = outermost();
             let first = opening.next;
-            let functions = find_function(
-                s,
-                limits,
-                place,
-                limits.max_nesting_depth,
-                wanted,
-                first,
-            );
-            match functions {
-                SpotResult::Err(refusal) => DecodedResult::Err(refusal),
-                SpotResult::Ok(walked) => {
+            let found = find_row(s, limits, wanted, first);
+            match found {
+                FindResult::Err(refusal) => DecodedResult::Err(refusal),
+                FindResult::Ok { walked, row } => {
                     let next = walked.next;
-                    let spot = walked.spot;
-                    let row = row_at(s, limits, spot);
                     let summary = summarised(
                         s,
                         limits.max_diagnostics,

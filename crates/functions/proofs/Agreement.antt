@@ -1,6 +1,6 @@
 -- Where a reading of functions succeeds, the rows up to a refusal are the rows of all its functions.
 -- Assumes nothing.
-use mathlib.Core.Path.{_≡_, refl, sym, ap, subst, _∙_}
+use mathlib.Core.Path.{_≡_, refl, sym, ap, subst}
 use mathlib.Core.Bool.{Bool, true, false}
 use mathlib.Core.List.{List, [], _∷_, _++_, append-nil}
 use Prim.Native.Nat.{ℕ, zero, suc, _+_, _-_, _<_, _≤_}
@@ -12,20 +12,18 @@ use Rattle.format.specs.declared.refusal.Refusal.the-variants.{TotalPrototypes}
 use Rattle.format.specs.Form.{Bytes}
 use Rattle.format.specs.Reading.{Prototype}
 use Rattle.format.specs.GrammarChunk.{Where, after}
-use Rattle.format.specs.Read.{Read, ok, refused, Reader, next, give, test}
+use Rattle.format.specs.Read.{Read, ok, refused, next, give, test}
 use Rattle.format.specs.ReadChunk.{forest, function}
 use Rattle.format.proofs.ExactChunk.{exact-forest}
 use Rattle.format.proofs.Left.{left}
-use Rattle.cursor.specs.Shown.{cursorAt}
-use Rattle.prototype.specs.declared.parts.HeadResult.the-variants as head-answer
 use Rattle.prototype.specs.Parts.{Head, head, Tail, tail}
-use Rattle.prototype.specs.Inner.Whole.{prototypeOf, inside, parts}
+use Rattle.prototype.specs.Inner.Whole.{prototypeOf, inside}
 use Rattle.prototype.specs.PartsShown.{headOf, headResult, tailResult}
 use Rattle.skim.specs.Inner.Skim.{entered}
 use Rattle.skim.proofs.Entering.{exact-entered}
 use Rattle.skim.proofs.HeadTail.{exact-head}
 use Rattle.skim.proofs.OneFunction.{by-parts}
-use Rattle.functions.specs.Inner.Rows.{rowShown, headAt, tailAt, onHead, onTail, Walked, through, cut, before, andThen, times, bodyAt, functionAt, rowsOf, chunkRows, prototypeRow}
+use Rattle.functions.specs.Inner.Rows.{rowShown, headAt, tailAt, onHead, onTail, Walked, through, cut, before, andThen, times, bodyAt, functionAt, chunkRows, prototypeRow}
 use Rattle.functions.specs.declared.Row.{Row}
 use Rattle.functions.proofs.Fewer.{Fewer, fewer-head}
 

@@ -29,11 +29,11 @@ use Rattle.decode.proofs.MainAt.{WasShown, was-shown, was-refused, MainAt, main
 use Rattle.index.specs.declared.IndexAnswer.the-variants as answer
 use Rattle.index.specs.Index.{index, shownIndex, indexWritten}
 use Rattle.lent.specs.Inner.Splice.{splice}
-use Rattle.index_row.specs.Inner.Stored.{stored}
+use Rattle.index_row.specs.Inner.Stored.{COLUMNS, stored}
 use Rattle.index_walk.specs.Inner.Written.{Wrote}
 use Rattle.index.proofs.Small.{small-main, stored-index}
 
-index-length : (ps : List Prototype) → length (index ps) ≡ 12 * length ps
+index-length : (ps : List Prototype) → length (index ps) ≡ COLUMNS * length ps
 index-length [] = refl
 index-length (p ∷ ps) = let more = index-length ps in omega arith
 
@@ -41,11 +41,11 @@ index-length (p ∷ ps) = let more = index-length ps in omega arith
 pub refused-index : (old : List ℕ) (o : Outcome) (q : Refusal) → judged.Err q ≡ judgedResult o → (answer.Err q ≡ shownIndex (length old) o) × (old ≡ indexWritten old o)
 refused-index old o q e = let is = was-refused o q e in (sym (ap (shownIndex (length old)) is), sym (ap (indexWritten old) is))
 
--- 12 numbers for each function have room where a twelfth of the space is at least the number of functions
-short-space : (space n : ℕ) → space / 12 < n → space < 12 * n
+-- a row for each function has room where the space has room for as many rows
+short-space : (space n : ℕ) → space / COLUMNS < n → space < COLUMNS * n
 short-space space n h = omega arith
 
-long-space : (space n : ℕ) → n ≤ space / 12 → 12 * n ≤ space
+long-space : (space n : ℕ) → n ≤ space / COLUMNS → COLUMNS * n ≤ space
 long-space space n h = omega arith
 
 module _ (old : List ℕ) (o : Outcome) (d : Summary) (e : judged.Ok d ≡ judgedResult o) where
@@ -62,16 +62,16 @@ module _ (old : List ℕ) (o : Outcome) (d : Summary) (e : judged.Ok d ≡ judge
     ap (indexWritten old) (was-shown o d e .is) ∙ ap (λ b. cond b (index functions ++ drop (length (index functions)) old) old) t,
   )
 
-  pub no-room : length old / 12 < d .functions → (answer.Err LentSpace ≡ shownIndex (length old) o) × (old ≡ indexWritten old o)
+  pub no-room : length old / COLUMNS < d .functions → (answer.Err LentSpace ≡ shownIndex (length old) o) × (old ≡ indexWritten old o)
   no-room h =
       let size = index-length functions in
       let number = count in
-      let longer : length old < 12 * length functions = short-space (length old) (length functions) (rw (← number) h) in
+      let longer : length old < COLUMNS * length functions = short-space (length old) (length functions) (rw (← number) h) in
       let both = by-test false (lt-leb (length (index functions)) (length old) (omega arith)) in
       (sym (both .0), sym (both .1))
 
-  module _ (h : d .functions ≤ length old / 12) where
-    fits : 12 * length functions ≤ length old
+  module _ (h : d .functions ≤ length old / COLUMNS) where
+    fits : COLUMNS * length functions ≤ length old
     fits = let number = count in long-space (length old) (length functions) (rw (← number) h)
 
     room : (new : List ℕ) → new ≡ index functions ++ drop (length (index functions)) old → (answer.Ok (d .functions) ≡ shownIndex (length old) o) × (new ≡ indexWritten old o)
@@ -110,7 +110,7 @@ module _ (old : List ℕ) (L : ResourceLimits) (s : Bytes) (d : Summary) (e : ju
   main-place : MainAt L s all-functions
   main-place = rw (← those) (main-at L s (ap (main L 0) (chunk .whole) ∙ exact-main L .complete (chunk .trailing) (chunk .main)))
 
-  module _ (enough : d .functions ≤ length old / 12) (new : List ℕ) (wrote : Wrote outermost (function L (L .«max_nesting_depth») outermost 32 (drop 32 s)) old new) where
+  module _ (enough : d .functions ≤ length old / COLUMNS) (new : List ℕ) (wrote : Wrote outermost (function L (L .«max_nesting_depth») outermost 32 (drop 32 s)) old new) where
     stands-there : new ≡ index all-functions ++ drop (length (index all-functions)) old
     unfolding splice
     stands-there =

@@ -1,16 +1,17 @@
-// chunk.rs, the index: a row of twelve numbers for each function of a chunk, written into lent space.
+// The index: a row of numbers for each function of a chunk, written into lent space.
 ghost use mathlib.Core.Path.{_≡_};
 ghost use lib.ListN.{length};
 ghost use Rattle.format.specs.ReadChunk as format;
 ghost use Rattle.index.specs.Index.{shownIndex, indexWritten};
 use cursor::Cursor;
 use decode::MAIN_AT;
-use decode::outermost;
 use decode::summary::JudgedResult;
 use decode::summary::judge_chunk;
 use format::limits::ResourceLimits;
 use format::refusal::Refusal;
+use index_row::COLUMNS;
 use index_walk::write_function;
+use skim::walk::Skimmed;
 
 // The number of functions, or why there is no index.
 pub enum IndexAnswer {
@@ -29,12 +30,15 @@ pub fn function_index(s: &[u8], limits: ResourceLimits, rows: &mut [u32]) -> Ind
         JudgedResult::Err(refusal) => IndexAnswer::Err(refusal),
         JudgedResult::Ok(summary) => {
             let functions = summary.functions;
-            if rows.len() / 12 < functions {
+            if rows.len() / COLUMNS < functions {
                 return IndexAnswer::Err(Refusal::LentSpace);
             }
-            let place = outermost();
-            let first = Cursor { at: MAIN_AT };
-            write_function(s, limits, place, limits.max_nesting_depth, first, rows);
+            let main = Skimmed {
+                next: Cursor { at: MAIN_AT },
+                number: 0,
+                instructions: 0,
+            };
+            write_function(s, limits, limits.max_nesting_depth, 0, 0, main, rows);
             IndexAnswer::Ok(functions)
         }
     }

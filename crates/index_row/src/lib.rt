@@ -1,11 +1,15 @@
-// The twelve numbers of a function, stored.
+// The numbers of a function, stored.
 ghost use mathlib.Core.Path.{_≡_};
 ghost use mathlib.Core.List.{[], _∷_};
 ghost use Prim.Native.Nat.{_+_, _*_, _≤_};
 ghost use lib.ListN.{length};
 ghost use Rattle.lent.specs.Inner.Splice.{splice};
-ghost use Rattle.index_row.specs.Inner.Stored.{low, storedRow};
-use prototype::row::FunctionRow;
+ghost use Rattle.index_row.specs.Inner.Stored.{COLUMNS, low, storedRow};
+use prototype::pass::HeadCounts;
+use prototype::pass::TailCounts;
+
+// How many numbers an index has of each function.
+pub const COLUMNS: usize = 12;
 
 // The low 32 bits: in a chunk that is read no number of the index has more.
 fn narrow(x: usize) -> u32
@@ -26,28 +30,37 @@ fn put_four(rows: &mut [u32], at: usize, a: usize, b: usize, c: usize, d: usize)
 }
 
 // Stores the row of the function of this number, where there is room for it. Ruled out: a count in another's column, the row of one function in another's place.
-pub fn put_row(rows: &mut [u32], number: usize, row: FunctionRow)
-    ensures { λ _. ⌜ (12 * number + 12 ≤ length (now (rows .entry)) → now (rows .exit) ≡ splice (12 * number) (storedRow row) (now (rows .entry))) ⌝ }
+pub fn put_row(
+    rows: &mut [u32],
+    number: usize,
+    start: usize,
+    end: usize,
+    depth: usize,
+    parent: usize,
+    head: HeadCounts,
+    tail: TailCounts,
+)
+    ensures { λ _. ⌜ (COLUMNS * number + COLUMNS ≤ length (now (rows .entry)) → now (rows .exit) ≡ splice (COLUMNS * number) (storedRow start end depth parent head tail) (now (rows .entry))) ⌝ }
 {
-    if rows.len() / 12 <= number {
+    if rows.len() / COLUMNS <= number {
         return;
     }
-    let at = 12 * number;
-    put_four(rows, at, row.start, row.end, row.depth, row.parent);
+    let at = COLUMNS * number;
+    put_four(rows, at, start, end, depth, parent);
     put_four(
         rows,
         at + 4,
-        row.lists.instructions.count,
-        row.lists.constants.count,
-        row.lists.upvalues.count,
-        row.lists.protos.count,
+        head.instructions,
+        head.constants,
+        head.upvalues,
+        head.protos,
     );
     put_four(
         rows,
         at + 8,
-        row.lists.line_info.count,
-        row.lists.abs_line_info.count,
-        row.lists.loc_vars.count,
-        row.lists.upvalue_names.count,
+        tail.line_info,
+        tail.abs_line_info,
+        tail.loc_vars,
+        tail.upvalue_names,
     );
 }

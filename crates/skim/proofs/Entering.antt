@@ -10,7 +10,7 @@ use Rattle.format.specs.declared.refusal.Refusal.the-variants.{NestingDepth, To
 use Rattle.format.specs.Form.{Bytes, Form, Then, Nothing, Given}
 use Rattle.format.specs.Reading.{Prototype}
 use Rattle.format.specs.GrammarChunk.{Where, Function}
-use Rattle.format.specs.Read.{Read, refused}
+use Rattle.format.specs.Read.{refused}
 use Rattle.format.specs.ReadChunk.{function, body}
 use Rattle.format.proofs.Exact.{Exact, exact-then, exact-place, exact-atMost}
 use Rattle.format.proofs.ExactChunk.{exact-refuse, exact-function}

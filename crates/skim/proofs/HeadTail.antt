@@ -5,7 +5,7 @@
 --     head-.., counts-..           of an answer of `read_head`, of `pass_head`: what was read
 --     tail-.., tail-counts-..      of an answer of `read_tail`, of `pass_tail`
 -- Assumes nothing.
-use mathlib.Core.Path.{_≡_, ap, _∙_}
+use mathlib.Core.Path.{_≡_}
 use Prim.Native.Nat.{ℕ, _+_, _≤_}
 use native.Mathlib.Omega.{arith}
 use lib.ListN.{length, drop}

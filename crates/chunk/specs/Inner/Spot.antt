@@ -1,82 +1,109 @@
--- What the walk that finds one function brings back of it, its spot, and the row that is read there.
---     rowAt L s o          the row that is read at a spot, where there is a spot and both parts of a function are read there
---     Readable L s o       they are, where there is a spot
---     rowedResult L s r    what a walk answers, with that row for the spot
+-- What the walk that finds one function leaves of it, its spot, and the row that is read there.
+--     spotOf a k tail      the six numbers of a spot
+--     sourceAt limit s k   the source that the function at k spells; none where no function stands, as at the end of the file
+--     standing L s a k     where the function stands that inherits a, behind the walk k
+--     functionAt, functionsAt      what is read there: a function, or n of them
+--     rowAt L s l          the row that is read at a spot, where both parts of a function are read there
+--     Found n k o r r′     where o was read, numbered from k on, the row r′ is that of the function n, if it is among them, else still r
 use mathlib.Core.Path.{_≡_}
-use mathlib.Core.Bool.{Bool, true, false, cond}
-use Prim.Native.Nat.{ℕ}
-use lib.Dec.{eqb}
-use lib.ListN.{drop}
+use mathlib.Core.Bool.{Bool, cond}
+use mathlib.Core.List.{List, [], _∷_}
+use mathlib.Core.Option.{Option, none, some}
+use Prim.Native.Nat.{ℕ, _+_}
+use lib.ListN.{drop, getD}
 use Rattle.format.specs.declared.limits.ResourceLimits.{ResourceLimits}
 use Rattle.format.specs.Form.{Bytes}
-use Rattle.cursor.specs.declared.Cursor.{Cursor}
+use Rattle.format.specs.Reading.{Prototype}
+use Rattle.format.specs.GrammarFields.{LuaString}
+use Rattle.format.specs.GrammarChunk as grammar
+use Rattle.format.specs.Read.{Read, ok, refused}
+use Rattle.format.specs.ReadChunk.{forest, function}
+use Rattle.reader.specs.Shown.{optionString}
+use Rattle.reader.specs.declared.string.OptionString.{OptionString}
+use Rattle.reader.specs.declared.string.OptionString.the-variants as string
+use Rattle.prototype.specs.declared.parts.Head.{Head}
 use Rattle.prototype.specs.declared.parts.HeadResult.{HeadResult}
 use Rattle.prototype.specs.declared.parts.HeadResult.the-variants as head-answer
+use Rattle.prototype.specs.declared.parts.Tail.{Tail}
 use Rattle.prototype.specs.declared.parts.TailResult.{TailResult}
 use Rattle.prototype.specs.declared.parts.TailResult.the-variants as tail-answer
+use Rattle.prototype.specs.declared.row.FunctionRow.{FunctionRow}
 use Rattle.prototype.specs.declared.row.OptionRow.{OptionRow}
 use Rattle.prototype.specs.declared.row.OptionRow.the-variants as option
-use Rattle.prototype.specs.Parts.{head, tail}
+use Rattle.prototype.specs.Front.{Front, front}
+use Rattle.prototype.specs.Parts as parts
 use Rattle.prototype.specs.PartsShown.{headResult, tailResult}
-use Rattle.chunk.specs.declared.walk.Where.{Where}
-use Rattle.chunk.specs.declared.walk.Walked.{Walked}
-use Rattle.chunk.specs.declared.walk.WalkResult.{WalkResult}
-use Rattle.chunk.specs.declared.walk.WalkResult.the-variants as answer
-use Rattle.chunk.specs.declared.spot.Spot.{Spot}
-use Rattle.chunk.specs.declared.spot.OptionSpot.{OptionSpot}
-use Rattle.chunk.specs.declared.spot.OptionSpot.the-variants as spots
-use Rattle.chunk.specs.declared.spot.Spotted.{Spotted}
-use Rattle.chunk.specs.declared.spot.SpotResult.{SpotResult}
-use Rattle.chunk.specs.declared.spot.SpotResult.the-variants as found
-use Rattle.chunk.specs.Inner.Walk.{rowShown}
+use Rattle.prototype.specs.Inner.Row.{rowOf, lookup}
+use Rattle.skim.specs.declared.walk.Skimmed.{Skimmed}
+use Rattle.skim.specs.Inner.Skim.{entered}
+use Rattle.chunk.specs.declared.spot.Above.{Above}
 
--- the row of what is read before and behind the nested functions
-abbrev pub rowFrom : Spot → HeadResult → TailResult → OptionRow
-rowFrom k (head-answer.Ok h c) (tail-answer.Ok t d) = option.Some (rowShown (k .place) (k .start) h t (d .at))
-rowFrom k (head-answer.Ok h c) (tail-answer.Err q) = option.None
-rowFrom k (head-answer.Err q) t = option.None
+abbrev pub spotOf : Above → Skimmed → ℕ → List ℕ
+spotOf a k tail = k .next .at ∷ tail ∷ k .instructions ∷ a .depth ∷ a .parent ∷ a .source ∷ []
 
-abbrev pub rowAt : ResourceLimits → Bytes → OptionSpot → OptionRow
-rowAt L s spots.None = option.None
-rowAt L s (spots.Some k) =
-    rowFrom k (headResult (head L (k .place .instructions) (k .start) (drop (k .start) s))) (tailResult (tail (L .«max_string_bytes») (k .tail) (drop (k .tail) s)))
+-- what the functions inherit that nest in one
+abbrev pub belowShown : Above → Skimmed → Bool → Above
+belowShown a k named = record { depth = a .depth + 1; parent = k .number; source = cond named (k .next .at) (a .source) }
 
-abbrev pub isSpot : OptionSpot → Bool
-isSpot spots.None = false
-isSpot (spots.Some k) = true
+abbrev pub spelt : Read Front → Option LuaString
+spelt (ok f to rest) = f .source
+spelt (refused q) = none
 
-abbrev pub isRow : OptionRow → Bool
-isRow option.None = false
-isRow (option.Some r) = true
+abbrev pub sourceAt : ℕ → Bytes → ℕ → Option LuaString
+sourceAt limit s k = spelt (front limit k (drop k s))
 
-abbrev pub Readable : ResourceLimits → Bytes → OptionSpot → Type 0
-Readable L s o = isSpot o ≡ isRow (rowAt L s o)
+abbrev pub standing : ResourceLimits → Bytes → Above → Skimmed → grammar.Where
+standing L s a k = record { number = k .number; instructions = k .instructions; depth = a .depth; parent = a .parent; source = sourceAt (L .«max_string_bytes») s (a .source) }
 
--- ## What a walk answers
-abbrev pub rowed : ResourceLimits → Bytes → Spotted → Walked
-rowed L s k = record { next = k .next; number = k .number; instructions = k .instructions; row = rowAt L s (k .spot) }
+abbrev pub functionAt : ResourceLimits → Bytes → ℕ → Above → Skimmed → Read (List Prototype)
+functionAt L s left a k = function L left (standing L s a k) (k .next .at) (drop (k .next .at) s)
 
-abbrev pub rowedResult : ResourceLimits → Bytes → SpotResult → WalkResult
-rowedResult L s (found.Ok k) = answer.Ok (rowed L s k)
-rowedResult L s (found.Err q) = answer.Err q
+abbrev pub functionsAt : ResourceLimits → Bytes → ℕ → ℕ → Above → Skimmed → Read (List Prototype)
+functionsAt L s n left a k = forest n (entered L left) (standing L s a k) (k .next .at) (drop (k .next .at) s)
 
-abbrev pub spotIn : SpotResult → OptionSpot
-spotIn (found.Ok k) = k .spot
-spotIn (found.Err q) = spots.None
+-- ## The row at a spot
+abbrev pub inheritShown : OptionString → OptionString → OptionString
+inheritShown (string.Some t) parent = string.Some t
+inheritShown string.None parent = parent
 
--- ## The same of the code's values
--- a spot that was found before, else the later one
-abbrev pub orSpot : OptionSpot → OptionSpot → OptionSpot
-orSpot (spots.Some k) later = spots.Some k
-orSpot spots.None later = later
-
-abbrev pub passedShown : Where → ℕ → ℕ → Cursor → Spotted → ℕ → Spotted
-passedShown place start tail end nested wanted = record {
-  next = end;
-  number = nested .number;
-  instructions = nested .instructions;
-  spot = cond (eqb wanted (place .number)) (spots.Some (record { place = place; start = start; tail = tail })) (nested .spot);
+abbrev pub rowShown : ℕ → ℕ → OptionString → ℕ → Head → Tail → ℕ → FunctionRow
+rowShown depth parent source start head tail end = record {
+  start = start;
+  end = end;
+  depth = depth;
+  parent = parent;
+  «source_name» = inheritShown (head .front .source) source;
+  lines = head .front .lines;
+  sizes = head .front .sizes;
+  lists = record {
+    instructions = head .lists .instructions;
+    constants = head .lists .constants;
+    upvalues = head .lists .upvalues;
+    protos = head .protos;
+    «line_info» = tail .«line_info»;
+    «abs_line_info» = tail .«abs_line_info»;
+    «loc_vars» = tail .«loc_vars»;
+    «upvalue_names» = tail .«upvalue_names»;
+  };
 }
 
-abbrev pub bothShown : Spotted → Spotted → Spotted
-bothShown before later = record { next = later .next; number = later .number; instructions = later .instructions; spot = orSpot (before .spot) (later .spot) }
+-- of what is read before and behind the nested functions
+abbrev pub rowFrom : ℕ → ℕ → OptionString → ℕ → HeadResult → TailResult → OptionRow
+rowFrom depth parent source start (head-answer.Ok h c) (tail-answer.Ok t d) = option.Some (rowShown depth parent source start h t (d .at))
+rowFrom depth parent source start (head-answer.Ok h c) (tail-answer.Err q) = option.None
+rowFrom depth parent source start (head-answer.Err q) t = option.None
+
+abbrev pub rowAt : ResourceLimits → Bytes → List ℕ → OptionRow
+rowAt L s l =
+    let start = getD l 0 0 in
+    let behind = getD l 1 0 in
+    let source = optionString (sourceAt (L .«max_string_bytes») s (getD l 5 0)) in
+    rowFrom (getD l 3 0) (getD l 4 0) source start (headResult (parts.head L (getD l 2 0) start (drop start s))) (tailResult (parts.tail (L .«max_string_bytes») behind (drop behind s)))
+
+-- ## What a walk leaves
+abbrev pub rowOr : Option Prototype → OptionRow → OptionRow
+rowOr none before = before
+rowOr (some p) before = option.Some (rowOf p)
+
+pub record Found (wanted first : ℕ) (o : Read (List Prototype)) (before after : OptionRow) : Type 0 where
+  pub found : (ps : List Prototype) (to : ℕ) (rest : Bytes) → o ≡ ok ps to rest → after ≡ rowOr (lookup wanted first ps) before

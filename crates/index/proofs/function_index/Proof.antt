@@ -1,5 +1,5 @@
 -- `index::function_index` meets its contract: the first pass says which case of the reading holds, the second writes the index (`Whole.antt`). Assumes nothing.
-use mathlib.Core.Path.{sym, _∙_}
+use mathlib.Core.Path.{refl, sym, _∙_}
 use Prim.Native.Nat.{_+_, _≤_}
 use native.Mathlib.Omega.{arith}
 use borrow.Author.Needs.{needs}
@@ -18,14 +18,12 @@ returns c =
 
 write-function-requires : tie.Need-write-function-requires
 write-function-requires c κs =
-    let j = c .before .before .before .before in
+    let j = c .before .before .before in
     let b = j .before .before in
     let a = b .before .before .before .args in
     let l = in-limits (a .rows .now) (a .limits) (a .s .now) (j .judged2 .given .0 .0) (sym (j .judged2 .given .1) ∙ b .judge-chunk .ensures) in
     let nesting = l .0 in
-    let number : c .before .outermost .result .number ≤ 16777216 = rw (c .before .outermost .ensures) (omega arith) in
-    let depth : c .before .outermost .result .depth + a .limits .«max_nesting_depth» ≤ 200 = rw (c .before .outermost .ensures) (omega arith) in
-    (l .1, l .2, number, depth)
+    (l .1, l .2, omega arith, omega arith)
 
 returns-2 : tie.Need-returns-2
 returns-2 c =
@@ -36,12 +34,12 @@ returns-2 c =
 returns-3 : tie.Need-returns-3
 returns-3 c =
     let w = c .before .before in
-    let i = w .before .before .before in
+    let i = w .before .before in
     let j = i .before .before in
     let b = j .before .before in
     let a = b .before .before .before .args in
     index-written (a .rows .now) (a .limits) (a .s .now) (j .judged2 .given .0 .0) (sym (j .judged2 .given .1) ∙ b .judge-chunk .ensures) (i .if1 .left) _
-    (w .write-function .ensures .1 outermost (w .before .before .outermost .ensures))
+    (w .write-function .ensures .1 outermost refl refl refl refl)
 
 pub function-index-spec : {M : Type 1} → statement M
 function-index-spec =
@@ -51,7 +49,6 @@ function-index-spec =
     (λ c. search needs)
     (λ c. search needs)
     returns
-    (λ c κs. search needs)
     write-function-requires
     returns-2
     (λ c. search needs)

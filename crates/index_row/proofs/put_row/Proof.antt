@@ -3,6 +3,7 @@ use Prim.Native.Nat.{_*_}
 use native.Mathlib.Omega.{arith}
 use borrow.Author.Needs.{needs}
 use Rattle.lent.proofs.Splices.{splice-three}
+use Rattle.index_row.specs.Inner.Stored.{COLUMNS}
 use Rattle.index_row.proofs.put_row.Statement.{statement}
 use Rattle.index_row.proofs.put_row.Tie as tie
 
@@ -22,4 +23,4 @@ put-row-spec =
     let second = third .before .before .before .before in
     let first = second .before .before .before .before in
     let a = first .before .before .before .before in
-    splice-three (12 * a .args .number) _ _ _ _ _ (a .args .rows .now) _ _ _ (first .put-four .ensures) (second .put-four2 .ensures) (third .put-four3 .ensures) (omega arith) (omega arith) (omega (arith, h))))
+    splice-three (COLUMNS * a .args .number) _ _ _ _ _ (a .args .rows .now) _ _ _ (first .put-four .ensures) (second .put-four2 .ensures) (third .put-four3 .ensures) (omega arith) (omega arith) (omega (arith, h))))

@@ -1,32 +1,33 @@
 -- What is stored of a function in an index.
+--     COLUMNS              how many numbers are stored of each function
 --     low n                the low 32 bits of n
---     storedRow row        the twelve numbers of a row, as they are stored
+--     storedRow ..         the numbers of a function as they are stored, of what a walk keeps of it
 --     stored ps            those of functions, one after the other. (They are `index ps`, in a chunk within the ceilings: `Small.antt` of crate index.)
-use mathlib.Core.List.{List, [], _∷_, _++_}
+use mathlib.Core.List.{List, [], _∷_, _++_, map}
 use Prim.Native.Nat.{ℕ, _%_}
+use lib.ListN.{length}
 use Rattle.format.specs.Reading.{Prototype}
-use Rattle.prototype.specs.declared.row.FunctionRow.{FunctionRow}
-use Rattle.prototype.specs.Inner.Row.{rowOf}
+use Rattle.prototype.specs.declared.pass.HeadCounts.{HeadCounts}
+use Rattle.prototype.specs.declared.pass.TailCounts.{TailCounts}
+
+abbrev pub COLUMNS : ℕ
+COLUMNS = 12
 
 abbrev pub low : ℕ → ℕ
 low n = n % 4294967296
 
-abbrev pub storedRow : FunctionRow → List ℕ
-storedRow row =
-    low (row .start)
-    ∷ low (row .end)
-    ∷ low (row .depth)
-    ∷ low (row .parent)
-    ∷ low (row .lists .instructions .count)
-    ∷ low (row .lists .constants .count)
-    ∷ low (row .lists .upvalues .count)
-    ∷ low (row .lists .protos .count)
-    ∷ low (row .lists .«line_info» .count)
-    ∷ low (row .lists .«abs_line_info» .count)
-    ∷ low (row .lists .«loc_vars» .count)
-    ∷ low (row .lists .«upvalue_names» .count)
-    ∷ []
+abbrev pub storedRow : ℕ → ℕ → ℕ → ℕ → HeadCounts → TailCounts → List ℕ
+storedRow start end depth parent head tail =
+    map low (start ∷ end ∷ depth ∷ parent
+    ∷ head .instructions ∷ head .constants ∷ head .upvalues ∷ head .protos
+    ∷ tail .«line_info» ∷ tail .«abs_line_info» ∷ tail .«loc_vars» ∷ tail .«upvalue_names» ∷ [])
+
+abbrev pub storedFunction : Prototype → List ℕ
+storedFunction p =
+    map low (p .start ∷ p .end ∷ p .depth ∷ p .parent
+    ∷ length (p .instructions) ∷ length (p .constants) ∷ length (p .upvalues) ∷ p .protos
+    ∷ length (p .line-info) ∷ length (p .abs-line-info) ∷ length (p .loc-vars) ∷ length (p .upvalue-names) ∷ [])
 
 abbrev pub stored : List Prototype → List ℕ
 stored [] = []
-stored (p ∷ ps) = storedRow (rowOf p) ++ stored ps
+stored (p ∷ ps) = storedFunction p ++ stored ps

@@ -9,7 +9,7 @@ use Rattle.format.specs.Reading.{Prototype}
 use Rattle.format.specs.GrammarChunk as grammar
 use Rattle.format.specs.Read.{Read, ok}
 use Rattle.lent.specs.Inner.Splice.{splice}
-use Rattle.index_row.specs.Inner.Stored.{stored}
+use Rattle.index_row.specs.Inner.Stored.{COLUMNS, stored}
 
 pub record Wrote (w : grammar.Where) (o : Read (List Prototype)) (l l′ : List ℕ) : Type 0 where
-  pub wrote : (ps : List Prototype) (to : ℕ) (rest : Bytes) → o ≡ ok ps to rest → 12 * (w .number + length ps) ≤ length l → l′ ≡ splice (12 * w .number) (stored ps) l
+  pub wrote : (ps : List Prototype) (to : ℕ) (rest : Bytes) → o ≡ ok ps to rest → COLUMNS * (w .number + length ps) ≤ length l → l′ ≡ splice (COLUMNS * w .number) (stored ps) l

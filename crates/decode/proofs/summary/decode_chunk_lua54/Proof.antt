@@ -1,10 +1,6 @@
--- `decode::summary::decode_chunk_lua54` meets its contract: by what `open_chunk` and `find_function` showed (`BeforeMain.antt`), for the row that is read at the spot. Assumes nothing.
-use mathlib.Core.Path.{_≡_, sym, _∙_, ap}
-use Prim.Native.Nat.{_+_, _≤_}
-use native.Mathlib.Omega.{arith}
+-- `decode::summary::decode_chunk_lua54` meets its contract: by what `open_chunk` and `find_row` showed (`BeforeMain.antt`). Assumes nothing.
+use mathlib.Core.Path.{sym, _∙_, ap}
 use borrow.Author.Needs.{needs}
-use Rattle.format.specs.GrammarChunk.{outermost}
-use Rattle.chunk.specs.Inner.Spot.{rowed, rowedResult}
 use Rattle.decode.specs.declared.summary.DecodedResult.the-variants as decoded
 use Rattle.decode.specs.Inner.Decoded.{decodedResult}
 use Rattle.decode.proofs.Summaries.{in-ceilings}
@@ -12,17 +8,13 @@ use Rattle.decode.proofs.BeforeMain.{not-opened, in-limits, decoded-ref
 use Rattle.decode.proofs.summary.decode_chunk_lua54.Statement.{statement}
 use Rattle.decode.proofs.summary.decode_chunk_lua54.Tie as tie
 
-find-function-requires : tie.Need-find-function-requires
-find-function-requires c κs =
-    let p = c .before in
-    let k = p .before .before in
+find-row-requires : tie.Need-find-row-requires
+find-row-requires c κs =
+    let k = c .before .before in
     let o = k .before .before in
     let a = o .before .before .args in
     let l = in-ceilings (a .limits) (in-limits (a .limits) (a .s .now) (k .begins2 .given .0 .0) (sym (k .begins2 .given .1) ∙ o .open-chunk .ensures)) in
-    let nesting = l .0 in
-    let number : p .outermost .result .number ≤ 16777216 = rw (p .outermost .ensures) (omega arith) in
-    let depth : p .outermost .result .depth + a .limits .«max_nesting_depth» ≤ 200 = rw (p .outermost .ensures) (omega arith) in
-    (l .1, l .2, number, depth)
+    (l .1, l .2, l .0)
 
 returns : tie.Need-returns
 returns c =
@@ -33,36 +25,28 @@ returns c =
 returns-2 : tie.Need-returns-2
 returns-2 c =
     let f = c .before .before .before in
-    let p = f .before .before in
-    let k = p .before .before in
+    let k = f .before .before .before in
     let o = k .before .before in
     let a = o .before .before .args in
-    decoded-refused (a .limits) (a .s .now) (k .begins2 .given .0 .0) (sym (k .begins2 .given .1) ∙ o .open-chunk .ensures)
-    (a .wanted) _ (ap (rowedResult (a .limits) (a .s .now)) (sym (c .before .functions .given .1)) ∙ f .find-function .ensures .0 outermost (p .outermost .ensures))
+    decoded-refused (a .limits) (a .s .now) (k .begins2 .given .0 .0) (sym (k .begins2 .given .1) ∙ o .open-chunk .ensures) (a .wanted) _ (sym (c .before .found .given .1) ∙ f .find-row .ensures)
 
 returns-3 : tie.Need-returns-3
 returns-3 c =
-    let r = c .before in
-    let n = r .before .before .before in
+    let n = c .before .before .before in
     let f = n .before .before in
-    let p = f .before .before in
-    let k = p .before .before in
+    let k = f .before .before .before in
     let o = k .before .before in
     let a = o .before .before .args in
-    let walked = n .functions2 .given .0 .0 in
-    (λ i. decoded.Ok (record { summary = c .summarised .ensures i; row = r .row-at .ensures i }))
-    ∙ decoded-read (a .limits) (a .s .now) (k .begins2 .given .0 .0) (sym (k .begins2 .given .1) ∙ o .open-chunk .ensures)
-    (a .wanted) (rowed (a .limits) (a .s .now) walked) (ap (rowedResult (a .limits) (a .s .now)) (sym (n .functions2 .given .1)) ∙ f .find-function .ensures .0 outermost (p .outermost .ensures))
+    ap (λ y. decoded.Ok (record { summary = y; row = n .found2 .given .0 .1 .0 })) (c .summarised .ensures)
+    ∙ decoded-read (a .limits) (a .s .now) (k .begins2 .given .0 .0) (sym (k .begins2 .given .1) ∙ o .open-chunk .ensures) (a .wanted) _ _ (sym (n .found2 .given .1) ∙ f .find-row .ensures)
 
 pub decode-chunk-lua54-spec : {M : Type 1} → statement M
 decode-chunk-lua54-spec =
     tie.close
     (tie.spec
     (λ c κs. search needs) (λ c. search needs) (λ c. search needs)
-    (λ c κs. search needs)
-    find-function-requires
+    find-row-requires
     (λ c. search needs) (λ c. search needs)
-    (λ c κs. search needs)
     (λ c κs. search needs)
     returns
     returns-2

@@ -1,7 +1,7 @@
 -- The proof of the cycle of calls {skim_function, skim_functions}. A function at n levels calls `skim_functions` at n levels, and that calls
 -- `skim_function` at n - 1: the measure is 2n + 1 for the one and 2n for the other. What each return shows is in Passes.antt and SoFar.antt.
 -- Assumes nothing.
-use Prim.Native.Nat.{ℕ, _<_, _≤_, _*_, _+_, _-_}
+use Prim.Native.Nat.{ℕ, _<_, _*_, _+_}
 use mathlib.Core.Path.{_≡_, refl, sym, _∙_}
 use mathlib.Core.List.{List, []}
 use lib.ListN.{drop}
