@@ -6,6 +6,7 @@
     python3 docs/believed.py table       the table of docs/PROOF.md: the files in reading order, with their lines
     python3 docs/believed.py check       is that table in docs/PROOF.md, does every theorem stand where PROOF.md says, has crate lua54 every call that
                                          is promised, and is README's program the one that is proved? Exit status 1 if not
+    python3 docs/believed.py write       puts the counts and that table into docs/PROOF.md
     python3 docs/believed.py unreached   definitions in specs/ that no promise reaches (inner contracts use them)
 
 A promise is a public theorem of the files in PROMISES: its statement counts, not its proof. From the names in a
@@ -252,6 +253,14 @@ def main(words):
     word = words[0] if words else ''
     if word == 'table':
         print(table(every))
+        return
+    if word == 'write':
+        path = os.path.join(ROOT, 'docs/PROOF.md')
+        text = open(path, encoding='utf-8').read()
+        for c in counts:
+            text = re.sub(r'(?m)^(   - )' + c.split(':')[0] + ': .*$', lambda m: m.group(1) + c, text)
+        text = re.sub(r'(?s)\| says \| lines \|.*?\| \*\*in all\*\* \| [^\n]*', lambda m: table(every), text)
+        open(path, 'w', encoding='utf-8').write(text)
         return
     if word == 'check':
         text = open(os.path.join(ROOT, 'docs/PROOF.md'), encoding='utf-8').read()
