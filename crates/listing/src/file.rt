@@ -18,6 +18,6 @@ fn list_into(fd: i32, buf: &mut [u8], out: &mut Out)
 // The buffer has one byte more than the longest file that is read: where it is filled, the file is too long.
 pub fn list_file(fd: i32) {
     let mut buf = [0u8; LONGEST + 1];
-    let mut out = [0u8; 65536];
+    let mut out = [0u8; print::ROOM];
     list_into(fd, &mut buf, &mut out);
 }

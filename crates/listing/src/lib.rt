@@ -2,9 +2,9 @@
 pub mod file;
 
 ghost use mathlib.Core.Path.{_≡_};
-ghost use Prim.Native.Nat.{_≤_, _<_};
+ghost use Prim.Native.Nat.{_≤_};
 ghost use lib.ListN.{length};
-ghost use Rattle.print.specs.Output.{waiting, puts};
+ghost use Rattle.print.specs.Output.{Fits, waiting, puts};
 ghost use Rattle.format.specs.ReadChunk.{read};
 ghost use Rattle.functions.specs.Inner.Rows.{chunkRows};
 ghost use Rattle.listing.specs.Listing as listings;
@@ -54,8 +54,8 @@ fn function_lines(
     used: usize,
 ) -> usize
     requires { ⌜ (limits .«max_total_instructions» ≤ 16777216) × (length (chunkRows limits (now s) (start .at)) ≡ n) ⌝ }
-    requires { ⌜ used < 65536 ⌝ }
-    ensures { λ r. ⌜ r < 65536 ⌝ }
+    requires { ⌜ Fits used ⌝ }
+    ensures { λ r. ⌜ Fits r ⌝ }
     ensures { λ r. ⌜ waiting (now (out .exit)) r ≡ puts (rowLines 0 (chunkRows limits (now (s .entry)) (start .at))) (waiting (now (out .entry)) used) ⌝ }
 {
     let mut left = [0; 202];
@@ -79,8 +79,8 @@ fn function_lines(
 
 // All that is printed of a file. Ruled out: trailing bytes not counted, every function shown at depth 0.
 pub fn listing(s: &[u8], out: &mut Out, used: usize) -> usize
-    requires { ⌜ used < 65536 ⌝ }
-    ensures { λ r. ⌜ r < 65536 ⌝ }
+    requires { ⌜ Fits used ⌝ }
+    ensures { λ r. ⌜ Fits r ⌝ }
     ensures { λ r. ⌜ waiting (now (out .exit)) r ≡ puts (listings.listing (now (s .entry))) (waiting (now (out .entry)) used) ⌝ }
 {
     let limits = list_limits();
@@ -99,8 +99,8 @@ fn chunk_lines(
     out: &mut Out,
     used: usize,
 ) -> usize
-    requires { ⌜ used < 65536 ⌝ }
-    ensures { λ r. ⌜ r < 65536 ⌝ }
+    requires { ⌜ Fits used ⌝ }
+    ensures { λ r. ⌜ Fits r ⌝ }
     ensures { λ r. ⌜ waiting (now (out .exit)) r ≡ puts (linesOf (length (now (s .entry))) verdict (read limits (now (s .entry)))) (waiting (now (out .entry)) used) ⌝ }
 {
     let judged = judge_chunk(s, limits);

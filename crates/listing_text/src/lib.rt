@@ -1,9 +1,8 @@
 // The lines of a listing. Each printer answers how many bytes wait in the buffer then (crate print).
 ghost use mathlib.Core.Path.{_≡_};
 ghost use mathlib.Core.List.{_++_};
-ghost use Prim.Native.Nat.{_<_};
 ghost use lib.ListN.{length};
-ghost use Rattle.print.specs.Output.{waiting, puts};
+ghost use Rattle.print.specs.Output.{Fits, waiting, puts};
 ghost use Rattle.rules.specs.Findings.{verdictWord};
 ghost use Rattle.listing_text.specs.Lines.{decimal, spaced, firstLine, atPlace, refusalLine};
 ghost use Rattle.listing_text.specs.Inner.Rows.{rowLine};
@@ -16,8 +15,8 @@ use rules::finding::Verdict;
 
 // A number behind a label.
 fn labelled(out: &mut Out, used: usize, label: &[u8], n: u64) -> usize
-    requires { ⌜ used < 65536 ⌝ }
-    ensures { λ r. ⌜ r < 65536 ⌝ }
+    requires { ⌜ Fits used ⌝ }
+    ensures { λ r. ⌜ Fits r ⌝ }
     ensures { λ r. ⌜ waiting (now (out .exit)) r ≡ puts (now (label .entry) ++ decimal n) (waiting (now (out .entry)) used) ⌝ }
 {
     let at = print::text(out, used, label);
@@ -26,8 +25,8 @@ fn labelled(out: &mut Out, used: usize, label: &[u8], n: u64) -> usize
 
 // A number, nine more, and a newline.
 fn numbers(out: &mut Out, used: usize, first: u64, more: &[u64; 9]) -> usize
-    requires { ⌜ (used < 65536) × (length (now more) ≡ 9) ⌝ }
-    ensures { λ r. ⌜ r < 65536 ⌝ }
+    requires { ⌜ Fits used × (length (now more) ≡ 9) ⌝ }
+    ensures { λ r. ⌜ Fits r ⌝ }
     ensures { λ r. ⌜ waiting (now (out .exit)) r ≡ puts (decimal first ++ spaced (now (more .entry))) (waiting (now (out .entry)) used) ⌝ }
 {
     let mut at = print::decimal(out, used, first);
@@ -41,8 +40,8 @@ fn numbers(out: &mut Out, used: usize, first: u64, more: &[u64; 9]) -> usize
 
 // The line of a function.
 pub fn function_line(out: &mut Out, used: usize, number: usize, row: Row) -> usize
-    requires { ⌜ used < 65536 ⌝ }
-    ensures { λ r. ⌜ r < 65536 ⌝ }
+    requires { ⌜ Fits used ⌝ }
+    ensures { λ r. ⌜ Fits r ⌝ }
     ensures { λ r. ⌜ waiting (now (out .exit)) r ≡ puts (rowLine number row) (waiting (now (out .entry)) used) ⌝ }
 {
     let more = [
@@ -61,8 +60,8 @@ pub fn function_line(out: &mut Out, used: usize, number: usize, row: Row) -> usi
 
 // 01's word for a verdict.
 fn verdict_word(out: &mut Out, used: usize, verdict: Verdict) -> usize
-    requires { ⌜ used < 65536 ⌝ }
-    ensures { λ r. ⌜ r < 65536 ⌝ }
+    requires { ⌜ Fits used ⌝ }
+    ensures { λ r. ⌜ Fits r ⌝ }
     ensures { λ r. ⌜ waiting (now (out .exit)) r ≡ puts (verdictWord verdict) (waiting (now (out .entry)) used) ⌝ }
 {
     match verdict {
@@ -81,8 +80,8 @@ pub fn first_line(
     trailing: usize,
     verdict: Verdict,
 ) -> usize
-    requires { ⌜ used < 65536 ⌝ }
-    ensures { λ r. ⌜ r < 65536 ⌝ }
+    requires { ⌜ Fits used ⌝ }
+    ensures { λ r. ⌜ Fits r ⌝ }
     ensures { λ r. ⌜ waiting (now (out .exit)) r ≡ puts (firstLine bytes functions trailing verdict) (waiting (now (out .entry)) used) ⌝ }
 {
     let at = labelled(out, used, b"chunk ", bytes as u64);
@@ -95,8 +94,8 @@ pub fn first_line(
 
 // The place of a refusal, if it has one.
 fn at_place(out: &mut Out, used: usize, place: Place) -> usize
-    requires { ⌜ used < 65536 ⌝ }
-    ensures { λ r. ⌜ r < 65536 ⌝ }
+    requires { ⌜ Fits used ⌝ }
+    ensures { λ r. ⌜ Fits r ⌝ }
     ensures { λ r. ⌜ waiting (now (out .exit)) r ≡ puts (atPlace place) (waiting (now (out .entry)) used) ⌝ }
 {
     match place {
@@ -107,8 +106,8 @@ fn at_place(out: &mut Out, used: usize, place: Place) -> usize
 
 // The line of a refusal.
 pub fn refusal_line(out: &mut Out, used: usize, why: Refusal) -> usize
-    requires { ⌜ used < 65536 ⌝ }
-    ensures { λ r. ⌜ r < 65536 ⌝ }
+    requires { ⌜ Fits used ⌝ }
+    ensures { λ r. ⌜ Fits r ⌝ }
     ensures { λ r. ⌜ waiting (now (out .exit)) r ≡ puts (refusalLine why) (waiting (now (out .entry)) used) ⌝ }
 {
     let report = report_refusal(why);

@@ -2,22 +2,24 @@
 // for one more. Each function answers how many wait then.
 ghost use mathlib.Core.Path.{_≡_};
 ghost use mathlib.Core.List.{[]};
-ghost use Prim.Native.Nat.{_≤_, _<_};
+ghost use Prim.Native.Nat.{_≤_};
 ghost use lib.ListN.{length};
-ghost use Rattle.print.specs.Output.{waiting, putOf, puts, Digits};
+ghost use Rattle.print.specs.Output.{Fits, waiting, putOf, puts, Digits};
 use libc::STDOUT_FILENO;
 
 // The buffer.
-pub type Out = [u8; 65536];
+pub const ROOM: usize = 65536;
+
+pub type Out = [u8; ROOM];
 
 // One byte. A buffer that is full is written out.
 fn put(out: &mut Out, used: usize, byte: u8) -> usize
-    requires { ⌜ used < 65536 ⌝ }
-    ensures { λ r. ⌜ r < 65536 ⌝ }
+    requires { ⌜ Fits used ⌝ }
+    ensures { λ r. ⌜ Fits r ⌝ }
     ensures { λ r. ⌜ waiting (now (out .exit)) r ≡ putOf byte (waiting (now (out .entry)) used) ⌝ }
 {
     out[used] = byte;
-    if used + 1 < 65536 {
+    if used + 1 < ROOM {
         return used + 1;
     }
     io::write_all(STDOUT_FILENO, out);
@@ -32,8 +34,8 @@ pub fn flush(out: &[u8], used: usize)
 }
 
 pub fn text(out: &mut Out, used: usize, s: &[u8]) -> usize
-    requires { ⌜ used < 65536 ⌝ }
-    ensures { λ r. ⌜ r < 65536 ⌝ }
+    requires { ⌜ Fits used ⌝ }
+    ensures { λ r. ⌜ Fits r ⌝ }
     ensures { λ r. ⌜ waiting (now (out .exit)) r ≡ puts (now (s .entry)) (waiting (now (out .entry)) used) ⌝ }
 {
     let mut at = used;
@@ -46,8 +48,8 @@ pub fn text(out: &mut Out, used: usize, s: &[u8]) -> usize
 }
 
 pub fn decimal(out: &mut Out, used: usize, n: u64) -> usize
-    requires { ⌜ used < 65536 ⌝ }
-    ensures { λ r. ⌜ r < 65536 ⌝ }
+    requires { ⌜ Fits used ⌝ }
+    ensures { λ r. ⌜ Fits r ⌝ }
     ensures { λ r. ⌜ Digits 10 1 [] n (waiting (now (out .entry)) used) (waiting (now (out .exit)) r) ⌝ }
 {
     let mut digits = [0u8; 20];
@@ -57,8 +59,8 @@ pub fn decimal(out: &mut Out, used: usize, n: u64) -> usize
 
 // A number behind its label.
 pub fn field(out: &mut Out, used: usize, label: &[u8], n: u64) -> usize
-    requires { ⌜ used < 65536 ⌝ }
-    ensures { λ r. ⌜ r < 65536 ⌝ }
+    requires { ⌜ Fits used ⌝ }
+    ensures { λ r. ⌜ Fits r ⌝ }
 {
     let used = text(out, used, label);
     decimal(out, used, n)

@@ -46,27 +46,16 @@ pub fn string(got: &mut Numbers, at: usize, chunk: &[u8], place: u64, len: u64) 
 fn summary(chunk: &[u8], limits: &[u64; 9], got: &mut Numbers) -> usize {
     let mut out = [0u64; 14];
     let status = lafzimdo_summary(chunk, limits, &mut out);
+    summary_numbers(chunk, status, &out, got)
+}
+
+// The array, and the trailing bytes.
+fn summary_numbers(chunk: &[u8], status: u64, out: &[u64; 14], got: &mut Numbers) -> usize {
     let at = list::push(got, 0, status);
     if status != 0 {
         return at;
     }
-    let all = [
-        out[0],
-        out[1],
-        out[2],
-        out[3],
-        out[4],
-        out[5],
-        out[6],
-        out[7],
-        out[8],
-        out[9],
-        out[10],
-        out[11],
-        out[12],
-        out[13],
-    ];
-    let at = list::longs(got, at, &all, 0, 14);
+    let at = list::longs(got, at, out, 0, 14);
     list::bytes(got, at, chunk, out[8] as usize, out[9] as usize)
 }
 
@@ -89,27 +78,18 @@ fn measure(chunk: &[u8], limits: &[u64; 9], got: &mut Numbers) -> usize {
 fn function(chunk: &[u8], limits: &[u64; 9], f: usize, got: &mut Numbers) -> usize {
     let mut out = [0u64; 18];
     let status = lafzimdo_function(chunk, limits, f, &mut out);
-    let at = three(got, 0, status, out[0], out[1], out[2]);
+    function_numbers(chunk, status, &out, got)
+}
+
+// The array, with the bytes of the source.
+fn function_numbers(chunk: &[u8], status: u64, out: &[u64; 18], got: &mut Numbers) -> usize {
+    let at = list::push(got, 0, status);
     if status != 0 {
         return at;
     }
+    let at = list::longs(got, at, out, 0, 3);
     let at = string(got, at, chunk, out[3], out[4]);
-    let rest = [
-        out[5],
-        out[6],
-        out[7],
-        out[8],
-        out[9],
-        out[10],
-        out[11],
-        out[12],
-        out[13],
-        out[14],
-        out[15],
-        out[16],
-        out[17],
-    ];
-    list::longs(got, at, &rest, 0, 13)
+    list::longs(got, at, out, 5, 13)
 }
 
 fn line(
@@ -172,7 +152,7 @@ pub fn ask(kind: u8, chunk: &[u8], limits: &[u64; 9], args: &Numbers, got: &mut 
         b'r' => lent::index(chunk, limits, a, b, c, got),
         b'v' => lent::findings(chunk, limits, a, b, c, got),
         b'g' => records::findings(chunk, limits, got),
-        b'w' => words::decode(args[0], got),
+        b'w' => words::decode(args, got),
         b'e' => words::encode(args, got),
         _ => entries::entries(kind, chunk, limits, a, got),
     }

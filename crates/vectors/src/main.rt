@@ -1,6 +1,5 @@
 // Asks the exported calls what the lines on standard input ask, and compares the answers with those that the lines give (docs/PROTOCOL.md). A line of output for each difference, and last how
 // many agree and how many differ.
-ghost use Prim.Native.Nat.{_<_};
 ghost use lib.ListN.{length};
 ghost use Rattle.text.specs.Inner.Lines.{Within};
 
@@ -37,6 +36,16 @@ struct State {
 
 fn bad(s: State) -> State {
     report::no_request(s.lines);
+    let tally = differed(s.tally);
+    State {
+        len: s.len,
+        lines: s.lines,
+        tally,
+    }
+}
+
+fn long(s: State) -> State {
+    report::too_long(s.lines);
     let tally = differed(s.tally);
     State {
         len: s.len,
@@ -131,7 +140,7 @@ fn respond_line(
         return s;
     }
     if line.len() > LONGEST {
-        return bad(s);
+        return long(s);
     }
     if token::begins(line, b"chunk ") {
         return chunk_line(line, chunk, s);

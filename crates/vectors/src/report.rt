@@ -1,14 +1,15 @@
 // What is printed: a line for each difference, and last how many answers agreed.
-ghost use Prim.Native.Nat.{_<_};
+ghost use Rattle.print.specs.Output.{Fits};
 use compare_lists::Tally;
 use compare_lists::first_difference;
 use print::Out;
+use print::ROOM;
 use text::list;
 
 // A number of a list behind its label, or that there is none.
 fn number(out: &mut Out, used: usize, label: &[u8], numbers: &[u64], at: usize) -> usize
-    requires { ⌜ used < 65536 ⌝ }
-    ensures { λ r. ⌜ r < 65536 ⌝ }
+    requires { ⌜ Fits used ⌝ }
+    ensures { λ r. ⌜ Fits r ⌝ }
 {
     if at < numbers.len() {
         return print::field(out, used, label, numbers[at]);
@@ -35,17 +36,17 @@ fn note(out: &mut Out, line: u64, why: &[u8]) {
 }
 
 pub fn no_request(line: u64) {
-    let mut out = [0u8; 65536];
+    let mut out = [0u8; ROOM];
     note(&mut out, line, b" is no request\n");
 }
 
-fn too_long(line: u64) {
-    let mut out = [0u8; 65536];
+pub fn too_long(line: u64) {
+    let mut out = [0u8; ROOM];
     note(&mut out, line, b" is too long\n");
 }
 
 fn reported(line: u64, want: &[u64], got: &[u64]) {
-    let mut out = [0u8; 65536];
+    let mut out = [0u8; ROOM];
     first(&mut out, line, want, got);
 }
 
@@ -67,7 +68,7 @@ pub fn difference(line: u64, want: &[u64], from: usize, to: usize, got: &[u64], 
 }
 
 pub fn totals(t: Tally) {
-    let mut out = [0u8; 65536];
+    let mut out = [0u8; ROOM];
     sum(&mut out, t);
 }
 

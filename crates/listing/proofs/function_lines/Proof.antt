@@ -2,13 +2,13 @@
 -- Assumes nothing.
 use borrow.Author.Needs.{needs}
 use mathlib.Core.Path.{_≡_, refl, _∙_}
-use Prim.Native.Nat.{_+_, _<_}
+use Prim.Native.Nat.{_+_}
 use native.Mathlib.Omega.{arith}
 use lib.ListN.{set, replicate, length-set}
 use lib.ListN as lists
 use Rattle.functions.specs.Inner.Rows.{rowsFrom, chunkRows}
 use Rattle.functions.proofs.RowLaws.{at-start}
-use Rattle.print.specs.Output.{waiting, puts}
+use Rattle.print.specs.Output.{Fits, waiting, puts}
 use Rattle.listing_text.specs.Inner.Rows.{rowLine}
 use Rattle.listing.specs.Inner.Rows.{rowLines}
 use Rattle.listing_text.proofs.Laws.{puts-append, nothing}
@@ -19,7 +19,7 @@ abbrev Inv-loop : tie.InvT-loop
 Inv-loop s limits n out₀ used left₀ depth₀ at₀ number₀ used₀ out left depth at number used' =
     (lists.length left ≡ 202)
     × (number + lists.length (rowsFrom limits s left depth (at .at)) ≡ n)
-    × (used' < 65536)
+    × Fits used'
     × (puts (rowLines number (rowsFrom limits s left depth (at .at))) (waiting out used') ≡ puts (rowLines 0 (chunkRows limits s (at₀ .at))) (waiting out₀ used))
 
 abbrev μ-loop : tie.MeasureT-loop

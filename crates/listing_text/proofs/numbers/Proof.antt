@@ -2,10 +2,10 @@
 -- Assumes nothing.
 use borrow.Author.Needs.{needs}
 use mathlib.Core.Path.{_≡_, refl, sym, _∙_}
-use Prim.Native.Nat.{_≤_, _<_, _-_}
+use Prim.Native.Nat.{_≤_, _-_}
 use native.Mathlib.Omega.{arith}
 use lib.ListN.{length, drop}
-use Rattle.print.specs.Output.{waiting, puts}
+use Rattle.print.specs.Output.{Fits, waiting, puts}
 use Rattle.listing_text.specs.Lines.{decimal, spaced}
 use Rattle.listing_text.proofs.Laws.{then, digits-put, spaced-one, spaced-end}
 use Rattle.listing_text.proofs.numbers.Statement.{statement}
@@ -14,7 +14,7 @@ use Rattle.listing_text.proofs.numbers.Tie as tie
 abbrev Inv-loop : tie.InvT-loop
 Inv-loop out₀ used first more at₀ i₀ t7 t8 out at i =
     (i ≤ 9)
-    × (at < 65536)
+    × Fits at
     × (puts (spaced (drop i more)) (waiting out at) ≡ puts (spaced more) (waiting out₀ at₀))
 
 abbrev μ-loop : tie.MeasureT-loop

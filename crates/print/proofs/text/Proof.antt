@@ -1,11 +1,11 @@
 -- `print::text` meets its contract. The invariant: what the whole puts is what the rest puts. The measure is what is left of the
 -- text. Assumes nothing.
 use mathlib.Core.Path.{_≡_, refl, sym, ap, _∙_}
-use Prim.Native.Nat.{_≤_, _<_, _-_}
+use Prim.Native.Nat.{_≤_, _-_}
 use native.Mathlib.Omega.{arith}
 use borrow.Author.Needs.{needs}
 use lib.ListN.{length, drop}
-use Rattle.print.specs.Output.{waiting, puts}
+use Rattle.print.specs.Output.{Fits, waiting, puts}
 use Rattle.print.proofs.OutputLaws.{puts-one, puts-end}
 use Rattle.print.proofs.text.Statement.{statement}
 use Rattle.print.proofs.text.Tie as tie
@@ -13,7 +13,7 @@ use Rattle.print.proofs.text.Tie as tie
 abbrev Inv-loop : tie.InvT-loop
 Inv-loop out₀ used s at₀ i₀ out at i =
     (i ≤ length s)
-    × (at < 65536)
+    × Fits at
     × (puts (drop i s) (waiting out at) ≡ puts s (waiting out₀ used))
 
 abbrev μ-loop : tie.MeasureT-loop
