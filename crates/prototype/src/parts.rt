@@ -55,13 +55,8 @@ fn read_head_lists(
 ) -> HeadListsResult
     ensures { λ r. ⌜ r ≡ headListsResult (parts.headLists limits before (cursor .at) (drop (cursor .at) (now (s .entry)))) ⌝ }
 {
-    let code = instructions_list(
-        s,
-        cursor,
-        limits.max_instructions_per_proto,
-        before,
-        limits.max_total_instructions,
-    );
+    let most = limits.max_instructions_per_proto;
+    let code = instructions_list(s, cursor, most, before, limits.max_total_instructions);
     let code = match code {
         ListResult::Err(refusal) => return HeadListsResult::Err(refusal),
         ListResult::Ok { count, place, next } => passed(count, place, next),
