@@ -1,4 +1,4 @@
 // chunk.rs, decoding: one function of a chunk, found by its number in one walk over the file, and its row.
 pub mod find;
-pub mod row;
-pub mod spot;
+mod row;
+mod spot;
