@@ -7,22 +7,26 @@ use finding_plan::FindingsAnswer;
 use findings::validate_chunk_lua54;
 use format::limits::ResourceLimits;
 use rules::finding::Finding;
+use rules::finding::MAX_DIAGNOSTICS;
 use rules::finding::Rule;
+
+// As many findings as there can be: the last instruction may add two.
+const LONGEST: usize = MAX_DIAGNOSTICS as usize + 1;
 
 pub struct FindingArray {
     pub answer: FindingsAnswer,
-    pub list: [Finding; 10001],
+    pub list: [Finding; LONGEST],
 }
 
 // Records that mean nothing.
-pub fn blank() -> [Finding; 10001]
+fn blank() -> [Finding; LONGEST]
     ensures { λ r. ⌜ r ≡ blankList ⌝ }
 {
     [Finding {
         function: 0,
         pc: 0,
         rule: Rule::Register(0),
-    }; 10001]
+    }; LONGEST]
 }
 
 // The verdict, the number of findings and the findings, in the order found, in the first places.

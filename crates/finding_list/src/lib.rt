@@ -2,8 +2,10 @@
 ghost use mathlib.Core.Path.{_≡_};
 ghost use Prim.Native.Nat.{_+_, _*_, _/_, _<_, _≤_};
 ghost use lib.ListN.{length, take};
+ghost use Rattle.format.specs.Limits.{MOST};
 ghost use Rattle.format.specs.ReadChunk.{read};
 ghost use Rattle.lent.specs.Inner.Splice.{splice};
+ghost use Rattle.rules.specs.Findings.{MAX-DIAGNOSTICS};
 ghost use Rattle.validator.specs.Inner.Position.{outOf};
 ghost use Rattle.finding_plan.specs.Validated.{shownFindings};
 ghost use Rattle.boundary.specs.Status.{limitsOf, status, written};
@@ -71,8 +73,8 @@ fn write_findings(
     count: usize,
     list: &mut [u64],
 )
-    requires { ⌜ (4 * count ≤ length (now list)) × (count ≤ length (outOf limits (now chunk) 10000 start .findings)) × (0 < count → limits .«max_total_instructions» ≤ 16777216) ⌝ }
-    ensures { λ _. ⌜ now (list .exit) ≡ splice 0 (listNumbers (take count (outOf limits (now (chunk .entry)) 10000 start .findings))) (now (list .entry)) ⌝ }
+    requires { ⌜ (4 * count ≤ length (now list)) × (count ≤ length (outOf limits (now chunk) MAX-DIAGNOSTICS start .findings)) × (0 < count → limits .«max_total_instructions» ≤ MOST) ⌝ }
+    ensures { λ _. ⌜ now (list .exit) ≡ splice 0 (listNumbers (take count (outOf limits (now (chunk .entry)) MAX-DIAGNOSTICS start .findings))) (now (list .entry)) ⌝ }
 {
     let mut p = start;
     let mut k = 0;

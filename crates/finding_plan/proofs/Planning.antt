@@ -9,6 +9,7 @@ use lib.Dec.{leb}
 use lib.ListN.{length}
 use lib.Seq.{take-length}
 use borrow.Author.Tests.{leb-true, lt-leb, le-leb}
+use Rattle.format.specs.Limits.{MOST}
 use Rattle.format.specs.declared.limits.ResourceLimits.{ResourceLimits}
 use Rattle.format.specs.declared.refusal.Refusal.{Refusal}
 use Rattle.format.specs.declared.refusal.Refusal.the-variants.{LentSpace}
@@ -43,7 +44,7 @@ module _ (L : ResourceLimits) (s : Bytes) (room : ℕ) (start : Position) where
   abbrev all : Listing
   all = outOf L s MAX-DIAGNOSTICS start
 
-  module _ (r : Reading) (is : read L s ≡ shown r) (same : all ≡ chunkFindings r) (few : L .«max_total_instructions» ≤ 16777216) where
+  module _ (r : Reading) (is : read L s ≡ shown r) (same : all ≡ chunkFindings r) (few : L .«max_total_instructions» ≤ MOST) where
     answer-is : shownFindings room (read L s) ≡ listingAnswer room all
     answer-is = ap (shownFindings room) is ∙ ap (listingAnswer room) (sym same)
 

@@ -1,6 +1,7 @@
 // What the writer goes by: every decision before it writes, and one step.
 ghost use mathlib.Core.Path.{_≡_};
 ghost use Prim.Native.Nat.{_<_, _≤_};
+ghost use Rattle.format.specs.Limits.{MOST};
 ghost use Rattle.format.specs.ReadChunk as format;
 ghost use Rattle.rules.specs.Findings.{MAX-DIAGNOSTICS};
 ghost use Rattle.validator.specs.Inner.Position.{outOf, stepped, startPosition};
@@ -11,6 +12,7 @@ use decode::summary::JudgedResult;
 use decode::summary::judge_chunk;
 use format::limits::ResourceLimits;
 use format::refusal::Refusal;
+use rules::finding::MAX_DIAGNOSTICS;
 use rules::finding::Verdict;
 use validator::search::Position;
 use validator::search::Step;
@@ -46,11 +48,11 @@ fn refused(refusal: Refusal) -> Plan
 
 // All findings where there is room for them, and else none.
 fn decide(s: &[u8], limits: ResourceLimits, room: usize, place: Cursor, kept: u64) -> Plan
-    requires { ⌜ limits .«max_total_instructions» ≤ 16777216 ⌝ }
+    requires { ⌜ limits .«max_total_instructions» ≤ MOST ⌝ }
     ensures { λ r. ⌜ r ≡ planOf (outOf limits (now (s .entry)) MAX-DIAGNOSTICS (startPosition (place .at) kept)) room (startPosition (place .at) kept) ⌝ }
 {
     let first = start(place, kept);
-    let totals = tally(s, limits, 10000, place, kept);
+    let totals = tally(s, limits, MAX_DIAGNOSTICS, place, kept);
     let count = totals.count as usize;
     if room < count {
         return Plan {
@@ -83,8 +85,8 @@ pub fn prepare(s: &[u8], limits: ResourceLimits, room: usize) -> Plan
 
 // One step of the search, up to the maximum of the Rust.
 pub fn forward(s: &[u8], limits: ResourceLimits, p: Position) -> Step
-    requires { ⌜ limits .«max_total_instructions» ≤ 16777216 ⌝ }
-    ensures { λ r. ⌜ outOf limits (now (s .entry)) 10000 p ≡ stepped limits (now (s .entry)) 10000 r ⌝ }
+    requires { ⌜ limits .«max_total_instructions» ≤ MOST ⌝ }
+    ensures { λ r. ⌜ outOf limits (now (s .entry)) MAX-DIAGNOSTICS p ≡ stepped limits (now (s .entry)) MAX-DIAGNOSTICS r ⌝ }
 {
-    advance(s, limits, 10000, p)
+    advance(s, limits, MAX_DIAGNOSTICS, p)
 }

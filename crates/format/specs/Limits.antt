@@ -1,20 +1,29 @@
 -- The ceilings of the nine limits (01, 'Limits').
+--     DEEPEST, MOST        the ceiling of nesting, and that of lengths and counts
 --     ceilings             the largest limits
 --     withinCeilings l     no limit of l is above its ceiling: the test behind refusal 21
+--     Walkable l           so few functions and instructions in all that a walk can count them
 use mathlib.Core.Bool.{Bool, _&&_}
 use lib.Dec.{leb}
+use Prim.Native.Nat.{ℕ, _≤_}
 use Rattle.format.specs.declared.limits.ResourceLimits.{ResourceLimits}
+
+abbrev pub DEEPEST : ℕ
+DEEPEST = 200
+
+abbrev pub MOST : ℕ
+MOST = 16777216
 
 abbrev pub ceilings : ResourceLimits
 ceilings = record {
-  «max_input_bytes» = 16777216;
-  «max_nesting_depth» = 200;
-  «max_total_prototypes» = 16777216;
-  «max_instructions_per_proto» = 16777216;
-  «max_total_instructions» = 16777216;
-  «max_constants_per_proto» = 16777216;
-  «max_upvalues_per_proto» = 16777216;
-  «max_string_bytes» = 16777216;
+  «max_input_bytes» = MOST;
+  «max_nesting_depth» = DEEPEST;
+  «max_total_prototypes» = MOST;
+  «max_instructions_per_proto» = MOST;
+  «max_total_instructions» = MOST;
+  «max_constants_per_proto» = MOST;
+  «max_upvalues_per_proto» = MOST;
+  «max_string_bytes» = MOST;
   «max_diagnostics» = 10000;
 }
 
@@ -29,3 +38,6 @@ withinCeilings l =
     && leb (l .«max_upvalues_per_proto») (ceilings .«max_upvalues_per_proto»)
     && leb (l .«max_string_bytes») (ceilings .«max_string_bytes»)
     && leb (l .«max_diagnostics») (ceilings .«max_diagnostics»)
+
+abbrev pub Walkable : ResourceLimits → Type 0
+Walkable l = (l .«max_total_prototypes» ≤ MOST) × (l .«max_total_instructions» ≤ MOST)

@@ -4,6 +4,11 @@ ghost use lib.Dec.{leb};
 ghost use mathlib.Core.Bool.{_&&_};
 ghost use Rattle.format.specs.Limits.{ceilings, withinCeilings};
 
+// The ceiling of nesting, and that of lengths and counts (by the same names in specs/Limits.antt).
+pub const DEEPEST: usize = 200;
+
+pub const MOST: usize = 16777216;
+
 // The limits of a reading, with the names of the Rust.
 pub struct ResourceLimits {
     pub max_input_bytes: usize,
@@ -23,14 +28,14 @@ impl ResourceLimits {
         ensures { λ r. ⌜ r ≡ ceilings ⌝ }
     {
         ResourceLimits {
-            max_input_bytes: 16777216,
-            max_nesting_depth: 200,
-            max_total_prototypes: 16777216,
-            max_instructions_per_proto: 16777216,
-            max_total_instructions: 16777216,
-            max_constants_per_proto: 16777216,
-            max_upvalues_per_proto: 16777216,
-            max_string_bytes: 16777216,
+            max_input_bytes: MOST,
+            max_nesting_depth: DEEPEST,
+            max_total_prototypes: MOST,
+            max_instructions_per_proto: MOST,
+            max_total_instructions: MOST,
+            max_constants_per_proto: MOST,
+            max_upvalues_per_proto: MOST,
+            max_string_bytes: MOST,
             max_diagnostics: 10000,
         }
     }

@@ -9,12 +9,13 @@ use native.Mathlib.Omega.{arith}
 use lib.ListN.{length, getD, set, length-set}
 use lib.Seq.{getD-set-same, getD-set-other}
 use Rattle.format.specs.declared.limits.ResourceLimits.{ResourceLimits}
+use Rattle.format.specs.Limits.{DEEPEST}
 use Rattle.format.specs.Form.{Bytes}
 use Rattle.prototype.specs.declared.parts.HeadResult.{HeadResult}
 use Rattle.prototype.specs.declared.parts.HeadResult.the-variants as head-answer
 use Rattle.prototype.specs.declared.parts.TailResult.{TailResult}
 use Rattle.prototype.specs.declared.parts.TailResult.the-variants as tail-answer
-use Rattle.functions.specs.Inner.Rows.{rowShown, headAt, tailAt, onHead, onTail, Walked, through, cut, before, andThen, times, bodyAt, functionAt, rowsOf, chunkRows, onward, rowsFrom, entered}
+use Rattle.functions.specs.Inner.Rows.{LEVELS, rowShown, headAt, tailAt, onHead, onTail, Walked, through, cut, before, andThen, times, bodyAt, functionAt, rowsOf, chunkRows, onward, rowsFrom, entered}
 use Rattle.functions.specs.declared.Row.{Row}
 
 -- laws of `onward`
@@ -59,7 +60,7 @@ above L s left zero behind = []
 above L s left (suc d) behind = onTail (tailAt L s behind) [] (rowsFrom L s left d)
 
 module _ (L : ResourceLimits) (s : Bytes) where
-  rows-are : (left : List ℕ) (d at : ℕ) → rowsFrom L s left d at ≡ onward (times (functionAt L s (201 - d)) (getD left d 0) at) (above L s left d)
+  rows-are : (left : List ℕ) (d at : ℕ) → rowsFrom L s left d at ≡ onward (times (functionAt L s (LEVELS - d)) (getD left d 0) at) (above L s left d)
   unfolding rowsFrom
   rows-are left zero at = refl
   rows-are left (suc d) at = refl
@@ -70,7 +71,7 @@ module _ (L : ResourceLimits) (s : Bytes) where
   rows-set left k n zero at h = rw (getD-set-other left k 0 n 0 (λ e. omega arith))
   rows-set left k n (suc d) at h =
       rw (getD-set-other left k (suc d) n 0 (λ e. omega arith))
-      (onward-same (times (functionAt L s (201 - suc d)) (getD left (suc d) 0) at) _ _ (λ behind.
+      (onward-same (times (functionAt L s (LEVELS - suc d)) (getD left (suc d) 0) at) _ _ (λ behind.
       tail-same (tailAt L s behind) _ _ (λ p. rows-set left k n d p (omega arith))))
 
   above-set : (left : List ℕ) (k n d behind : ℕ) → d ≤ k → above L s (set left k n) d behind ≡ above L s left d behind
@@ -87,18 +88,18 @@ module _ (L : ResourceLimits) (s : Bytes) where
   none-here left zero at h e = absurd (e refl)
   none-here left (suc d) at h e = rw (rows-are left (suc d) at, times-none _ _ at h, sub-one (suc d))
 
-  pub too-deep : (left : List ℕ) (d at : ℕ) → 0 < getD left d 0 → 201 ≤ d → rowsFrom L s left d at ≡ []
+  pub too-deep : (left : List ℕ) (d at : ℕ) → 0 < getD left d 0 → LEVELS ≤ d → rowsFrom L s left d at ≡ []
   unfolding functionAt
-  too-deep left d at h e = let z : 201 - d ≡ 0 = omega arith in rw (rows-are left d at, times-more _ _ at h, z)
+  too-deep left d at h e = let z : LEVELS - d ≡ 0 = omega arith in rw (rows-are left d at, times-more _ _ at h, z)
 
   -- one function of a level, by what comes behind the level
   level-more : (levels n at : ℕ) (k : ℕ → List Row) → 0 < n → onward (times (functionAt L s (suc levels)) n at) k
-      ≡ onHead (200 - levels) (headAt L s at) [] (λ row first. row ∷ onward (times (functionAt L s levels) (row .protos .count) first) (λ behind.
+      ≡ onHead (DEEPEST - levels) (headAt L s at) [] (λ row first. row ∷ onward (times (functionAt L s levels) (row .protos .count) first) (λ behind.
       onTail (tailAt L s behind) [] (λ p. onward (times (functionAt L s (suc levels)) (n - 1) p) k)))
   unfolding functionAt bodyAt
   level-more levels n at k h =
       rw (times-more _ n at h, onward-then)
-      (onward-head (200 - levels) (headAt L s at) _ _ _ (λ row first.
+      (onward-head (DEEPEST - levels) (headAt L s at) _ _ _ (λ row first.
       onward-before (row ∷ []) (andThen (times (functionAt L s levels) (row .protos .count) first) (λ behind. onTail (tailAt L s behind) (cut []) (through []))) _
       ∙ ap (λ (l : List Row). row ∷ l)
       (onward-then (times (functionAt L s levels) (row .protos .count) first) _ _ ∙ onward-same (times (functionAt L s levels) (row .protos .count) first) _ _ (λ behind. onward-tail (tailAt L s behind) _))))
@@ -109,33 +110,33 @@ module _ (L : ResourceLimits) (s : Bytes) where
 
   -- the rows at a level of which one function was taken
   one-fewer : (left : List ℕ) (d n p : ℕ) → d + 1 < length left
-      → rowsFrom L s (entered left d n) d p ≡ onward (times (functionAt L s (201 - d)) (getD left d 0 - 1) p) (above L s left d)
+      → rowsFrom L s (entered left d n) d p ≡ onward (times (functionAt L s (LEVELS - d)) (getD left d 0 - 1) p) (above L s left d)
   one-fewer left d n p fits =
       rw (rows-set (set left d (getD left d 0 - 1)) (d + 1) n d p (omega arith), rows-are (set left d (getD left d 0 - 1)) d p, getD-set-same left d (getD left d 0 - 1) 0 (omega arith))
-      (onward-same (times (functionAt L s (201 - d)) (getD left d 0 - 1) p) _ _ (λ behind. above-set left d (getD left d 0 - 1) d behind (omega arith)))
+      (onward-same (times (functionAt L s (LEVELS - d)) (getD left d 0 - 1) p) _ _ (λ behind. above-set left d (getD left d 0 - 1) d behind (omega arith)))
 
-  entered-rows : (left : List ℕ) (d n first : ℕ) → d < 201 → d + 1 < length left → rowsFrom L s (entered left d n) (d + 1) first
-      ≡ onward (times (functionAt L s (200 - d)) n first) (λ behind.
-      onTail (tailAt L s behind) [] (λ p. onward (times (functionAt L s (201 - d)) (getD left d 0 - 1) p) (above L s left d)))
+  entered-rows : (left : List ℕ) (d n first : ℕ) → d < LEVELS → d + 1 < length left → rowsFrom L s (entered left d n) (d + 1) first
+      ≡ onward (times (functionAt L s (DEEPEST - d)) n first) (λ behind.
+      onTail (tailAt L s behind) [] (λ p. onward (times (functionAt L s (LEVELS - d)) (getD left d 0 - 1) p) (above L s left d)))
   entered-rows left d n first low fits =
-      let z : 201 - (d + 1) ≡ 200 - d = omega arith in
+      let z : LEVELS - (d + 1) ≡ DEEPEST - d = omega arith in
       rw (rows-are (entered left d n) (d + 1) first, z, getD-set-same (set left d (getD left d 0 - 1)) (d + 1) n 0 (rw length-set (omega arith)))
-      (onward-same (times (functionAt L s (200 - d)) n first) _ _ (λ behind.
+      (onward-same (times (functionAt L s (DEEPEST - d)) n first) _ _ (λ behind.
       above-next (entered left d n) d behind ∙ tail-same (tailAt L s behind) _ _ (λ p. one-fewer left d n p fits)))
 
-  pub one-more : (left : List ℕ) (d at : ℕ) → 0 < getD left d 0 → d < 201 → length left ≡ 202
+  pub one-more : (left : List ℕ) (d at : ℕ) → 0 < getD left d 0 → d < LEVELS → length left ≡ LEVELS + 1
       → rowsFrom L s left d at ≡ onHead d (headAt L s at) [] (λ row first. row ∷ rowsFrom L s (entered left d (row .protos .count)) (d + 1) first)
   one-more left d at h low long =
       let fits : d + 1 < length left = omega arith in
-      let z : 201 - d ≡ suc (200 - d) = omega arith in
-      let here : 200 - (200 - d) ≡ d = omega arith in
-      rw (rows-are left d at, z, level-more (200 - d) _ at _ h, here)
+      let z : LEVELS - d ≡ suc (DEEPEST - d) = omega arith in
+      let here : DEEPEST - (DEEPEST - d) ≡ d = omega arith in
+      rw (rows-are left d at, z, level-more (DEEPEST - d) _ at _ h, here)
       (head-same d (headAt L s at) _ _ (λ row first. rw (entered-rows left d (row .protos .count) first low fits, z)))
 
   -- the whole chunk: one function, at the top
   pub at-start : (left : List ℕ) (at : ℕ) → getD left 0 0 ≡ 1 → rowsFrom L s left 0 at ≡ chunkRows L s at
   unfolding chunkRows rowsFrom times
-  at-start left at e = rw e (only (functionAt L s 201 at))
+  at-start left at e = rw e (only (functionAt L s LEVELS at))
     where
       only : (w : Walked) → onward (andThen w (through [])) (λ behind. []) ≡ rowsOf w
       only (through rows place) = simp append-nil

@@ -1,6 +1,7 @@
 // The functions of a chunk in the order in which their bytes begin, without recursion: a level for each function that is open, and in
 // `left` how many functions of that level are still to come.
 use cursor::Cursor;
+use format::limits::DEEPEST;
 use format::limits::ResourceLimits;
 use prototype::front::Lines;
 use prototype::front::Sizes;
@@ -11,9 +12,17 @@ use prototype::parts::read_head;
 use prototype::parts::read_tail;
 use prototype::row::ListAt;
 ghost use mathlib.Core.Path.{_≡_};
-ghost use Prim.Native.Nat.{_≤_};
+ghost use Prim.Native.Nat.{_+_, _<_, _≤_};
 ghost use lib.ListN.{length, getD};
-ghost use Rattle.functions.specs.Inner.Rows.{rowShown, rowsFrom, met, upTo, Within, Ready};
+ghost use Rattle.format.specs.Limits.{MOST};
+ghost use Rattle.functions.specs.Inner.Rows.{LEVELS, rowShown, rowsFrom, met, entered, upTo, Within, Ready};
+
+// Levels of functions, main's included.
+const LEVELS: usize = DEEPEST + 1;
+// One more: the functions in one of the last level have a count too.
+pub const COUNTS: usize = LEVELS + 1;
+// How many functions are still to come, level by level.
+pub type Levels = [usize; COUNTS];
 
 // A function's level, main's being 0, and what stands before its nested functions, without its source.
 pub struct Row {
@@ -46,39 +55,33 @@ fn row_of(depth: usize, head: Head) -> Row
     }
 }
 
-fn left_at(left: &[usize; 202], d: usize) -> usize
-    requires { ⌜ length (now left) ≡ 202 ⌝ }
+fn left_at(left: &Levels, d: usize) -> usize
+    requires { ⌜ length (now left) ≡ LEVELS + 1 ⌝ }
     ensures { λ r. ⌜ r ≡ getD (now (left .entry)) d 0 ⌝ }
 {
-    if d < 202 {
+    if d < COUNTS {
         return left[d];
     }
     0
 }
 
 // Where the next function begins, and its level.
-pub enum Up {
+enum Up {
     At(usize, Cursor),
     End,
 }
 
 // From a place in a function whose nested functions are at the level `depth`: the tails of the functions that have no more in them, up to
 // one that has.
-pub fn go_up(
-    s: &[u8],
-    limits: ResourceLimits,
-    left: &[usize; 202],
-    depth: usize,
-    cursor: Cursor,
-) -> Up
-    requires { ⌜ length (now left) ≡ 202 ⌝ }
+fn go_up(s: &[u8], limits: ResourceLimits, left: &Levels, depth: usize, cursor: Cursor) -> Up
+    requires { ⌜ length (now left) ≡ LEVELS + 1 ⌝ }
     ensures { λ r. ⌜ (rowsFrom limits (now (s .entry)) (now (left .entry)) depth (cursor .at) ≡ upTo limits (now (s .entry)) (now (left .entry)) r) × Ready (now (left .entry)) r ⌝ }
 {
     let mut d = depth;
     let mut i = cursor;
     loop {
         if 0 < left_at(left, d) {
-            if 201 <= d {
+            if LEVELS <= d {
                 return Up::End;
             }
             return Up::At(d, i);
@@ -104,11 +107,11 @@ pub enum Met {
 pub fn next_function(
     s: &[u8],
     limits: ResourceLimits,
-    left: &[usize; 202],
+    left: &Levels,
     depth: usize,
     cursor: Cursor,
 ) -> Met
-    requires { ⌜ (length (now left) ≡ 202) × (limits .«max_total_instructions» ≤ 16777216) ⌝ }
+    requires { ⌜ (length (now left) ≡ LEVELS + 1) × (limits .«max_total_instructions» ≤ MOST) ⌝ }
     ensures { λ r. ⌜ (rowsFrom limits (now (s .entry)) (now (left .entry)) depth (cursor .at) ≡ met limits (now (s .entry)) (now (left .entry)) r) × Within (now (left .entry)) r ⌝ }
 {
     let Up::At(d, place) = go_up(s, limits, left, depth, cursor) else {
@@ -119,4 +122,13 @@ pub fn next_function(
     };
     let row = row_of(d, head);
     Met::Function(row, d, next)
+}
+
+// Goes on into a function of level d in which n nest: one fewer is still to come at its level, and n at the one below.
+pub fn go_down(left: &mut Levels, d: usize, n: usize)
+    requires { ⌜ (length (now left) ≡ LEVELS + 1) × (d < LEVELS) × (0 < getD (now left) d 0) ⌝ }
+    ensures { λ _. ⌜ now (left .exit) ≡ entered (now (left .entry)) d n ⌝ }
+{
+    left[d] = left[d] - 1;
+    left[d + 1] = n;
 }

@@ -13,7 +13,7 @@ use Rattle.format.specs.declared.limits.ResourceLimits.{ResourceLimits}
 use Rattle.format.specs.declared.refusal.Refusal.{Refusal}
 use Rattle.format.specs.declared.refusal.Refusal.the-variants.{LimitAboveCeiling, InputBytes}
 use Rattle.format.specs.Form.{Bytes}
-use Rattle.format.specs.Limits.{withinCeilings}
+use Rattle.format.specs.Limits.{withinCeilings, MOST}
 use Rattle.format.specs.Reading.{Prototype}
 use Rattle.format.specs.ReadChunk.{refusal, outcome, main, read}
 use Rattle.format.proofs.Located.{Located}
@@ -31,12 +31,12 @@ use Rattle.lines.specs.Inner.Scan.{answered, shownRowLine}
 
 -- ## The input limit
 module _ (L : ResourceLimits) (s : Bytes) (f : ℕ) (x : FunctionRow) where
-  pub input-low : row.Ok x ≡ shownRowAnswer (functionOf f (read L s)) → length s ≤ 16777216
+  pub input-low : row.Ok x ≡ shownRowAnswer (functionOf f (read L s)) → length s ≤ MOST
   unfolding read
   input-low e = by (withinCeilings L) refl (leb (length s) (L .«max_input_bytes»)) refl e
     where
       by : (t : Bool) → withinCeilings L ≡ t → (u : Bool) → leb (length s) (L .«max_input_bytes») ≡ u
-          → row.Ok x ≡ shownRowAnswer (functionOf f (cond t (cond u (outcome L (main L 0 s)) (refusal InputBytes)) (refusal LimitAboveCeiling))) → length s ≤ 16777216
+          → row.Ok x ≡ shownRowAnswer (functionOf f (cond t (cond u (outcome L (main L 0 s)) (refusal InputBytes)) (refusal LimitAboveCeiling))) → length s ≤ MOST
       by true p true q e = omega (arith, input-ceiling L p, leb-true (length s) (L .«max_input_bytes») q)
       by true p false q e = absurd (let z : _≡_ {A = ℕ} 0 1 = cc in omega arith)
       by false p u q e = absurd (let z : _≡_ {A = ℕ} 0 1 = cc in omega arith)

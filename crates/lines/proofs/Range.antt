@@ -14,6 +14,7 @@ use lib.ListN.{length, take, drop, length-take, length-drop}
 use lib.Signed.{mag}
 use mir.Syntax.{w8, w64}
 use mir.Val.{SFits, toZ}
+use Rattle.format.specs.Limits.{MOST}
 use Rattle.format.specs.declared.entry.AbsLineInfo.{AbsLineInfo}
 use Rattle.format.specs.Form.{Bytes}
 use Rattle.format.proofs.Every.{All}
@@ -82,7 +83,7 @@ mag-walked anchors low (d ∷ ds) m wide i z h =
     omega (arith, mag-walked anchors low ds (m + 128) (omega arith) (i + 1) (stepped anchors i z d) (mag-stepped anchors low m wide i z d h))
 
 -- the line behind each delta on the way, k of them
-pub sums-fit : (line-defined : ℕ) (deltas : Bytes) (anchors : List AbsLineInfo) (pc : ℕ) → large line-defined anchors ≡ false → length deltas ≤ 16777216
+pub sums-fit : (line-defined : ℕ) (deltas : Bytes) (anchors : List AbsLineInfo) (pc : ℕ) → large line-defined anchors ≡ false → length deltas ≤ MOST
     → let base = baseOf pc (record { pc = 0; line = line-defined }) anchors in (k : ℕ) → SFits w64 (walked anchors (base .pc) (pos (base .line)) (take k (drop (base .pc) (take (pc + 1) deltas))))
 sums-fit line-defined deltas anchors pc small few k =
     let low = all-low line-defined anchors small in
@@ -92,5 +93,5 @@ sums-fit line-defined deltas anchors pc small few k =
     let shorter : length ds ≤ length deltas = simp (length-take, length-drop) (omega arith) in
     record { sfits = in-range _ (length ds) (mag-walked anchors (low .1) ds (2 ^ 62) (omega arith) (base .pc) (pos (base .line)) (omega arith)) (omega arith) }
   where
-    in-range : (m n : ℕ) → m ≤ 2 ^ 62 + 128 * n → n ≤ 16777216 → m < 2 ^ 63
+    in-range : (m n : ℕ) → m ≤ 2 ^ 62 + 128 * n → n ≤ MOST → m < 2 ^ 63
     in-range m n h k = omega arith

@@ -6,6 +6,7 @@ use mathlib.Core.List.{List}
 use Prim.Native.Nat.{ℕ, _+_, _^_, _≤_}
 use native.Mathlib.Omega.{arith}
 use lib.ListN.{length, take, drop, length-take, length-drop}
+use Rattle.format.specs.Limits.{MOST}
 use Rattle.format.specs.declared.entry.AbsLineInfo.{AbsLineInfo}
 use Rattle.format.specs.declared.refusal.Refusal.{Refusal}
 use Rattle.format.specs.declared.refusal.Refusal.the-variants.{LineTooLarge}
@@ -106,5 +107,5 @@ module _ (row : FunctionRow) (pc : ℕ) (s : Bytes) where
             shows (small-shown instructions line deltas (p .anchors) pc low
             (is-line ∙ ap (lineFrom z) is ∙ ap (λ z. lineFrom z (take (pc + 1) deltas)) (p .gives) ∙ by-deltas instructions line deltas (p .anchors) pc (same-number (Ahead n) f)))
 
-    pub few : length s ≤ 16777216 → length cut ≤ 16777216
+    pub few : length s ≤ MOST → length cut ≤ MOST
     few h = rw is (simp (length-take, length-drop) (omega arith))

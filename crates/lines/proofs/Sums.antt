@@ -15,6 +15,7 @@ use lib.Signed.{mag, ltZ, nonNeg}
 use mir.Syntax.{w8, w64}
 use mir.Val.{Fits, SFits, toZ, ofZ}
 use mir.Facts.{toZ-pos, toZ-ofZ, fits-natAbs}
+use Rattle.format.specs.Limits.{MOST}
 use Rattle.format.specs.Form.{Bytes}
 use Rattle.anchors.specs.declared.Scan.{Scan}
 use Rattle.lines.specs.Lines.{raised}
@@ -56,13 +57,13 @@ module _ (ds : Bytes) (i : ℕ) (line : ℤ) where
   none-left h = ap (summed line) (drop-beyond ds i h)
 
 -- one turn: the line r behind the delta at i
-pub turn : {whole : ℤ} (ds : Bytes) (i : ℕ) (line : ℤ) → whole ≡ summed line (drop i ds) → mag line ≤ 2 ^ 62 + 128 * i → {r : ℤ} → r ≡ added line (getD ds i 0) → i < length ds → length ds ≤ 16777216
+pub turn : {whole : ℤ} (ds : Bytes) (i : ℕ) (line : ℤ) → whole ≡ summed line (drop i ds) → mag line ≤ 2 ^ 62 + 128 * i → {r : ℤ} → r ≡ added line (getD ds i 0) → i < length ds → length ds ≤ MOST
     → (whole ≡ summed (toZ w64 (ofZ w64 r)) (drop (i + 1) ds)) × (mag (toZ w64 (ofZ w64 r)) ≤ 2 ^ 62 + 128 * (i + 1))
 turn ds i line all low {r} is h few =
     let most : mag r ≤ mag line + 128 = rw is (mag-added line (getD ds i 0)) in
     rw (toZ-ofZ {w = w64} {z = r} (record { sfits = in-range (mag line) i (mag r) low most (omega arith) })) (all ∙ one-added ds i line h ∙ ap (λ z. summed z (drop (i + 1) ds)) (sym is), omega arith)
   where
-    in-range : (m i n : ℕ) → m ≤ 2 ^ 62 + 128 * i → n ≤ m + 128 → i < 16777216 → n < 2 ^ 63
+    in-range : (m i n : ℕ) → m ≤ 2 ^ 62 + 128 * i → n ≤ m + 128 → i < MOST → n < 2 ^ 63
     in-range m i n h k l = omega arith
 
 -- ## line_from

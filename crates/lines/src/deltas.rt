@@ -3,6 +3,7 @@ ghost use mathlib.Core.Path.{_≡_};
 ghost use Prim.Native.Nat.{_+_, _^_, _≤_};
 ghost use lib.ListN.{length, take, drop};
 ghost use lib.Signed.{mag};
+ghost use Rattle.format.specs.Limits.{MOST};
 ghost use Rattle.lines.specs.Lines.{raised};
 ghost use Rattle.lines.specs.Inner.Scan.{added, summed, startIn, lineFrom};
 use anchors::Scan;
@@ -34,7 +35,7 @@ fn add_delta(line: i64, delta: u8) -> i64
 
 // Adds the deltas from a pc on.
 fn add_deltas(deltas: &[u8], from: usize, line: i64) -> i64
-    requires { ⌜ (length (now deltas) ≤ 16777216) × (mag line ≤ 2 ^ 62) ⌝ }
+    requires { ⌜ (length (now deltas) ≤ MOST) × (mag line ≤ 2 ^ 62) ⌝ }
     ensures { λ r. ⌜ r ≡ summed line (drop from (now (deltas .entry))) ⌝ }
 {
     let mut current_line = line;
@@ -70,7 +71,7 @@ fn raise(line: i64) -> usize
 
 // The line that the deltas give, 0 without any.
 pub fn line_from(deltas: &[u8], scan: Scan) -> usize
-    requires { ⌜ (length (now deltas) ≤ 16777216) × (startIn scan .line ≤ 2 ^ 62) ⌝ }
+    requires { ⌜ (length (now deltas) ≤ MOST) × (startIn scan .line ≤ 2 ^ 62) ⌝ }
     ensures { λ r. ⌜ r ≡ lineFrom scan (now (deltas .entry)) ⌝ }
 {
     if deltas.len() == 0 {

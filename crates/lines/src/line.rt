@@ -2,6 +2,7 @@
 ghost use mathlib.Core.Path.{_≡_};
 ghost use Prim.Native.Nat.{_≤_};
 ghost use lib.ListN.{length};
+ghost use Rattle.format.specs.Limits.{MOST};
 ghost use Rattle.format.specs.ReadChunk.{read};
 ghost use Rattle.access.specs.Asked.{functionOf};
 ghost use Rattle.lines.specs.Lines.{shownLine};
@@ -36,7 +37,7 @@ fn numbered(anchors: usize, instructions: usize, sought: Sought) -> Sought
 
 // Of a function's row. Rule 1 gives what rule 4 gives, so it has no test of its own.
 fn line_in_row(s: &[u8], row: FunctionRow, pc: usize) -> LineAnswer
-    requires { ⌜ length (now s) ≤ 16777216 ⌝ }
+    requires { ⌜ length (now s) ≤ MOST ⌝ }
     ensures { λ r. ⌜ r ≡ shownRowLine row pc (now (s .entry)) ⌝ }
 {
     let lists = row.lists;

@@ -4,6 +4,7 @@ pub mod file;
 ghost use mathlib.Core.Path.{_≡_};
 ghost use Prim.Native.Nat.{_≤_, _<_};
 ghost use lib.ListN.{length};
+ghost use Rattle.format.specs.Limits.{MOST};
 ghost use Rattle.print.specs.Output.{waiting, puts};
 ghost use Rattle.format.specs.ReadChunk.{read};
 ghost use Rattle.functions.specs.Inner.Rows.{chunkRows};
@@ -14,7 +15,9 @@ use decode::MAIN_AT;
 use decode::summary::JudgedResult;
 use decode::summary::judge_chunk;
 use format::limits::ResourceLimits;
+use functions::COUNTS;
 use functions::Met;
+use functions::go_down;
 use functions::next_function;
 use listing_text::first_line;
 use listing_text::function_line;
@@ -25,7 +28,7 @@ use validator::verdict::VerdictAnswer;
 use validator::verdict::chunk_verdict;
 
 // The longest file that is read.
-pub const LONGEST: usize = 49152;
+const LONGEST: usize = 49152;
 
 fn list_limits() -> ResourceLimits
     ensures { λ r. ⌜ r ≡ listings.listLimits ⌝ }
@@ -53,12 +56,12 @@ fn function_lines(
     out: &mut Out,
     used: usize,
 ) -> usize
-    requires { ⌜ (limits .«max_total_instructions» ≤ 16777216) × (length (chunkRows limits (now s) (start .at)) ≡ n) ⌝ }
+    requires { ⌜ (limits .«max_total_instructions» ≤ MOST) × (length (chunkRows limits (now s) (start .at)) ≡ n) ⌝ }
     requires { ⌜ used < 65536 ⌝ }
     ensures { λ r. ⌜ r < 65536 ⌝ }
     ensures { λ r. ⌜ waiting (now (out .exit)) r ≡ puts (rowLines 0 (chunkRows limits (now (s .entry)) (start .at))) (waiting (now (out .entry)) used) ⌝ }
 {
-    let mut left = [0; 202];
+    let mut left = [0; COUNTS];
     left[0] = 1;
     let mut depth = 0;
     let mut at = start;
@@ -69,8 +72,7 @@ fn function_lines(
             return used;
         };
         used = function_line(out, used, number, row);
-        left[d] = left[d] - 1;
-        left[d + 1] = row.protos.count;
+        go_down(&mut left, d, row.protos.count);
         depth = d + 1;
         at = first;
         number += 1;

@@ -1,5 +1,8 @@
 // validator.rs: a finding, and the verdict on a chunk.
 
+// So many diagnostics end the search for findings, the warnings of the reading among them.
+pub const MAX_DIAGNOSTICS: u32 = 10000;
+
 // The rule that an instruction breaks, with the number that breaks it: an opcode, a register, an index or a jump's target.
 pub enum Rule {
     Opcode(u8),

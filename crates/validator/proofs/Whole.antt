@@ -6,6 +6,7 @@ use Prim.Native.Nat.{ℕ, zero, suc, _+_, _-_, _≤_, _<_}
 use native.Mathlib.Omega.{arith}
 use lib.ListN.{length, drop}
 use borrow.Author.Tests.{lt-ltb}
+use Rattle.format.specs.Limits.{DEEPEST}
 use Rattle.format.specs.declared.limits.ResourceLimits.{ResourceLimits}
 use Rattle.format.specs.Form.{Bytes}
 use Rattle.format.specs.Reading.{Prototype, Reading}
@@ -59,7 +60,7 @@ module _ (L : ResourceLimits) (s : Bytes) where
 
   -- at the place where main begins
   pub whole : (r : Reading) → All (Located L s) (r .functions) → length (r .functions) ≤ 18446744073709551615
-      → (n : ℕ) → n ≤ 200 → (w : Where) → w .depth ≡ 0 → (at : ℕ) {to : ℕ} {rest : Bytes} → function L n w at (drop at s) ≡ ok (r .functions) to rest
+      → (n : ℕ) → n ≤ DEEPEST → (w : Where) → w .depth ≡ 0 → (at : ℕ) {to : ℕ} {rest : Bytes} → function L n w at (drop at s) ≡ ok (r .functions) to rest
       → outOf L s MAX-DIAGNOSTICS (startPosition at (length (r .warnings))) ≡ chunkFindings r
   unfolding outOf startPosition chunkFindings codeLeft codeGroups wordsAt
   whole r located few n deep w top at e =

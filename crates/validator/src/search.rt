@@ -5,15 +5,20 @@ ghost use mathlib.Core.List.{List};
 ghost use mathlib.Core.Bool.{_||_};
 ghost use lib.Dec.{ltb};
 ghost use lib.ListN.{length};
+ghost use Rattle.format.specs.Limits.{MOST};
 ghost use Rattle.rules.specs.Inner.Judged.{asList};
+ghost use Rattle.validator.specs.declared.search.State.the-variants.{Done};
 ghost use Rattle.validator.specs.Inner.Position.{codeAt, nextNumber, rowBounds, groupsLeft, anyLeft, ofRows, outOf, goesOn, stepped, startPosition};
 use crate::scan::Code;
 use crate::scan::Scanned;
 use crate::scan::scan;
 use cursor::Cursor;
 use format::limits::ResourceLimits;
+use functions::COUNTS;
+use functions::Levels;
 use functions::Met;
 use functions::Row;
+use functions::go_down;
 use functions::next_function;
 use reader::field::U32Result;
 use reader::field::read_u32_le;
@@ -25,7 +30,7 @@ use rules::finding::Rule;
 // The state of a search.
 pub struct Position {
     // The functions left at each level, the level here, and the place behind the last head that was read.
-    pub left: [usize; 202],
+    pub left: Levels,
     pub depth: usize,
     pub at: Cursor,
     // The number of the next function.
@@ -61,7 +66,7 @@ fn next_number(k: usize) -> usize
 
 // What a function's instructions are held against.
 fn bounds_of(row: Row) -> Bounds
-    requires { ⌜ row .instructions .count ≤ 16777216 ⌝ }
+    requires { ⌜ row .instructions .count ≤ MOST ⌝ }
     ensures { λ r. ⌜ r ≡ rowBounds row ⌝ }
 {
     Bounds {
@@ -93,9 +98,20 @@ fn no_finding() -> Finding {
     }
 }
 
+// A step at which there are no more.
+fn done(stopped: bool, p: Position) -> Step
+    ensures { λ r. ⌜ r .state ≡ Done stopped ⌝ }
+{
+    Step {
+        finding: no_finding(),
+        state: State::Done(stopped),
+        next: p,
+    }
+}
+
 // Whether there is a function left.
 fn function_left(s: &[u8], limits: ResourceLimits, p: Position) -> bool
-    requires { ⌜ limits .«max_total_instructions» ≤ 16777216 ⌝ }
+    requires { ⌜ limits .«max_total_instructions» ≤ MOST ⌝ }
     ensures { λ r. ⌜ r ≡ anyLeft (ofRows limits (now (s .entry)) p) ⌝ }
 {
     let left = p.left;
@@ -108,7 +124,7 @@ fn function_left(s: &[u8], limits: ResourceLimits, p: Position) -> bool
 
 // Whether there is an instruction or a function left.
 fn any_left(s: &[u8], limits: ResourceLimits, p: Position) -> bool
-    requires { ⌜ limits .«max_total_instructions» ≤ 16777216 ⌝ }
+    requires { ⌜ limits .«max_total_instructions» ≤ MOST ⌝ }
     ensures { λ r. ⌜ r ≡ anyLeft (groupsLeft limits (now (s .entry)) p) ⌝ }
 {
     let code = p.code;
@@ -129,10 +145,9 @@ fn any_left(s: &[u8], limits: ResourceLimits, p: Position) -> bool
 
 // The next finding, where nothing waits and there is room for one.
 fn search(s: &[u8], limits: ResourceLimits, max: u32, p: Position) -> Step
-    requires { ⌜ (p .found < max) × (limits .«max_total_instructions» ≤ 16777216) ⌝ }
+    requires { ⌜ (p .found < max) × (limits .«max_total_instructions» ≤ MOST) ⌝ }
     ensures { λ r. ⌜ goesOn limits (now (s .entry)) max p ≡ stepped limits (now (s .entry)) max r ⌝ }
 {
-    let found = p.found;
     let mut left = p.left;
     let mut depth = p.depth;
     let mut at = p.at;
@@ -141,7 +156,7 @@ fn search(s: &[u8], limits: ResourceLimits, max: u32, p: Position) -> Step
     loop {
         match scan(s, code) {
             Scanned::Found(first, second, behind) => {
-                let n = counted(found, second);
+                let n = counted(p.found, second);
                 return Step {
                     finding: first,
                     state: State::Found,
@@ -159,14 +174,9 @@ fn search(s: &[u8], limits: ResourceLimits, max: u32, p: Position) -> Step
             Scanned::End => {}
         }
         let Met::Function(row, d, first) = next_function(s, limits, &left, depth, at) else {
-            return Step {
-                finding: no_finding(),
-                state: State::Done(false),
-                next: p,
-            };
+            return done(false, p);
         };
-        left[d] = left[d] - 1;
-        left[d + 1] = row.protos.count;
+        go_down(&mut left, d, row.protos.count);
         depth = d + 1;
         at = first;
         code = enter(row, number);
@@ -176,7 +186,7 @@ fn search(s: &[u8], limits: ResourceLimits, max: u32, p: Position) -> Step
 
 // Before the first instruction of a function.
 fn enter(row: Row, function: usize) -> Code
-    requires { ⌜ row .instructions .count ≤ 16777216 ⌝ }
+    requires { ⌜ row .instructions .count ≤ MOST ⌝ }
     ensures { λ r. ⌜ r ≡ codeAt (rowBounds row) function (row .instructions .place) 0 ⌝ }
 {
     let bounds = bounds_of(row);
@@ -193,7 +203,7 @@ fn enter(row: Row, function: usize) -> Code
 // The next finding, and the position behind it. The maximum is tested before each function and instruction.
 // Ruled out: the test after them, a finding that waits and is lost.
 pub fn advance(s: &[u8], limits: ResourceLimits, max: u32, p: Position) -> Step
-    requires { ⌜ limits .«max_total_instructions» ≤ 16777216 ⌝ }
+    requires { ⌜ limits .«max_total_instructions» ≤ MOST ⌝ }
     ensures { λ r. ⌜ outOf limits (now (s .entry)) max p ≡ stepped limits (now (s .entry)) max r ⌝ }
 {
     let waiting = p.waiting;
@@ -219,11 +229,7 @@ pub fn advance(s: &[u8], limits: ResourceLimits, max: u32, p: Position) -> Step
         OptionFinding::None => {
             if max as u64 <= p.found {
                 let stopped = stops(s, limits, max, p);
-                return Step {
-                    finding: no_finding(),
-                    state: State::Done(stopped),
-                    next: p,
-                };
+                return done(stopped, p);
             }
             search(s, limits, max, p)
         }
@@ -232,7 +238,7 @@ pub fn advance(s: &[u8], limits: ResourceLimits, max: u32, p: Position) -> Step
 
 // Whether a search that has reached the maximum stops: something is left, or there are more than that.
 fn stops(s: &[u8], limits: ResourceLimits, max: u32, p: Position) -> bool
-    requires { ⌜ limits .«max_total_instructions» ≤ 16777216 ⌝ }
+    requires { ⌜ limits .«max_total_instructions» ≤ MOST ⌝ }
     ensures { λ r. ⌜ r ≡ anyLeft (groupsLeft limits (now (s .entry)) p) || ltb max (p .found) ⌝ }
 {
     if any_left(s, limits, p) {
@@ -245,7 +251,7 @@ fn stops(s: &[u8], limits: ResourceLimits, max: u32, p: Position) -> bool
 pub fn start(place: Cursor, kept: u64) -> Position
     ensures { λ r. ⌜ r ≡ startPosition (place .at) kept ⌝ }
 {
-    let mut left = [0; 202];
+    let mut left = [0; COUNTS];
     left[0] = 1;
     Position {
         left,

@@ -15,9 +15,10 @@ use decode::summary::judge_chunk;
 use format::limits::ResourceLimits;
 use format::refusal::Refusal;
 use header::OptionWarning;
+use rules::finding::MAX_DIAGNOSTICS;
 use rules::finding::Verdict;
 
-pub enum TotalsResult {
+enum TotalsResult {
     Ok(Totals),
     Err(Refusal),
 }
@@ -51,7 +52,7 @@ pub fn kept_count(summary: Summary) -> u64
 }
 
 // All findings of a chunk, counted. The first pass judges, the second searches. Ruled out: dropped warnings that count.
-pub fn chunk_totals(s: &[u8], limits: ResourceLimits) -> TotalsResult
+fn chunk_totals(s: &[u8], limits: ResourceLimits) -> TotalsResult
     ensures { λ r. ⌜ r ≡ totalsResult (format.read limits (now (s .entry))) ⌝ }
 {
     let judged = judge_chunk(s, limits);
@@ -59,7 +60,7 @@ pub fn chunk_totals(s: &[u8], limits: ResourceLimits) -> TotalsResult
         JudgedResult::Err(refusal) => TotalsResult::Err(refusal),
         JudgedResult::Ok(summary) => {
             let kept = kept_count(summary);
-            let totals = tally(s, limits, 10000, Cursor { at: MAIN_AT }, kept);
+            let totals = tally(s, limits, MAX_DIAGNOSTICS, Cursor { at: MAIN_AT }, kept);
             TotalsResult::Ok(totals)
         }
     }

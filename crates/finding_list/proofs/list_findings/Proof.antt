@@ -5,6 +5,7 @@ use Prim.Native.Nat.{_/_}
 use borrow.Author.Needs.{needs}
 use lib.ListN.{length}
 use Rattle.format.specs.ReadChunk.{read}
+use Rattle.rules.specs.Findings.{MAX-DIAGNOSTICS}
 use Rattle.validator.specs.Inner.Position.{outOf}
 use Rattle.finding_plan.specs.Validated.{shownFindings}
 use Rattle.boundary.proofs.Calls.{call-refuses, call-answers}
@@ -26,7 +27,7 @@ list-findings-spec =
     let a = p .before .before .before .before .args in
     let plan = p .prepare .result in
     let told = call-refuses ofFindings (λ L. shownFindings (length (a .list .now) / 4) (read L (a .chunk .now))) (a .out .now) l (p .prepare .ensures .answers) (c .before .before .answer .given .1) refl (c .refused .ensures) in
-    let left = all-put (outOf (p .before .limits-of .result) (a .chunk .now) 10000 (plan .start) .findings) (a .list .now) (plan .count) (read (p .before .limits-of .result) (a .chunk .now)) _ (p .prepare .ensures .found) (w .write-findings .ensures) in
+    let left = all-put (outOf (p .before .limits-of .result) (a .chunk .now) MAX-DIAGNOSTICS (plan .start) .findings) (a .list .now) (plan .count) (read (p .before .limits-of .result) (a .chunk .now)) _ (p .prepare .ensures .found) (w .write-findings .ensures) in
     (told .0, (told .1, left ∙ ap (λ L. numbersWritten (a .list .now) (read L (a .chunk .now))) l)))
     (λ c. search needs)
     (λ c.
@@ -37,5 +38,5 @@ list-findings-spec =
     let plan = p .prepare .result in
     let n = c .before .before .before .answer2 .given .0 .1 .0 in
     let told = call-answers ofFindings (λ L. shownFindings (length (a .list .now) / 4) (read L (a .chunk .now))) (a .out .now) l (p .prepare .ensures .answers) (c .before .before .before .answer2 .given .1) refl (c .two .ensures ∙ ap (λ v. v ∷ n ∷ []) (c .before .verdict-number .ensures)) in
-    let left = all-put (outOf (p .before .limits-of .result) (a .chunk .now) 10000 (plan .start) .findings) (a .list .now) (plan .count) (read (p .before .limits-of .result) (a .chunk .now)) _ (p .prepare .ensures .found) (w .write-findings .ensures) in
+    let left = all-put (outOf (p .before .limits-of .result) (a .chunk .now) MAX-DIAGNOSTICS (plan .start) .findings) (a .list .now) (plan .count) (read (p .before .limits-of .result) (a .chunk .now)) _ (p .prepare .ensures .found) (w .write-findings .ensures) in
     (told .0, (told .1, left ∙ ap (λ L. numbersWritten (a .list .now) (read L (a .chunk .now))) l))))

@@ -6,6 +6,7 @@ use native.Mathlib.Omega.{arith}
 use borrow.Author.Needs.{needs}
 use lib.ListN.{length, take}
 use Rattle.lent.specs.Inner.Splice.{splice}
+use Rattle.rules.specs.Findings.{MAX-DIAGNOSTICS}
 use Rattle.validator.specs.Inner.Position.{outOf}
 use Rattle.finding_plan.proofs.Steps.{After, at-first, step-found}
 use Rattle.finding_list.specs.FindingNumbers.{listNumbers}
@@ -15,7 +16,7 @@ use Rattle.finding_list.proofs.write_findings.Tie as tie
 
 abbrev Inv-loop : tie.InvT-loop
 Inv-loop chunk limits count list₀ p₀ k₀ list p k =
-    (k ≤ count) × (length list ≡ length list₀) × (list ≡ splice 0 (listNumbers (take k (outOf limits chunk 10000 p₀ .findings))) list₀) × After (outOf limits chunk 10000 p₀) k (outOf limits chunk 10000 p)
+    (k ≤ count) × (length list ≡ length list₀) × (list ≡ splice 0 (listNumbers (take k (outOf limits chunk MAX-DIAGNOSTICS p₀ .findings))) list₀) × After (outOf limits chunk MAX-DIAGNOSTICS p₀) k (outOf limits chunk MAX-DIAGNOSTICS p)
 
 abbrev μ-loop : tie.MeasureT-loop
 μ-loop chunk limits count list₀ p₀ k₀ list p k = count - k
@@ -26,9 +27,9 @@ loop-again c =
     let went = put .before .before .before in
     let l = went .before .before in
     let a = l .before .before .before in
-    let all = outOf (a .args .limits) (a .args .chunk .now) 10000 (a .args .start) in
+    let all = outOf (a .args .limits) (a .args .chunk .now) MAX-DIAGNOSTICS (a .args .start) in
     let taken = went .before .loop-test .taken in
-    let found = step-found all (l .loop .k) _ (l .loop .inv .3) (a .args .limits) (a .args .chunk .now) 10000 (omega (arith, a .pre .1)) (went .forward .result) (went .forward .ensures) in
+    let found = step-found all (l .loop .k) _ (l .loop .inv .3) (a .args .limits) (a .args .chunk .now) MAX-DIAGNOSTICS (omega (arith, a .pre .1)) (went .forward .result) (went .forward .ensures) in
     (omega arith, search needs, put .put-finding .ensures ∙ next-put (all .findings) (a .args .list .now) (l .loop .k) _ _ (omega (arith, a .pre .1)) (omega (arith, a .pre .0)) (found .0) (l .loop .inv .2), found .1)
 
 pub write-findings-spec : {M : Type 1} → statement M
@@ -38,7 +39,7 @@ write-findings-spec =
     Inv-loop
     μ-loop
     (λ c. let a = c .before .before .args in
-    (omega arith, refl, none-put (outOf (a .limits) (a .chunk .now) 10000 (a .start) .findings) (a .list .now), at-first (outOf (a .limits) (a .chunk .now) 10000 (a .start))))
+    (omega arith, refl, none-put (outOf (a .limits) (a .chunk .now) MAX-DIAGNOSTICS (a .start) .findings) (a .list .now), at-first (outOf (a .limits) (a .chunk .now) MAX-DIAGNOSTICS (a .start))))
     (λ c κs. c .before .before .before .before .pre .2 (omega (arith, c .loop-test .taken)))
     (λ c. search needs)
     (λ c κs.

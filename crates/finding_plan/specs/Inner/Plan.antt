@@ -5,6 +5,7 @@ use mathlib.Core.List.{List, _++_}
 use Prim.Native.Nat.{ℕ, _≤_, _<_}
 use lib.Dec.{leb}
 use lib.ListN.{length, take, drop}
+use Rattle.format.specs.Limits.{MOST}
 use Rattle.format.specs.declared.limits.ResourceLimits.{ResourceLimits}
 use Rattle.format.specs.declared.refusal.Refusal.{Refusal}
 use Rattle.format.specs.declared.refusal.Refusal.the-variants.{LentSpace}
@@ -40,4 +41,4 @@ pub record Planned (L : ResourceLimits) (s : Bytes) (room : ℕ) (p : Plan) : Ty
   pub found : take (p .count) (outOf L s MAX-DIAGNOSTICS (p .start) .findings) ≡ foundIn room (read L s)
   pub within : p .count ≤ room
   pub there : p .count ≤ length (outOf L s MAX-DIAGNOSTICS (p .start) .findings)
-  pub limited : 0 < p .count → L .«max_total_instructions» ≤ 16777216
+  pub limited : 0 < p .count → L .«max_total_instructions» ≤ MOST

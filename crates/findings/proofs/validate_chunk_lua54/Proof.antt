@@ -53,6 +53,7 @@ use denote.Triple.Clauses.{ensured, lasts}
 use denote.Triple.Table.{entered, cited}
 use denote.Triple.Walked.{says, Stays, stay-none, stay-slice, stay-none-slice, walkOf, goes-none, goes-slice, goes-none-slice, Walks, ends-at, walked, walk-meets}
 use denote.Exit.{yes}
+use Rattle.format.specs.Limits.{MOST}
 use Rattle.format.specs.declared.limits.ResourceLimits.{ResourceLimits}
 use Rattle.format.specs.ReadChunk.{read}
 use Rattle.rules.specs.declared.finding.Finding.{Finding}
@@ -184,7 +185,7 @@ module _ {M : Type 1} (𝓤 : URA M) (H : Heap 𝓤) (A : Atoms 𝓤) (W : Given
   abbrev to-forward : Position → Forward 𝓤 H A mem run .Ghost
   to-forward c = (((κ′, tt), (q′, tt), tt, (chunk, (limits, (c, tt))), (ch ∷ [], (limits-val limits ∷ [], (position-val c ∷ [], tt)))), tt)
 
-  goes-forward : (c : Position) → Good c → limits .«max_total_instructions» ≤ 16777216 → ent 𝓤 (sep 𝓤 (A .lft κ′ q′) (sem 𝓤 H A Ch)) (Forward 𝓤 H A mem run .pre (to-forward c))
+  goes-forward : (c : Position) → Good c → limits .«max_total_instructions» ≤ MOST → ent 𝓤 (sep 𝓤 (A .lft κ′ q′) (sem 𝓤 H A Ch)) (Forward 𝓤 H A mem run .pre (to-forward c))
   goes-forward c good few =
       qed W (‵ (flft κ′ q′) ∷ ‵ Ch ∷ []) ∵ says ! few $ nothing ! $ move ! (1 ∷ 0 ∷ []) $ join ! $ frame ! $ nothing ! $ owned ! K.the-row (Is K.the-row) (LL.makes K.the-type K′.the-plain 𝓤 H A) c _ good $ fjoin ! $
       owned ! L.the-row (Is L.the-row) (LL.makes L.the-type L′.the-plain 𝓤 H A) limits _ good-limits $ fjoin ! $ move ! (1 ∷ 0 ∷ []) $ fjoin ! $ done !
@@ -304,7 +305,7 @@ module _ {M : Type 1} (𝓤 : URA M) (H : Heap 𝓤) (A : Atoms 𝓤) (W : Given
           move ! (15 ∷ 16 ∷ []) $ free1 ! $ move ! (13 ∷ 14 ∷ []) $ free1 ! $ move ! (11 ∷ 12 ∷ []) $ free1 ! $ move ! (9 ∷ 10 ∷ []) $ free1 ! $ move ! (7 ∷ 8 ∷ []) $ free1 ! $ move ! (5 ∷ 6 ∷ []) $ free1 ! $ free0 ! $
           by ! (exits (done-to (i .0)) (ap done-to (le-antisymm (i .1 .1 .0) (nltb→le (i .0) count over))) (as-long-as (i .0) (i .1 .1 .0))))
         where
-          few : Holds (ltb (i .0) count) → limits .«max_total_instructions» ≤ 16777216
+          few : Holds (ltb (i .0) count) → limits .«max_total_instructions» ≤ MOST
           few less = e .limited (omega (arith, ltb→lt (i .0) count less))
 
           next-fits : Holds (ltb (i .0) count) → i .0 + 1 < 2 ^ 64

@@ -5,6 +5,7 @@ use Prim.Native.Nat.{ℕ, zero, suc, _+_, _-_, _<_, _≤_}
 use mathlib.Core.List.{List, [], _∷_, _++_}
 use lib.ListN.{drop, getD, set}
 use Rattle.format.specs.declared.limits.ResourceLimits.{ResourceLimits}
+use Rattle.format.specs.Limits.{DEEPEST, MOST}
 use Rattle.format.specs.Form.{Bytes}
 use Rattle.format.specs.Reading.{Prototype}
 use Rattle.prototype.specs.declared.parts.Head.{Head}
@@ -20,6 +21,10 @@ use Rattle.functions.specs.declared.Up.{Up}
 use Rattle.functions.specs.declared.Up.the-variants as up
 use Rattle.functions.specs.declared.Met.{Met}
 use Rattle.functions.specs.declared.Met.the-variants as met-is
+
+-- the levels of functions, main's included
+abbrev pub LEVELS : ℕ
+LEVELS = DEEPEST + 1
 
 abbrev pub rowShown : ℕ → Head → Row
 rowShown depth h = record {
@@ -72,18 +77,18 @@ bodyAt L s depth nested at =
     before (row ∷ []) (andThen (nested (row .protos .count) first) (λ behind.
     onTail (tailAt L s behind) (cut []) (through []))))
 
--- a function, at most so many levels deep: of 201 levels those that are left
+-- a function, at most so many levels deep: of all levels those that are left
 unfoldable pub functionAt : ResourceLimits → Bytes → ℕ → ℕ → Walked
 functionAt L s zero at = cut []
-functionAt L s (suc levels) at = bodyAt L s (200 - levels) (times (functionAt L s levels)) at
+functionAt L s (suc levels) at = bodyAt L s (DEEPEST - levels) (times (functionAt L s levels)) at
 
 abbrev pub rowsOf : Walked → List Row
 rowsOf (through rows place) = rows
 rowsOf (cut rows) = rows
 
--- THE ROWS OF A CHUNK: those of the function at a place, with at most 201 levels
+-- THE ROWS OF A CHUNK: those of the function at a place, with all levels
 unfoldable pub chunkRows : ResourceLimits → Bytes → ℕ → List Row
-chunkRows L s at = rowsOf (functionAt L s 201 at)
+chunkRows L s at = rowsOf (functionAt L s LEVELS at)
 
 -- the rows of a walk, and then those from the place behind it
 abbrev pub onward : Walked → (ℕ → List Row) → List Row
@@ -93,9 +98,9 @@ onward (cut rows) k = rows
 -- WHAT IS STILL TO COME at the place `at` of a function whose nested functions are at the level d: those left at this level, the tail of the
 -- function, and what is still to come one level up
 unfoldable pub rowsFrom : ResourceLimits → Bytes → List ℕ → ℕ → ℕ → List Row
-rowsFrom L s left zero at = onward (times (functionAt L s 201) (getD left 0 0) at) (λ behind. [])
+rowsFrom L s left zero at = onward (times (functionAt L s LEVELS) (getD left 0 0) at) (λ behind. [])
 rowsFrom L s left (suc d) at =
-    onward (times (functionAt L s (201 - suc d)) (getD left (suc d) 0) at) (λ behind.
+    onward (times (functionAt L s (LEVELS - suc d)) (getD left (suc d) 0) at) (λ behind.
     onTail (tailAt L s behind) [] (rowsFrom L s left d))
 
 -- what the code's answers say
@@ -104,7 +109,7 @@ upTo L s left (up.At d place) = rowsFrom L s left d (place .at)
 upTo L s left up.End = []
 
 abbrev pub Ready : List ℕ → Up → Type 0
-Ready left (up.At d place) = (d < 201) × (0 < getD left d 0)
+Ready left (up.At d place) = (d < LEVELS) × (0 < getD left d 0)
 Ready left up.End = Unit {0}
 
 -- one function fewer at the level d, and n at the level below it
@@ -116,7 +121,7 @@ met L s left (met-is.Function row d first) = row ∷ rowsFrom L s (entered left 
 met L s left met-is.End = []
 
 abbrev pub Within : List ℕ → Met → Type 0
-Within left (met-is.Function row d first) = (d < 201) × (0 < getD left d 0) × (row .instructions .count ≤ 16777216)
+Within left (met-is.Function row d first) = (d < LEVELS) × (0 < getD left d 0) × (row .instructions .count ≤ MOST)
 Within left met-is.End = Unit {0}
 
 -- ## What a function of a reading shows

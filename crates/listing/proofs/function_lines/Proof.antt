@@ -6,7 +6,7 @@ use Prim.Native.Nat.{_+_, _<_}
 use native.Mathlib.Omega.{arith}
 use lib.ListN.{set, replicate, length-set}
 use lib.ListN as lists
-use Rattle.functions.specs.Inner.Rows.{rowsFrom, chunkRows}
+use Rattle.functions.specs.Inner.Rows.{LEVELS, rowsFrom, chunkRows}
 use Rattle.functions.proofs.RowLaws.{at-start}
 use Rattle.print.specs.Output.{waiting, puts}
 use Rattle.listing_text.specs.Inner.Rows.{rowLine}
@@ -17,7 +17,7 @@ use Rattle.listing.proofs.function_lines.Tie as tie
 
 abbrev Inv-loop : tie.InvT-loop
 Inv-loop s limits n out₀ used left₀ depth₀ at₀ number₀ used₀ out left depth at number used' =
-    (lists.length left ≡ 202)
+    (lists.length left ≡ LEVELS + 1)
     × (number + lists.length (rowsFrom limits s left depth (at .at)) ≡ n)
     × (used' < 65536)
     × (puts (rowLines number (rowsFrom limits s left depth (at .at))) (waiting out used') ≡ puts (rowLines 0 (chunkRows limits s (at₀ .at))) (waiting out₀ used))
@@ -28,7 +28,7 @@ abbrev μ-loop : tie.MeasureT-loop
 loop-holds : tie.Need-loop-holds Inv-loop μ-loop
 loop-holds c =
     let a = c .before in
-    let whole = at-start (a .args .limits) (a .args .s .now) (set (replicate 202 0) 0 1) (a .args .start .at) refl in
+    let whole = at-start (a .args .limits) (a .args .s .now) (set (replicate (LEVELS + 1) 0) 0 1) (a .args .start .at) refl in
     (search needs, rw whole (omega (arith, a .pre .0 .1)), a .pre .1, rw whole)
 
 returns : tie.Need-returns Inv-loop μ-loop
@@ -36,18 +36,24 @@ returns c =
     let l = c .before .before .before .before .loop in
     (l .inv .2, nothing _ ∙ rw (c .before .before .next-function .ensures .0, c .enum-told .given .1) at (l .inv .3))
 
+go-down-requires : tie.Need-go-down-requires Inv-loop μ-loop
+go-down-requires c κs =
+    let w = rw (c .before .before .before .before .row .given .1) at (c .before .before .before .before .before .before .next-function .ensures .1) in
+    (c .before .before .before .before .before .before .before .before .loop .inv .0, w .0, w .1)
+
 loop-less : tie.Need-loop-less Inv-loop μ-loop
-loop-less c = rw (c .before .before .before .before .before .next-function .ensures .0, c .before .before .before .row .given .1) (omega arith)
+loop-less c = rw (c .go-down .ensures, c .before .before .before .before .before .before .before .next-function .ensures .0, c .before .before .before .before .before .row .given .1) (omega arith)
 
 loop-again : tie.Need-loop-again Inv-loop μ-loop
 loop-again c =
-    let l = c .before .before .before .before .before .before .before .loop in
-    let n = c .before .before .before .before .before .next-function in
-    let row = c .before .before .before .row in (
-      rw (length-set, length-set) (l .inv .0),
-      omega (arith, rw (n .ensures .0, row .given .1) at (l .inv .1)),
-      c .function-line .ensures .0,
-      rw (c .function-line .ensures .1, ← puts-append (rowLine (l .number) (row .given .0 .0)) _ (waiting (l .out) (l .used))) (rw (n .ensures .0, row .given .1) at (l .inv .3)),
+    let l = c .before .before .before .before .before .before .before .before .before .loop in
+    let n = c .before .before .before .before .before .before .before .next-function in
+    let row = c .before .before .before .before .before .row in
+    let line = c .before .before .function-line in (
+      rw (c .go-down .ensures, length-set, length-set) (l .inv .0),
+      rw (c .go-down .ensures) (omega (arith, rw (n .ensures .0, row .given .1) at (l .inv .1))),
+      line .ensures .0,
+      rw (c .go-down .ensures, line .ensures .1, ← puts-append (rowLine (l .number) (row .given .0 .0)) _ (waiting (l .out) (l .used))) (rw (n .ensures .0, row .given .1) at (l .inv .3)),
     )
 
 pub function-lines-spec : {M : Type 1} → statement M
@@ -59,15 +65,8 @@ function-lines-spec =
     (λ c κs. search needs) (λ c. search needs) (λ c. search needs)
     returns
     (λ c κs. search needs)
-    (λ c. omega (arith, (rw (c .before .before .before .row .given .1) at (c .before .before .before .before .before .next-function .ensures .1)) .0))
-    (λ c. omega (arith, (rw (c .before .before .before .row .given .1) at (c .before .before .before .before .before .next-function .ensures .1)) .0))
-    (λ c. omega (arith, (rw (c .before .before .before .row .given .1) at (c .before .before .before .before .before .next-function .ensures .1)) .1))
-    (λ c. omega (arith, (rw (c .before .before .before .row .given .1) at (c .before .before .before .before .before .next-function .ensures .1)) .0))
-    (λ c. omega (arith, (rw (c .before .before .before .row .given .1) at (c .before .before .before .before .before .next-function .ensures .1)) .0))
-    (λ c. omega (arith, (rw (c .before .before .before .row .given .1) at (c .before .before .before .before .before .next-function .ensures .1)) .0))
-    (λ c. omega (arith, (rw (c .before .before .before .row .given .1) at (c .before .before .before .before .before .next-function .ensures .1)) .0))
-    (λ c. omega (arith, (rw (c .before .before .before .row .given .1) at (c .before .before .before .before .before .next-function .ensures .1)) .0))
-    (λ c. omega (arith, (rw (c .before .before .before .row .given .1) at (c .before .before .before .before .before .next-function .ensures .1)) .0))
-    (λ c. omega (arith, rw (c .before .before .before .before .before .next-function .ensures .0, c .before .before .before .row .given .1) at (c .before .before .before .before .before .before .before .loop .inv .1), c .before .before .before .before .before .before .before .before .before .fits .n))
+    go-down-requires
+    (λ c. omega (arith, (rw (c .before .before .before .before .before .row .given .1) at (c .before .before .before .before .before .before .before .next-function .ensures .1)) .0))
+    (λ c. omega (arith, rw (c .before .before .before .before .before .before .before .next-function .ensures .0, c .before .before .before .before .before .row .given .1) at (c .before .before .before .before .before .before .before .before .before .loop .inv .1), c .before .before .before .before .before .before .before .before .before .before .before .fits .n))
     loop-less
     loop-again)

@@ -11,7 +11,7 @@ use Rattle.reader.specs.declared.field.U32Result.{U32Result}
 use Rattle.reader.specs.declared.field.U32Result.the-variants as u32
 use Rattle.reader.specs.Shown.{u32Result}
 use Rattle.functions.specs.declared.Row.{Row}
-use Rattle.functions.specs.Inner.Rows.{rowsFrom}
+use Rattle.functions.specs.Inner.Rows.{LEVELS, rowsFrom}
 use Rattle.rules.specs.declared.finding.Finding.{Finding}
 use Rattle.rules.specs.declared.finding.OptionFinding.the-variants as finding
 use Rattle.rules.specs.declared.finding.Bounds.{Bounds}
@@ -100,7 +100,7 @@ stepped L s max r = stepIs L s max (r .state) (r .finding) (r .next)
 -- the position before everything: one function is left at the top level, at a place, and there are some diagnostics already
 unfoldable pub startPosition : ℕ → ℕ → Position
 startPosition place diagnostics = record {
-  left = set (replicate 202 0) 0 1;
+  left = set (replicate (LEVELS + 1) 0) 0 1;
   depth = 0;
   at = record { at = place };
   number = 0;

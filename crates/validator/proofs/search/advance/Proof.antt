@@ -15,7 +15,7 @@ advance-spec =
     (λ c. search needs)
     (λ c κs. search needs)
     (λ c κs. search needs)
-    (λ c. let a = c .before .before .before .before .before .before .before .args in rw (c .before .before .before .before .enum-told .given .1, limited-full (a .max) (a .p .found) _ (omega (arith, c .before .before .if1 .taken)), c .before .stops .ensures))
+    (λ c. let a = c .before .before .before .before .before .before .before .args in rw (c .before .before .before .before .enum-told .given .1, limited-full (a .max) (a .p .found) _ (omega (arith, c .before .before .if1 .taken)), c .done .ensures, c .before .stops .ensures))
     (λ c κs. search needs)
     (λ c. rw (c .before .before .before .before .waiting .given .1))
     (λ c. rw (c .before .before .before .enum-told .given .1) (c .search .ensures)))

@@ -1,14 +1,14 @@
 -- `validator::search::search` meets its contract. The invariant: what the position that came in stands for is what the variables stand for here;
--- and there are 202 levels. The measure is the functions still to come.
+-- and `left` has LEVELS + 1 counts. The measure is the functions still to come.
 -- Assumes nothing.
 use borrow.Author.Needs.{needs}
 use mathlib.Core.Path.{_≡_, refl, ap}
 use native.Mathlib.Omega.{arith}
-use Prim.Native.Nat.{_<_}
+use Prim.Native.Nat.{_+_, _<_}
 use mathlib.Core.List.{_++_}
 use lib.ListN.{length-set}
 use lib.ListN as lists
-use Rattle.functions.specs.Inner.Rows.{rowsFrom}
+use Rattle.functions.specs.Inner.Rows.{LEVELS, rowsFrom}
 use Rattle.rules.specs.Findings.{limited}
 use Rattle.validator.specs.Inner.Position.{codeLeft, rowGroups, goesOn, outOf}
 use Rattle.validator.proofs.Laws.{limited-found, limited-fine, limited-none, limited-enter}
@@ -16,11 +16,11 @@ use Rattle.validator.proofs.search.search.Statement.{statement}
 use Rattle.validator.proofs.search.search.Tie as tie
 
 abbrev Inv-loop : tie.InvT-loop
-Inv-loop s limits max p found left₀ depth₀ at₀ number₀ code₀ left depth at number code =
-    (lists.length left ≡ 202) × (goesOn limits s max p ≡ limited max found (codeLeft s code ++ rowGroups s number (rowsFrom limits s left depth (at .at))))
+Inv-loop s limits max p left₀ depth₀ at₀ number₀ code₀ left depth at number code =
+    (lists.length left ≡ LEVELS + 1) × (goesOn limits s max p ≡ limited max (p .found) (codeLeft s code ++ rowGroups s number (rowsFrom limits s left depth (at .at))))
 
 abbrev μ-loop : tie.MeasureT-loop
-μ-loop s limits max p found left₀ depth₀ at₀ number₀ code₀ left depth at number code = lists.length (rowsFrom limits s left depth (at .at))
+μ-loop s limits max p left₀ depth₀ at₀ number₀ code₀ left depth at number code = lists.length (rowsFrom limits s left depth (at .at))
 
 returns : tie.Need-returns Inv-loop μ-loop
 unfolding outOf
@@ -48,22 +48,29 @@ returns-2 c =
       n .next-function .ensures .0,
       c .before .enum-told2 .given .1,
       limited-none _ _ room,
+      c .done .ensures,
     )
+
+go-down-requires : tie.Need-go-down-requires Inv-loop μ-loop
+go-down-requires c κs =
+    let w = rw (c .before .before .row .given .1) at (c .before .before .before .before .next-function .ensures .1) in
+    (c .before .before .before .before .before .before .before .before .before .loop .inv .0, w .0, w .1)
 
 loop-less : tie.Need-loop-less Inv-loop μ-loop
 loop-less c =
-    let r = c .before .before .before in
+    let r = c .before .before .before .before .before in
     let n = r .before .before in
-    rw (n .next-function .ensures .0, r .row .given .1) (omega arith)
+    rw (c .before .before .go-down .ensures, n .next-function .ensures .0, r .row .given .1) (omega arith)
 
 loop-again : tie.Need-loop-again Inv-loop μ-loop
 loop-again c =
-    let r = c .before .before .before in
+    let down = c .before .before .go-down in
+    let r = c .before .before .before .before .before in
     let n = r .before .before in
     let e = n .before .before in
     let l = e .before .before .before in
     let room = l .before .before .before .before .before .pre .0 in (
-      rw (length-set, length-set) (l .loop .inv .0),
+      rw (down .ensures, length-set, length-set) (l .loop .inv .0),
       rw (
         l .loop .inv .1,
         limited-fine _ _ room _ _ (rw (e .enum-told .given .1) at (e .before .before .scan .ensures)),
@@ -72,6 +79,7 @@ loop-again c =
         limited-enter _ _ room,
         c .next-number .ensures,
         c .before .enter .ensures,
+        down .ensures,
       ),
     )
 
@@ -90,16 +98,9 @@ search-spec =
     (λ c. search needs)
     (λ c κs. search needs)
     returns-2
-    (λ c. omega (arith, (rw (c .before .row .given .1) at (c .before .before .before .next-function .ensures .1)) .0))
-    (λ c. omega (arith, (rw (c .before .row .given .1) at (c .before .before .before .next-function .ensures .1)) .0))
-    (λ c. omega (arith, (rw (c .before .row .given .1) at (c .before .before .before .next-function .ensures .1)) .1))
-    (λ c. omega (arith, (rw (c .before .row .given .1) at (c .before .before .before .next-function .ensures .1)) .0))
-    (λ c. omega (arith, (rw (c .before .row .given .1) at (c .before .before .before .next-function .ensures .1)) .0))
-    (λ c. omega (arith, (rw (c .before .row .given .1) at (c .before .before .before .next-function .ensures .1)) .0))
-    (λ c. omega (arith, (rw (c .before .row .given .1) at (c .before .before .before .next-function .ensures .1)) .0))
-    (λ c. omega (arith, (rw (c .before .row .given .1) at (c .before .before .before .next-function .ensures .1)) .0))
-    (λ c. omega (arith, (rw (c .before .row .given .1) at (c .before .before .before .next-function .ensures .1)) .0))
-    (λ c κs. (rw (c .before .row .given .1) at (c .before .before .before .next-function .ensures .1)) .2)
+    go-down-requires
+    (λ c. omega (arith, (rw (c .before .before .before .row .given .1) at (c .before .before .before .before .before .next-function .ensures .1)) .0))
+    (λ c κs. (rw (c .before .before .before .row .given .1) at (c .before .before .before .before .before .next-function .ensures .1)) .2)
     (λ c κs. search needs)
     loop-less
     loop-again)
