@@ -15,7 +15,7 @@ use reader::string::OptionString;
 use reader::string::StringAt;
 
 // A string that is there. Ruled out: the length without the 1 that is added, the bytes before the size.
-pub fn put_present(s: &[u8], string: StringAt, out: &mut [u8], at: usize) -> usize
+fn put_present(s: &[u8], string: StringAt, out: &mut [u8], at: usize) -> usize
     ensures { λ r. ⌜ (string .len ≤ length (now (s .entry)) - string .place → Put (shortest (suc (string .len)) ++ take (string .len) (drop (string .place) (now (s .entry)))) at (now (out .entry)) r (now (out .exit))) ⌝ }
 {
     let place = string.place;

@@ -23,6 +23,7 @@ use Rattle.format.proofs.ExactChunk.{exact-counted, exact-countedUpTo, exact-co
 use Rattle.cursor.specs.declared.Cursor.{Cursor}
 use Rattle.cursor.specs.Shown.{cursorAt}
 use Rattle.reader.proofs.Shows.{Showed, onward}
+use Rattle.counted.specs.declared.ListResult.{ListResult}
 use Rattle.counted.specs.declared.ListResult.the-variants as list
 use Rattle.lists.specs.Readers.{Count, protosCount, code, lineInfo}
 use Rattle.counted.specs.Inner.Shown.{listResult, countResult}
@@ -34,6 +35,7 @@ use Rattle.prototype.specs.declared.front.FrontResult.the-variants as fr
 use Rattle.prototype.specs.declared.parts.HeadLists as declared-lists
 use Rattle.prototype.specs.declared.parts.HeadListsResult.the-variants as lists-answer
 use Rattle.prototype.specs.declared.parts.HeadResult.the-variants as head-answer
+use Rattle.prototype.specs.declared.parts.ListEnd.{ListEnd}
 use Rattle.prototype.specs.declared.parts.Tail as declared-tail
 use Rattle.prototype.specs.declared.parts.TailResult.the-variants as tail-answer
 use Rattle.prototype.specs.Front.{Front, front}
@@ -54,6 +56,10 @@ three-path p q r s t u = λ i. three (p i) (q i) (r i) (s i) (t i) (u i)
 list-on : {A : Type 0} {r : Reader (Listed A)} {F : Form (Listed A)} → Exact r F → (s : Bytes) (at count place : ℕ) (c : Cursor) (e : list.Ok count place c ≡ listResult (r at (drop at s)))
     → r at (drop at s) ≡ ok (list-ok (r at (drop at s)) count place c e .value) (c .at) (drop (c .at) s)
 list-on {r} exact s at count place c e = onward exact s at (list-ok (r at (drop at s)) count place c e .was)
+
+-- the same of what `passed` made of it
+pub end-is : {r : ListEnd} {count place : ℕ} {c : Cursor} {x : ListResult} → r ≡ record { list = record { count = count; place = place }; next = c } → list.Ok count place c ≡ x → list.Ok (r .list .count) (r .list .place) (r .next) ≡ x
+end-is e h = rw e h
 
 -- ## The lists before the nested functions
 module _ (s : Bytes) (L : ResourceLimits) (before at : ℕ) where

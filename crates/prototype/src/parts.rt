@@ -26,7 +26,22 @@ pub struct HeadLists {
     pub upvalues: ListAt,
 }
 
-pub enum HeadListsResult {
+// A list that was passed over, and the place behind it.
+struct ListEnd {
+    list: ListAt,
+    next: Cursor,
+}
+
+fn passed(count: usize, place: usize, next: Cursor) -> ListEnd
+    ensures { λ r. ⌜ r ≡ record { list = record { count = count; place = place }; next = next } ⌝ }
+{
+    ListEnd {
+        list: ListAt { count, place },
+        next,
+    }
+}
+
+enum HeadListsResult {
     Ok { lists: HeadLists, next: Cursor },
     Err(Refusal),
 }
@@ -40,57 +55,38 @@ fn read_head_lists(
 ) -> HeadListsResult
     ensures { λ r. ⌜ r ≡ headListsResult (parts.headLists limits before (cursor .at) (drop (cursor .at) (now (s .entry)))) ⌝ }
 {
-    let code = instructions_list(
+    let most = limits.max_instructions_per_proto;
+    let code = instructions_list(s, cursor, most, before, limits.max_total_instructions);
+    let code = match code {
+        ListResult::Err(refusal) => return HeadListsResult::Err(refusal),
+        ListResult::Ok { count, place, next } => passed(count, place, next),
+    };
+    let k = constants_list(
         s,
-        cursor,
-        limits.max_instructions_per_proto,
-        before,
-        limits.max_total_instructions,
+        code.next,
+        limits.max_constants_per_proto,
+        limits.max_string_bytes,
     );
-    match code {
-        ListResult::Err(refusal) => HeadListsResult::Err(refusal),
-        ListResult::Ok {
-            count: count1,
-            place: place1,
-            next: next1,
-        } => {
-            let k = constants_list(
-                s,
-                next1,
-                limits.max_constants_per_proto,
-                limits.max_string_bytes,
-            );
-            match k {
-                ListResult::Err(refusal) => HeadListsResult::Err(refusal),
-                ListResult::Ok {
-                    count: count2,
-                    place: place2,
-                    next: next2,
-                } => {
-                    let u = upvalues_list(s, next2, limits.max_upvalues_per_proto);
-                    match u {
-                        ListResult::Err(refusal) => HeadListsResult::Err(refusal),
-                        ListResult::Ok { count, place, next } => HeadListsResult::Ok {
-                            lists: HeadLists {
-                                instructions: ListAt {
-                                    count: count1,
-                                    place: place1,
-                                },
-                                constants: ListAt {
-                                    count: count2,
-                                    place: place2,
-                                },
-                                upvalues: ListAt {
-                                    count: count,
-                                    place: place,
-                                },
-                            },
-                            next: next,
-                        },
-                    }
-                }
-            }
-        }
+    let k = match k {
+        ListResult::Err(refusal) => return HeadListsResult::Err(refusal),
+        ListResult::Ok { count, place, next } => passed(count, place, next),
+    };
+    let u = upvalues_list(s, k.next, limits.max_upvalues_per_proto);
+    let u = match u {
+        ListResult::Err(refusal) => return HeadListsResult::Err(refusal),
+        ListResult::Ok { count, place, next } => passed(count, place, next),
+    };
+    let instructions = code.list;
+    let constants = k.list;
+    let upvalues = u.list;
+    let next = u.next;
+    HeadListsResult::Ok {
+        lists: HeadLists {
+            instructions,
+            constants,
+            upvalues,
+        },
+        next,
     }
 }
 
@@ -161,58 +157,37 @@ pub fn read_tail(s: &[u8], max_string_bytes: usize, cursor: Cursor) -> TailResul
     ensures { λ r. ⌜ r ≡ tailResult (parts.tail «max_string_bytes» (cursor .at) (drop (cursor .at) (now (s .entry)))) ⌝ }
 {
     let deltas = line_info_list(s, cursor);
-    match deltas {
-        ListResult::Err(refusal) => TailResult::Err(refusal),
-        ListResult::Ok {
-            count: count1,
-            place: place1,
-            next: next1,
-        } => {
-            let anchors = anchors_list(s, next1);
-            match anchors {
-                ListResult::Err(refusal) => TailResult::Err(refusal),
-                ListResult::Ok {
-                    count: count2,
-                    place: place2,
-                    next: next2,
-                } => {
-                    let locals = locals_list(s, next2, max_string_bytes);
-                    match locals {
-                        ListResult::Err(refusal) => TailResult::Err(refusal),
-                        ListResult::Ok {
-                            count: count3,
-                            place: place3,
-                            next: next3,
-                        } => {
-                            let names = names_list(s, next3, max_string_bytes);
-                            match names {
-                                ListResult::Err(refusal) => TailResult::Err(refusal),
-                                ListResult::Ok { count, place, next } => TailResult::Ok {
-                                    tail: Tail {
-                                        line_info: ListAt {
-                                            count: count1,
-                                            place: place1,
-                                        },
-                                        abs_line_info: ListAt {
-                                            count: count2,
-                                            place: place2,
-                                        },
-                                        loc_vars: ListAt {
-                                            count: count3,
-                                            place: place3,
-                                        },
-                                        upvalue_names: ListAt {
-                                            count: count,
-                                            place: place,
-                                        },
-                                    },
-                                    next: next,
-                                },
-                            }
-                        }
-                    }
-                }
-            }
-        }
+    let deltas = match deltas {
+        ListResult::Err(refusal) => return TailResult::Err(refusal),
+        ListResult::Ok { count, place, next } => passed(count, place, next),
+    };
+    let anchors = anchors_list(s, deltas.next);
+    let anchors = match anchors {
+        ListResult::Err(refusal) => return TailResult::Err(refusal),
+        ListResult::Ok { count, place, next } => passed(count, place, next),
+    };
+    let locals = locals_list(s, anchors.next, max_string_bytes);
+    let locals = match locals {
+        ListResult::Err(refusal) => return TailResult::Err(refusal),
+        ListResult::Ok { count, place, next } => passed(count, place, next),
+    };
+    let names = names_list(s, locals.next, max_string_bytes);
+    let names = match names {
+        ListResult::Err(refusal) => return TailResult::Err(refusal),
+        ListResult::Ok { count, place, next } => passed(count, place, next),
+    };
+    let line_info = deltas.list;
+    let abs_line_info = anchors.list;
+    let loc_vars = locals.list;
+    let upvalue_names = names.list;
+    let next = names.next;
+    TailResult::Ok {
+        tail: Tail {
+            line_info,
+            abs_line_info,
+            loc_vars,
+            upvalue_names,
+        },
+        next,
     }
 }

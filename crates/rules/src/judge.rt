@@ -11,13 +11,13 @@ use instructions::instruction::RawInstruction54;
 use opcodes::opcode::Opcode54;
 use opcodes::opcode::OptionOpcode54;
 
-pub enum OptionRule {
+enum OptionRule {
     Some(Rule),
     None,
 }
 
 // What of an opcode's operands is held against a bound.
-pub enum Check {
+enum Check {
     Nothing,
     Constant,
     Upvalue,
