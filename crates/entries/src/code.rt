@@ -26,8 +26,8 @@ pub enum UpvalueResult {
     Err(Refusal),
 }
 
-// Ruled out: the word before, the bytes of a word taken as entries.
-pub fn word_at(s: &[u8], cursor: Cursor, entry: usize) -> U32Result
+// The word with a number, from 0, of the words that begin at the cursor. Ruled out: the word before, the bytes of a word taken as entries.
+pub fn nth_word(s: &[u8], cursor: Cursor, entry: usize) -> U32Result
     ensures { λ r. ⌜ r ≡ u32Result (entryAt entry (field 4) (cursor .at) (drop (cursor .at) (now (s .entry)))) ⌝ }
 {
     let passed = skip_words(s, cursor, entry);
@@ -37,8 +37,8 @@ pub fn word_at(s: &[u8], cursor: Cursor, entry: usize) -> U32Result
     }
 }
 
-// Ruled out: the first constant whatever the number, one constant too far.
-pub fn constant_at(
+// The constant with a number, from 0, of those that begin at the cursor. Ruled out: the first constant whatever the number, one constant too far.
+pub fn nth_constant(
     s: &[u8],
     cursor: Cursor,
     entry: usize,
@@ -89,8 +89,8 @@ pub fn read_upvalue(s: &[u8], cursor: Cursor) -> UpvalueResult
     }
 }
 
-// Ruled out: two bytes an upvalue, the upvalue behind it.
-pub fn upvalue_at(s: &[u8], cursor: Cursor, entry: usize) -> UpvalueResult
+// The upvalue with a number, from 0, of those that begin at the cursor. Ruled out: two bytes an upvalue, the upvalue behind it.
+pub fn nth_upvalue(s: &[u8], cursor: Cursor, entry: usize) -> UpvalueResult
     ensures { λ r. ⌜ r ≡ upvalueResult (entryAt entry spec.upvalue (cursor .at) (drop (cursor .at) (now (s .entry)))) ⌝ }
 {
     let passed = skip_upvalues(s, cursor, entry);

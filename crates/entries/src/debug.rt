@@ -22,7 +22,7 @@ use reader::string::StringResult;
 use reader::string::read_string_lua54;
 
 // The byte of a delta. Ruled out: the first delta whatever the number, one delta too far.
-pub fn delta_at(s: &[u8], cursor: Cursor, entry: usize) -> U8Result
+pub fn nth_delta(s: &[u8], cursor: Cursor, entry: usize) -> U8Result
     ensures { λ r. ⌜ r ≡ u8Result (byteAt entry (cursor .at) (drop (cursor .at) (now (s .entry)))) ⌝ }
 {
     let passed = read_exact(s, cursor, entry);
@@ -32,8 +32,8 @@ pub fn delta_at(s: &[u8], cursor: Cursor, entry: usize) -> U8Result
     }
 }
 
-// Ruled out: the first anchor whatever the number, a number taken for an anchor.
-pub fn anchor_at(s: &[u8], cursor: Cursor, entry: usize) -> AnchorResult
+// The anchor with a number, from 0, of those that begin at the cursor. Ruled out: the first anchor whatever the number, a number taken for an anchor.
+pub fn nth_anchor(s: &[u8], cursor: Cursor, entry: usize) -> AnchorResult
     ensures { λ r. ⌜ r ≡ anchorResult (entryAt entry spec.anchor (cursor .at) (drop (cursor .at) (now (s .entry)))) ⌝ }
 {
     let passed = skip_anchors(s, cursor, entry);
@@ -44,7 +44,7 @@ pub fn anchor_at(s: &[u8], cursor: Cursor, entry: usize) -> AnchorResult
 }
 
 // With its name as it is spelt. Ruled out: the name of the local before, an absent name given as `?`.
-pub fn local_at(s: &[u8], cursor: Cursor, entry: usize, max_string_bytes: usize) -> LocalResult
+pub fn nth_local(s: &[u8], cursor: Cursor, entry: usize, max_string_bytes: usize) -> LocalResult
     ensures { λ r. ⌜ r ≡ localResult (localAt entry «max_string_bytes» (cursor .at) (drop (cursor .at) (now (s .entry)))) ⌝ }
 {
     let passed = skip_locals(s, cursor, entry, max_string_bytes);
@@ -55,7 +55,7 @@ pub fn local_at(s: &[u8], cursor: Cursor, entry: usize, max_string_bytes: usize)
 }
 
 // An upvalue's name. Ruled out: absent names not counted, an absent name given as an empty one.
-pub fn name_at(s: &[u8], cursor: Cursor, entry: usize, max_string_bytes: usize) -> StringResult
+pub fn nth_name(s: &[u8], cursor: Cursor, entry: usize, max_string_bytes: usize) -> StringResult
     ensures { λ r. ⌜ r ≡ stringResult (entryAt entry (string «max_string_bytes») (cursor .at) (drop (cursor .at) (now (s .entry)))) ⌝ }
 {
     let passed = skip_strings(s, cursor, entry, max_string_bytes);

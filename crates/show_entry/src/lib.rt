@@ -10,12 +10,12 @@ use access::place::EntryKind;
 use access::place::PlaceAnswer;
 use access::place::entry_list;
 use entries::code::UpvalueResult;
-use entries::code::constant_at;
-use entries::code::upvalue_at;
-use entries::code::word_at;
-use entries::debug::anchor_at;
-use entries::debug::delta_at;
-use entries::debug::name_at;
+use entries::code::nth_constant;
+use entries::code::nth_upvalue;
+use entries::code::nth_word;
+use entries::debug::nth_anchor;
+use entries::debug::nth_delta;
+use entries::debug::nth_name;
 use format::entry::AbsLineInfo;
 use format::entry::UpvalueDesc;
 use format::limits::ResourceLimits;
@@ -42,14 +42,14 @@ fn word(read: U32Result) -> WordAnswer
     }
 }
 
-// Ruled out: a word of another function, 24 before 23.
+// An instruction word of a function, by their numbers. Ruled out: a word of another function, 24 before 23.
 pub fn instruction(s: &[u8], limits: ResourceLimits, function: usize, entry: usize) -> WordAnswer
     ensures { λ r. ⌜ r ≡ shownWord (entryOf (λ p. p .instructions) function entry (read limits (now (s .entry)))) ⌝ }
 {
     let found = entry_list(s, limits, function, EntryKind::Instruction, entry);
     match found {
         PlaceAnswer::Err(refusal) => WordAnswer::Err(refusal),
-        PlaceAnswer::Ok(list) => word(word_at(s, list, entry)),
+        PlaceAnswer::Ok(list) => word(nth_word(s, list, entry)),
     }
 }
 
@@ -67,14 +67,14 @@ fn constant_answer(read: ConstantResult) -> ConstantAnswer
     }
 }
 
-// Ruled out: the first constant whatever the number, a short string shown as a long one.
+// A constant of a function, by their numbers; of a string the place and length. Ruled out: the first constant whatever the number, a short string shown as a long one.
 pub fn constant(s: &[u8], limits: ResourceLimits, function: usize, entry: usize) -> ConstantAnswer
     ensures { λ r. ⌜ r ≡ shownConstant (entryOf (λ p. p .constants) function entry (read limits (now (s .entry)))) ⌝ }
 {
     let found = entry_list(s, limits, function, EntryKind::Constant, entry);
     match found {
         PlaceAnswer::Err(refusal) => ConstantAnswer::Err(refusal),
-        PlaceAnswer::Ok(list) => constant_answer(constant_at(
+        PlaceAnswer::Ok(list) => constant_answer(nth_constant(
             s,
             list,
             entry,
@@ -97,14 +97,14 @@ fn upvalue_answer(read: UpvalueResult) -> UpvalueAnswer
     }
 }
 
-// Ruled out: instack and idx exchanged, an upvalue of the parent.
+// An upvalue of a function, by their numbers. Ruled out: instack and idx exchanged, an upvalue of the parent.
 pub fn upvalue(s: &[u8], limits: ResourceLimits, function: usize, entry: usize) -> UpvalueAnswer
     ensures { λ r. ⌜ r ≡ shownUpvalue (entryOf (λ p. p .upvalues) function entry (read limits (now (s .entry)))) ⌝ }
 {
     let found = entry_list(s, limits, function, EntryKind::Upvalue, entry);
     match found {
         PlaceAnswer::Err(refusal) => UpvalueAnswer::Err(refusal),
-        PlaceAnswer::Ok(list) => upvalue_answer(upvalue_at(s, list, entry)),
+        PlaceAnswer::Ok(list) => upvalue_answer(nth_upvalue(s, list, entry)),
     }
 }
 
@@ -132,14 +132,14 @@ fn delta_answer(read: U8Result) -> DeltaAnswer
     }
 }
 
-// Ruled out: a byte from 128 up shown as it stands, the delta before.
+// A line delta of a function, by their numbers. Ruled out: a byte from 128 up shown as it stands, the delta before.
 pub fn delta(s: &[u8], limits: ResourceLimits, function: usize, entry: usize) -> DeltaAnswer
     ensures { λ r. ⌜ r ≡ shownDelta (entryOf (λ p. p .line-info) function entry (read limits (now (s .entry)))) ⌝ }
 {
     let found = entry_list(s, limits, function, EntryKind::Delta, entry);
     match found {
         PlaceAnswer::Err(refusal) => DeltaAnswer::Err(refusal),
-        PlaceAnswer::Ok(list) => delta_answer(delta_at(s, list, entry)),
+        PlaceAnswer::Ok(list) => delta_answer(nth_delta(s, list, entry)),
     }
 }
 
@@ -157,14 +157,14 @@ fn anchor_answer(read: AnchorResult) -> AnchorAnswer
     }
 }
 
-// Ruled out: pc and line exchanged, the first anchor whatever the number.
+// An anchor of a function, by their numbers. Ruled out: pc and line exchanged, the first anchor whatever the number.
 pub fn anchor(s: &[u8], limits: ResourceLimits, function: usize, entry: usize) -> AnchorAnswer
     ensures { λ r. ⌜ r ≡ shownAnchor (entryOf (λ p. p .abs-line-info) function entry (read limits (now (s .entry)))) ⌝ }
 {
     let found = entry_list(s, limits, function, EntryKind::Anchor, entry);
     match found {
         PlaceAnswer::Err(refusal) => AnchorAnswer::Err(refusal),
-        PlaceAnswer::Ok(list) => anchor_answer(anchor_at(s, list, entry)),
+        PlaceAnswer::Ok(list) => anchor_answer(nth_anchor(s, list, entry)),
     }
 }
 
@@ -182,6 +182,7 @@ fn name_answer(read: StringResult) -> NameAnswer
     }
 }
 
+// The name of an upvalue of a function, by their numbers, if it has one: place and length.
 // Ruled out: an absent name shown as an empty one, names beyond the upvalues refused.
 pub fn upvalue_name(s: &[u8], limits: ResourceLimits, function: usize, entry: usize) -> NameAnswer
     ensures { λ r. ⌜ r ≡ shownName (entryOf (λ p. p .upvalue-names) function entry (read limits (now (s .entry)))) ⌝ }
@@ -189,6 +190,6 @@ pub fn upvalue_name(s: &[u8], limits: ResourceLimits, function: usize, entry: us
     let found = entry_list(s, limits, function, EntryKind::UpvalueName, entry);
     match found {
         PlaceAnswer::Err(refusal) => NameAnswer::Err(refusal),
-        PlaceAnswer::Ok(list) => name_answer(name_at(s, list, entry, limits.max_string_bytes)),
+        PlaceAnswer::Ok(list) => name_answer(nth_name(s, list, entry, limits.max_string_bytes)),
     }
 }

@@ -10,7 +10,7 @@ ghost use Rattle.show_local.specs.Inner.Names.{nameLength, nameBytes, St
 use access::place::EntryKind;
 use access::place::PlaceAnswer;
 use access::place::entry_list;
-use entries::debug::local_at;
+use entries::debug::nth_local;
 use format::limits::ResourceLimits;
 use format::refusal::Refusal;
 use lent::copy_bytes;
@@ -53,6 +53,7 @@ fn put_name(s: &[u8], name: OptionString, out: &mut [u8])
     }
 }
 
+// A local variable of a function, by their numbers: where it is live, and its name in the lent space, if it has room.
 // Ruled out: a name that is cut to the lent space, an absent name that leaves the space as it was.
 pub fn local(
     s: &[u8],
@@ -68,7 +69,7 @@ pub fn local(
     match found {
         PlaceAnswer::Err(refusal) => LocalAnswer::Err(refusal),
         PlaceAnswer::Ok(list) => {
-            let read = local_at(s, list, entry, limits.max_string_bytes);
+            let read = nth_local(s, list, entry, limits.max_string_bytes);
             match read {
                 LocalResult::Err(refusal) => LocalAnswer::Err(refusal),
                 LocalResult::Ok {

@@ -24,5 +24,5 @@ anchor-spec =
     (λ c.
     let a = c .before .before .before .before .before .before .before .args in
     c .anchor-answer .ensures
-    ∙ ap anchorOf (c .before .anchor-at .ensures)
+    ∙ ap anchorOf (c .before .nth-anchor .ensures)
     ∙ entry-shown (a .limits) (a .s .now) (a .function) (a .entry) kind.Anchor (λ p. p .abs-line-info) (λ p. p .places .abs-line-info) (λ p. refl) (entryAt (a .entry) anchor) (λ p l x e. many-nth anchor (length (p .abs-line-info)) (l .abs-line-info) (a .entry) e) (λ o. anchorOf (lists.anchorResult o)) shownAnchor (λ x to rest. refl) _ (sym (c .before .before .before .found2 .given .1) ∙ c .before .before .before .before .before .entry-list .ensures)))

@@ -24,5 +24,5 @@ constant-spec =
     (λ c.
     let a = c .before .before .before .before .before .before .before .args in
     c .constant-answer .ensures
-    ∙ ap constantOf (c .before .constant-at .ensures)
+    ∙ ap constantOf (c .before .nth-constant .ensures)
     ∙ entry-shown (a .limits) (a .s .now) (a .function) (a .entry) kind.Constant (λ p. p .constants) (λ p. p .places .constants) (λ p. refl) (entryAt (a .entry) (constant (a .limits .«max_string_bytes»))) (λ p l x e. many-nth (constant (a .limits .«max_string_bytes»)) (length (p .constants)) (l .constants) (a .entry) e) (λ o. constantOf (lists.constantResult o)) shownConstant (λ x to rest. refl) _ (sym (c .before .before .before .found2 .given .1) ∙ c .before .before .before .before .before .entry-list .ensures)))

@@ -24,5 +24,5 @@ delta-spec =
     (λ c.
     let a = c .before .before .before .before .before .before .before .args in
     c .delta-answer .ensures
-    ∙ ap deltaOf (c .before .delta-at .ensures)
+    ∙ ap deltaOf (c .before .nth-delta .ensures)
     ∙ entry-shown (a .limits) (a .s .now) (a .function) (a .entry) kind.Delta (λ p. p .line-info) (λ p. p .places .line-info) (λ p. refl) (byteAt (a .entry)) (λ p l x e. run-nth (length (p .line-info)) (l .line-info) (a .entry) e) (λ o. deltaOf (u8Result o)) shownDelta (λ x to rest. refl) _ (sym (c .before .before .before .found2 .given .1) ∙ c .before .before .before .before .before .entry-list .ensures)))

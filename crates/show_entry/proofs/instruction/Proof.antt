@@ -25,5 +25,5 @@ instruction-spec =
     (λ c.
     let a = c .before .before .before .before .before .before .before .args in
     c .word .ensures
-    ∙ ap wordOf (c .before .word-at .ensures)
+    ∙ ap wordOf (c .before .nth-word .ensures)
     ∙ entry-shown (a .limits) (a .s .now) (a .function) (a .entry) kind.Instruction (λ p. p .instructions) (λ p. p .places .instructions) (λ p. refl) (entryAt (a .entry) (field 4)) (λ p l x e. many-nth (field 4) (length (p .instructions)) (l .instructions) (a .entry) e) (λ o. wordOf (u32Result o)) shownWord (λ x to rest. refl) _ (sym (c .before .before .before .found2 .given .1) ∙ c .before .before .before .before .before .entry-list .ensures)))

@@ -24,5 +24,5 @@ upvalue-spec =
     (λ c.
     let a = c .before .before .before .before .before .before .before .args in
     c .upvalue-answer .ensures
-    ∙ ap upvalueOf (c .before .upvalue-at .ensures)
+    ∙ ap upvalueOf (c .before .nth-upvalue .ensures)
     ∙ entry-shown (a .limits) (a .s .now) (a .function) (a .entry) kind.Upvalue (λ p. p .upvalues) (λ p. p .places .upvalues) (λ p. refl) (entryAt (a .entry) upvalue) (λ p l x e. many-nth upvalue (length (p .upvalues)) (l .upvalues) (a .entry) e) (λ o. upvalueOf (entries.upvalueResult o)) shownUpvalue (λ x to rest. refl) _ (sym (c .before .before .before .found2 .given .1) ∙ c .before .before .before .before .before .entry-list .ensures)))

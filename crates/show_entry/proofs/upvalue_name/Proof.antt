@@ -25,5 +25,5 @@ upvalue-name-spec =
     (λ c.
     let a = c .before .before .before .before .before .before .before .args in
     c .name-answer .ensures
-    ∙ ap nameOf (c .before .name-at .ensures)
+    ∙ ap nameOf (c .before .nth-name .ensures)
     ∙ entry-shown (a .limits) (a .s .now) (a .function) (a .entry) kind.UpvalueName (λ p. p .upvalue-names) (λ p. p .places .upvalue-names) (λ p. refl) (entryAt (a .entry) (string (a .limits .«max_string_bytes»))) (λ p l x e. many-nth (string (a .limits .«max_string_bytes»)) (length (p .upvalue-names)) (l .upvalue-names) (a .entry) e) (λ o. nameOf (stringResult o)) shownName (λ x to rest. refl) _ (sym (c .before .before .before .found2 .given .1) ∙ c .before .before .before .before .before .entry-list .ensures)))

@@ -15,15 +15,15 @@ local-spec =
     (λ c.
     let a = c .before .before .before .before .before .before .before .before .before .before .before .before .args in
     let short = rw (c .before .name-len .ensures) at (c .if1 .taken) in
-    local-short (a .limits) (a .s .now) (a .function) (a .entry) _ (sym (c .before .before .before .before .before .before .before .found2 .given .1) ∙ c .before .before .before .before .before .before .before .before .before .entry-list .ensures) _ _ _ _ (sym (c .before .before .before .read2 .given .1) ∙ c .before .before .before .before .before .local-at .ensures) (a .name .now) short)
+    local-short (a .limits) (a .s .now) (a .function) (a .entry) _ (sym (c .before .before .before .before .before .before .before .found2 .given .1) ∙ c .before .before .before .before .before .before .before .before .before .entry-list .ensures) _ _ _ _ (sym (c .before .before .before .read2 .given .1) ∙ c .before .before .before .before .before .nth-local .ensures) (a .name .now) short)
     (λ c κs.
     let a = c .before .before .before .before .before .before .before .before .before .before .before .before .before .args in
     let room = rw (c .before .before .name-len .ensures) at (c .before .if1 .left) in
-    (name-stands (a .limits) (a .s .now) (a .function) (a .entry) _ (sym (c .before .before .before .before .before .before .before .before .found2 .given .1) ∙ c .before .before .before .before .before .before .before .before .before .before .entry-list .ensures) _ _ _ _ (sym (c .before .before .before .before .read2 .given .1) ∙ c .before .before .before .before .before .before .local-at .ensures), room))
+    (name-stands (a .limits) (a .s .now) (a .function) (a .entry) _ (sym (c .before .before .before .before .before .before .before .before .found2 .given .1) ∙ c .before .before .before .before .before .before .before .before .before .before .entry-list .ensures) _ _ _ _ (sym (c .before .before .before .before .read2 .given .1) ∙ c .before .before .before .before .before .before .nth-local .ensures), room))
     (λ c. let a = c .before .before .before .before .before .before .args in local-refused (a .limits) (a .s .now) (a .function) (a .entry) (a .name .now) _ (sym (c .before .found .given .1) ∙ c .before .before .before .entry-list .ensures))
-    (λ c. let a = c .before .before .before .before .before .before .before .before .before .before .args in local-read (a .limits) (a .s .now) (a .function) (a .entry) _ (sym (c .before .before .before .before .before .found2 .given .1) ∙ c .before .before .before .before .before .before .before .entry-list .ensures) _ (sym (c .before .read .given .1) ∙ c .before .before .before .local-at .ensures))
+    (λ c. let a = c .before .before .before .before .before .before .before .before .before .before .args in local-read (a .limits) (a .s .now) (a .function) (a .entry) _ (sym (c .before .before .before .before .before .found2 .given .1) ∙ c .before .before .before .before .before .before .before .entry-list .ensures) _ (sym (c .before .read .given .1) ∙ c .before .before .before .nth-local .ensures))
     (λ c. search needs)
     (λ c.
     let a = c .before .before .before .before .before .before .before .before .before .before .before .before .before .before .before .before .args in
     let room = rw (c .before .before .before .before .before .name-len .ensures) at (c .before .before .before .before .if1 .left) in
-    rw (c .before .before .before .before .before .name-len .ensures) (local-shown (a .limits) (a .s .now) (a .function) (a .entry) _ (sym (c .before .before .before .before .before .before .before .before .before .before .before .found2 .given .1) ∙ c .before .before .before .before .before .before .before .before .before .before .before .before .before .entry-list .ensures) _ _ _ _ (sym (c .before .before .before .before .before .before .before .read2 .given .1) ∙ c .before .before .before .before .before .before .before .before .before .local-at .ensures) (a .name .now) _ room (c .before .before .put-name .ensures))))
+    rw (c .before .before .before .before .before .name-len .ensures) (local-shown (a .limits) (a .s .now) (a .function) (a .entry) _ (sym (c .before .before .before .before .before .before .before .before .before .before .before .found2 .given .1) ∙ c .before .before .before .before .before .before .before .before .before .before .before .before .before .entry-list .ensures) _ _ _ _ (sym (c .before .before .before .before .before .before .before .read2 .given .1) ∙ c .before .before .before .before .before .before .before .before .before .nth-local .ensures) (a .name .now) _ room (c .before .before .put-name .ensures))))

@@ -1,15 +1,15 @@
--- `entries::debug::delta_at` meets its contract: those before the entry are passed over, then it is read (`Passing.antt`). Assumes nothing.
+-- `entries::debug::nth_delta` meets its contract: those before the entry are passed over, then it is read (`Passing.antt`). Assumes nothing.
 use mathlib.Core.Path.{sym, _∙_}
 use borrow.Author.Needs.{needs}
 use Rattle.format.specs.ReadFields.{byte}
 use Rattle.format.proofs.Exact.{exact-run}
 use Rattle.reader.specs.Shown.{u8Result}
 use Rattle.entries.proofs.Passing.{first-refused, second-read}
-use Rattle.entries.proofs.debug.delta_at.Statement.{statement}
-use Rattle.entries.proofs.debug.delta_at.Tie as tie
+use Rattle.entries.proofs.debug.nth_delta.Statement.{statement}
+use Rattle.entries.proofs.debug.nth_delta.Tie as tie
 
-pub delta-at-spec : {M : Type 1} → statement M
-delta-at-spec =
+pub nth-delta-spec : {M : Type 1} → statement M
+nth-delta-spec =
     tie.close
     (tie.spec
     (λ c κs. search needs) (λ c. search needs) (λ c. search needs) (λ c κs. search needs)

@@ -1,4 +1,4 @@
--- `entries::debug::local_at` meets its contract: those before the entry are passed over, then it is read (`Passing.antt`). Assumes nothing.
+-- `entries::debug::nth_local` meets its contract: those before the entry are passed over, then it is read (`Passing.antt`). Assumes nothing.
 use mathlib.Core.Path.{sym, _∙_}
 use borrow.Author.Needs.{needs}
 use Rattle.format.specs.ReadChunk.{local}
@@ -7,11 +7,11 @@ use Rattle.format.proofs.ExactChunk.{exact-local}
 use Rattle.lists.specs.Readers.{rawLocal}
 use Rattle.lists.specs.Shown.{localResult}
 use Rattle.entries.proofs.Passing.{first-refused, second-read}
-use Rattle.entries.proofs.debug.local_at.Statement.{statement}
-use Rattle.entries.proofs.debug.local_at.Tie as tie
+use Rattle.entries.proofs.debug.nth_local.Statement.{statement}
+use Rattle.entries.proofs.debug.nth_local.Tie as tie
 
-pub local-at-spec : {M : Type 1} → statement M
-local-at-spec =
+pub nth-local-spec : {M : Type 1} → statement M
+nth-local-spec =
     tie.close
     (tie.spec
     (λ c κs. search needs) (λ c. search needs) (λ c. search needs) (λ c κs. search needs)

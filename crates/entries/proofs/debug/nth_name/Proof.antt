@@ -1,4 +1,4 @@
--- `entries::debug::name_at` meets its contract: those before the entry are passed over, then it is read (`Passing.antt`). Assumes nothing.
+-- `entries::debug::nth_name` meets its contract: those before the entry are passed over, then it is read (`Passing.antt`). Assumes nothing.
 use mathlib.Core.Path.{sym, _∙_}
 use borrow.Author.Needs.{needs}
 use Rattle.format.specs.ReadFields.{string}
@@ -6,11 +6,11 @@ use Rattle.format.proofs.Exact.{exact-many}
 use Rattle.format.proofs.ExactFields.{exact-string}
 use Rattle.reader.specs.Shown.{stringResult}
 use Rattle.entries.proofs.Passing.{first-refused, second-read}
-use Rattle.entries.proofs.debug.name_at.Statement.{statement}
-use Rattle.entries.proofs.debug.name_at.Tie as tie
+use Rattle.entries.proofs.debug.nth_name.Statement.{statement}
+use Rattle.entries.proofs.debug.nth_name.Tie as tie
 
-pub name-at-spec : {M : Type 1} → statement M
-name-at-spec =
+pub nth-name-spec : {M : Type 1} → statement M
+nth-name-spec =
     tie.close
     (tie.spec
     (λ c κs. search needs) (λ c. search needs) (λ c. search needs) (λ c κs. search needs)

@@ -1,4 +1,4 @@
--- `entries::debug::anchor_at` meets its contract: those before the entry are passed over, then it is read (`Passing.antt`). Assumes nothing.
+-- `entries::debug::nth_anchor` meets its contract: those before the entry are passed over, then it is read (`Passing.antt`). Assumes nothing.
 use mathlib.Core.Path.{sym, _∙_}
 use borrow.Author.Needs.{needs}
 use Rattle.format.specs.ReadChunk.{anchor}
@@ -6,11 +6,11 @@ use Rattle.format.proofs.Exact.{exact-many}
 use Rattle.format.proofs.ExactChunk.{exact-anchor}
 use Rattle.lists.specs.Shown.{anchorResult}
 use Rattle.entries.proofs.Passing.{first-refused, second-read}
-use Rattle.entries.proofs.debug.anchor_at.Statement.{statement}
-use Rattle.entries.proofs.debug.anchor_at.Tie as tie
+use Rattle.entries.proofs.debug.nth_anchor.Statement.{statement}
+use Rattle.entries.proofs.debug.nth_anchor.Tie as tie
 
-pub anchor-at-spec : {M : Type 1} → statement M
-anchor-at-spec =
+pub nth-anchor-spec : {M : Type 1} → statement M
+nth-anchor-spec =
     tie.close
     (tie.spec
     (λ c κs. search needs) (λ c. search needs) (λ c. search needs) (λ c κs. search needs)

@@ -1,4 +1,4 @@
--- `entries::code::constant_at` meets its contract: those before the entry are passed over, then it is read (`Passing.antt`). Assumes nothing.
+-- `entries::code::nth_constant` meets its contract: those before the entry are passed over, then it is read (`Passing.antt`). Assumes nothing.
 use mathlib.Core.Path.{sym, _∙_}
 use borrow.Author.Needs.{needs}
 use Rattle.format.specs.ReadChunk.{constant}
@@ -6,11 +6,11 @@ use Rattle.format.proofs.Exact.{exact-many}
 use Rattle.format.proofs.ExactChunk.{exact-constant}
 use Rattle.lists.specs.Shown.{constantResult}
 use Rattle.entries.proofs.Passing.{first-refused, second-read}
-use Rattle.entries.proofs.code.constant_at.Statement.{statement}
-use Rattle.entries.proofs.code.constant_at.Tie as tie
+use Rattle.entries.proofs.code.nth_constant.Statement.{statement}
+use Rattle.entries.proofs.code.nth_constant.Tie as tie
 
-pub constant-at-spec : {M : Type 1} → statement M
-constant-at-spec =
+pub nth-constant-spec : {M : Type 1} → statement M
+nth-constant-spec =
     tie.close
     (tie.spec
     (λ c κs. search needs) (λ c. search needs) (λ c. search needs) (λ c κs. search needs)

@@ -1,4 +1,4 @@
--- `entries::code::upvalue_at` meets its contract: those before the entry are passed over, then it is read (`Passing.antt`). Assumes nothing.
+-- `entries::code::nth_upvalue` meets its contract: those before the entry are passed over, then it is read (`Passing.antt`). Assumes nothing.
 use mathlib.Core.Path.{sym, _∙_}
 use borrow.Author.Needs.{needs}
 use Rattle.format.specs.ReadChunk.{upvalue}
@@ -6,11 +6,11 @@ use Rattle.format.proofs.Exact.{exact-many}
 use Rattle.format.proofs.ExactChunk.{exact-upvalue}
 use Rattle.entries.specs.Shown.{upvalueResult}
 use Rattle.entries.proofs.Passing.{first-refused, second-read}
-use Rattle.entries.proofs.code.upvalue_at.Statement.{statement}
-use Rattle.entries.proofs.code.upvalue_at.Tie as tie
+use Rattle.entries.proofs.code.nth_upvalue.Statement.{statement}
+use Rattle.entries.proofs.code.nth_upvalue.Tie as tie
 
-pub upvalue-at-spec : {M : Type 1} → statement M
-upvalue-at-spec =
+pub nth-upvalue-spec : {M : Type 1} → statement M
+nth-upvalue-spec =
     tie.close
     (tie.spec
     (λ c κs. search needs) (λ c. search needs) (λ c. search needs) (λ c κs. search needs)

@@ -1,4 +1,4 @@
--- `entries::code::word_at` meets its contract: those before the entry are passed over, then it is read (`Passing.antt`). Assumes nothing.
+-- `entries::code::nth_word` meets its contract: those before the entry are passed over, then it is read (`Passing.antt`). Assumes nothing.
 use mathlib.Core.Path.{sym, _∙_}
 use borrow.Author.Needs.{needs}
 use Rattle.format.specs.ReadFields.{field}
@@ -6,11 +6,11 @@ use Rattle.format.proofs.Exact.{exact-many}
 use Rattle.format.proofs.ExactFields.{exact-field}
 use Rattle.reader.specs.Shown.{u32Result}
 use Rattle.entries.proofs.Passing.{first-refused, second-read}
-use Rattle.entries.proofs.code.word_at.Statement.{statement}
-use Rattle.entries.proofs.code.word_at.Tie as tie
+use Rattle.entries.proofs.code.nth_word.Statement.{statement}
+use Rattle.entries.proofs.code.nth_word.Tie as tie
 
-pub word-at-spec : {M : Type 1} → statement M
-word-at-spec =
+pub nth-word-spec : {M : Type 1} → statement M
+nth-word-spec =
     tie.close
     (tie.spec
     (λ c κs. search needs) (λ c. search needs) (λ c. search needs) (λ c κs. search needs)
