@@ -21,7 +21,7 @@ use Rattle.lists.specs.Readers.{Count, code, lineInfo, protosCount}
 use Rattle.counted.proofs.Listing.{Sized, many-sized, run-sized, behindCount}
 
 -- two readers one after the other, and a third behind them
-regroup : {A B C : Type 0} (o : Read A) (f : A → Reader B) (g : B → Reader C) → next (next o f) g ≡ next o (λ x at s. next (f x at s) g)
+pub regroup : {A B C : Type 0} (o : Read A) (f : A → Reader B) (g : B → Reader C) → next (next o f) g ≡ next o (λ x at s. next (f x at s) g)
 regroup (ok x to rest) f g = refl
 regroup (refused q) f g = refl
 

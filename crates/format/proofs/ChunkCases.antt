@@ -322,12 +322,12 @@ copied =
     ∷ []
 
 -- three functions, where the total of instructions is not above the limit
-functionsOf : Outcome → ℕ
-functionsOf (shown r) = length (r .functions)
-functionsOf (refusal q) = 0
+functionCount : Outcome → ℕ
+functionCount (shown r) = length (r .functions)
+functionCount (refusal q) = 0
 
-siblings-read : functionsOf (read (limited 200 2 3 200) siblings) ≡ 3
-unfolding functionsOf read body function header sibling siblings limited
+siblings-read : functionCount (read (limited 200 2 3 200) siblings) ≡ 3
+unfolding functionCount read body function header sibling siblings limited
 siblings-read = refl
 
 copies-hold : copy small-reading ∷ copy nested-reading ∷ [] ≡ copied

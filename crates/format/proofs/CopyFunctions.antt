@@ -114,7 +114,7 @@ module _ (L : ResourceLimits) (l : 1 ≤ L .«max_string_bytes») where
       weaken (once w v) (body-copies L l (absent-copies _) (λ w v a. given-copies (λ h. rw (← a .number) h) (function-copies left w v a)) w v a)
 
 -- ## Main: its source is kept
-inherit-none : (t : Option LuaString) → inherit t none ≡ t
+pub inherit-none : (t : Option LuaString) → inherit t none ≡ t
 inherit-none none = refl
 inherit-none (some t) = refl
 

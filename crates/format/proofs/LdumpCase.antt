@@ -22,6 +22,7 @@ use Rattle.format.specs.Copy.{listBytes, behindSource, copy}
 use Rattle.format.specs.Ldump.{dumpSize}
 use Rattle.format.specs.LdumpFunctions.{dumpFunction, «luaU_dump»}
 use Rattle.format.proofs.Every.{All}
+use Rattle.format.proofs.Distinct.{functionsOf}
 use Rattle.format.proofs.ReadChunkLaws.{read-sound}
 use Rattle.format.proofs.LdumpWhole.{sourceOf, AsLua, AsStripped, copy-as-dumped}
 use Rattle.format.proofs.LuaChunks.{header, full}
@@ -111,24 +112,19 @@ cases =
     ∷ record { strip = true; chunk = full; dump = full-stripped; copied = false }
     ∷ []
 
-functionsOf : Outcome → List Prototype
-functionsOf (shown r) = r .functions
-functionsOf (refusal q) = []
-
 copyOf : Outcome → Bytes
 copyOf (shown r) = copy r
 copyOf (refusal q) = []
 
 dumped : Case → Bytes
-unfolding functionsOf
 dumped c = «luaU_dump» (c .strip) (functionsOf (read ceilings (c .chunk)))
 
 dumps-hold : map dumped cases ≡ map (λ (c : Case). c .dump) cases
-unfolding cases dumped functionsOf read body function «luaU_dump» dumpFunction dumpSize mathlib.Core.List.flatten fn empty leaf around holding a40 a41 alike bare full-stripped
+unfolding cases dumped read body function «luaU_dump» dumpFunction dumpSize mathlib.Core.List.flatten fn empty leaf around holding a40 a41 alike bare full-stripped
 dumps-hold = refl
 
 copies-part : map (λ (c : Case). sameBytes (copyOf (read ceilings (c .chunk))) (dumped c)) cases ≡ map (λ (c : Case). c .copied) cases
-unfolding cases dumped functionsOf copyOf read body function copy behindSource listBytes shortest «luaU_dump» dumpFunction dumpSize mathlib.Core.List.flatten fn empty leaf around holding a40 a41 alike bare full-stripped
+unfolding cases dumped copyOf read body function copy behindSource listBytes shortest «luaU_dump» dumpFunction dumpSize mathlib.Core.List.flatten fn empty leaf around holding a40 a41 alike bare full-stripped
 copies-part = refl
 
 -- ## What is asked can be met
@@ -137,11 +133,10 @@ unfolding alike fn leaf empty a41
 trailed = alike ++ 9 ∷ []
 
 functions : List Prototype
-unfolding functionsOf
 functions = functionsOf (read ceilings trailed)
 
 alike-meets : All (AsLua functions) functions
-unfolding functions functionsOf trailed read body function fn empty leaf a41 alike
+unfolding functions trailed read body function fn empty leaf a41 alike
 alike-meets = (
   record { source = refl; tags = (refl, (refl, tt)); locals = (refl, tt); names = refl },
   (
@@ -151,17 +146,16 @@ alike-meets = (
 )
 
 alike-copied : (r : Reading) → read ceilings trailed ≡ shown r → copy r ≡ «luaU_dump» false (r .functions) ++ r .trailing
-unfolding functions functionsOf
+unfolding functions
 alike-copied r e =
     let same : functions ≡ r .functions = ap functionsOf e in
     copy-as-dumped ceilings trailed r (read-sound ceilings trailed r e) (rw same at alike-meets)
 
 bare-functions : List Prototype
-unfolding functionsOf
 bare-functions = functionsOf (read ceilings bare)
 
 bare-meets : (sourceOf bare-functions 0 ≡ none) × All AsStripped bare-functions
-unfolding bare-functions functionsOf bare read body function fn empty leaf
+unfolding bare-functions bare read body function fn empty leaf
 bare-meets = (
   refl,
   (

@@ -117,8 +117,12 @@ cases =
     -- the earlier of two counts, each above its limit
     ∷ record { under = limits 9 9 9 9 9 0; input = main ++ 0x80 ∷ 0x81 ∷ 0 ∷ 0x82 ∷ replicate 11 0x80; result = some (placed 16 39) }
     ∷ record { under = limits 9 9 9 9 9 1; input = main ++ 0x80 ∷ 0x81 ∷ 0 ∷ 0x82 ∷ replicate 11 0x80; result = some (placed 17 41) }
-    -- 12 at the tag
+    -- 12 at the tag, for numbers next to those that there are
     ∷ record { under = wide; input = main ++ 0x80 ∷ 0x81 ∷ 2 ∷ []; result = some (placed 12 40) }
+    ∷ record { under = wide; input = main ++ 0x80 ∷ 0x81 ∷ 5 ∷ []; result = some (placed 12 40) }
+    ∷ record { under = wide; input = main ++ 0x80 ∷ 0x81 ∷ 6 ∷ []; result = some (placed 12 40) }
+    ∷ record { under = wide; input = main ++ 0x80 ∷ 0x81 ∷ 18 ∷ []; result = some (placed 12 40) }
+    ∷ record { under = wide; input = main ++ 0x80 ∷ 0x81 ∷ 21 ∷ []; result = some (placed 12 40) }
     -- a number that is too large is found at its next byte, whatever that is; without it the file is cut short; one less is no overflow there
     ∷ record { under = wide; input = main ++ large ++ 0x80 ∷ []; result = some (bare 3) }
     ∷ record { under = wide; input = main ++ large ++ 0 ∷ []; result = some (bare 3) }

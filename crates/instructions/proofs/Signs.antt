@@ -72,7 +72,7 @@ below-zero : (z : ℤ) (limit : ℕ) → ltZ z (pos 0) ≡ true → Out ≡ unbi
 below-zero (pos n) limit e = absurd (omega (arith, ltb-true n 0 e))
 below-zero (negsuc n) limit e = refl
 
-not-negative : (z : ℤ) → ltZ z (pos 0) ≡ false → T (nonNeg z)
+pub not-negative : (z : ℤ) → ltZ z (pos 0) ≡ false → T (nonNeg z)
 not-negative (pos n) e = tt
 not-negative (negsuc n) e = absurd (true≢false e)
 

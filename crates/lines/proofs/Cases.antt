@@ -19,7 +19,7 @@ record Case : Type 0 where
   pc : ℕ
   result : LineAnswer
 
-abbrev at : ℕ → ℕ → AbsLineInfo
+abbrev pub at : ℕ → ℕ → AbsLineInfo
 at pc line = record { pc = pc; line = line }
 
 abbrev five : ℕ → ℕ → Case

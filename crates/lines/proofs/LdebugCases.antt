@@ -12,6 +12,7 @@ use Rattle.format.specs.declared.entry.AbsLineInfo.{AbsLineInfo}
 use Rattle.format.specs.Form.{Bytes}
 use Rattle.lines.specs.Ldebug.{«luaG_getfuncline»}
 use Rattle.lines.specs.Lines.{raised, lineOf}
+use Rattle.lines.proofs.Cases.{at}
 use Rattle.lines.proofs.Ldebug.{Compiled, same-line}
 use Rattle.lines.proofs.Rising.{At}
 
@@ -24,9 +25,6 @@ record Case : Type 0 where
   -- 01's line, and ldebug.c's
   ours : ℕ
   theirs : ℤ
-
-abbrev at : ℕ → ℕ → AbsLineInfo
-at pc line = record { pc = pc; line = line }
 
 parted : List Case
 parted =

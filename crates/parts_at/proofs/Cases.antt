@@ -1,13 +1,13 @@
 -- Parts at a place for C (include/lafzimdo.h), on a chunk whose function 4 begins at place 81 and has numbers that all differ (crates/format/proofs/Distinct.antt): places and numbers, which antt computes.
---     parts-hold       the head at 81, the tail at 227; constants, locals and strings, each with the place behind
+--     parts-hold       the head at 81, the tail at 227; a word, an upvalue, a delta, an anchor, constants, locals and strings, each with the place behind
 -- Told apart: two numbers of an array exchanged, a count for a place, the place behind left out, an absent name shown as `?`.
 -- Assumes nothing.
 use mathlib.Core.Path.{_≡_, refl}
 use mathlib.Core.List.{List, [], _∷_, map}
-use Prim.Native.Nat.{ℕ}
+use Prim.Native.Nat.{ℕ, _-_, _^_}
 use Rattle.format.proofs.Distinct.{distinct}
 use Rattle.boundary.specs.Status.{Answer, done}
-use Rattle.parts_at.specs.PartNumbers.{headAt, tailAt, constantAt, localAt, stringAt}
+use Rattle.parts_at.specs.PartNumbers.{headAt, tailAt, wordAt, constantAt, upvalueAt, deltaAt, anchorAt, localAt, stringAt}
 
 abbrev ceilings : List ℕ
 ceilings = 16777216 ∷ 200 ∷ 16777216 ∷ 16777216 ∷ 16777216 ∷ 16777216 ∷ 16777216 ∷ 16777216 ∷ 10000 ∷ []
@@ -21,6 +21,11 @@ parts =
     ∷ (headAt ceilings 71 distinct, 0 ∷ 0 ∷ 0 ∷ 0 ∷ 0 ∷ 0 ∷ 0 ∷ 2 ∷ 0 ∷ 78 ∷ 0 ∷ 79 ∷ 0 ∷ 80 ∷ 1 ∷ 81 ∷ [])
     -- count and place of deltas, anchors, locals, upvalue names; the place behind
     ∷ (tailAt ceilings 227 distinct, 8 ∷ 228 ∷ 9 ∷ 237 ∷ 10 ∷ 256 ∷ 11 ∷ 288 ∷ 300 ∷ [])
+    -- a word; an upvalue; a delta of −1; an anchor
+    ∷ (wordAt ceilings 100 distinct, 0x04030201 ∷ 104 ∷ [])
+    ∷ (upvalueAt ceilings 152 distinct, 1 ∷ 2 ∷ 3 ∷ 155 ∷ [])
+    ∷ (deltaAt ceilings 228 distinct, (2 ^ 64 - 1) ∷ 229 ∷ [])
+    ∷ (anchorAt ceilings 237 distinct, 3 ∷ 4 ∷ 239 ∷ [])
     -- true, an integer, a long string
     ∷ (constantAt ceilings 123 distinct, 17 ∷ 0 ∷ 0 ∷ 124 ∷ [])
     ∷ (constantAt ceilings 124 distinct, 3 ∷ 0x0605 ∷ 0 ∷ 133 ∷ [])

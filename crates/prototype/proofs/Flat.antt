@@ -12,12 +12,9 @@ use Rattle.format.specs.GrammarChunk.{inherit, Where, within}
 use Rattle.format.specs.Read.{Read, ok, refused, Reader, next, atMost, run, many}
 use Rattle.format.specs.ReadFields.{field, byte, number, string}
 use Rattle.format.specs.ReadChunk.{counted, countedUpTo, constant, upvalue, anchor, local, forest, body}
+use Rattle.counted.proofs.Within.{regroup}
 use Rattle.prototype.specs.Parts.{head, tail}
 use Rattle.prototype.specs.Inner.Whole.{prototypeOf, inside, parts}
-
-flat : {A B C : Type 0} (o : Read A) (f : A → Reader B) (g : B → Reader C) → next (next o f) g ≡ next o (λ x at s. next (f x at s) g)
-flat (ok x to rest) f g = refl
-flat (refused q) f g = refl
 
 -- the steps of `body`, each with the place where it begins
 steps : ResourceLimits → (Where → Reader (List Prototype)) → Where → Reader (List Prototype)
@@ -91,7 +88,7 @@ as-part-steps L r w at s = refl
 
 in-steps : (L : ResourceLimits) (r : Where → Reader (List Prototype)) (w : Where) (at : ℕ) (s : Bytes) → part-steps L r w at s ≡ steps L r w at s
 unfolding steps part-steps
-in-steps L r w at s = simp flat
+in-steps L r w at s = simp regroup
 
 pub in-parts : (L : ResourceLimits) (r : Where → Reader (List Prototype)) (w : Where) (at : ℕ) (s : Bytes) → body L r w at s ≡ parts L r w at s
 in-parts L r w at s = sym (as-steps L r w at s) ∙ sym (in-steps L r w at s) ∙ as-part-steps L r w at s

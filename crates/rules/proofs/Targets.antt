@@ -12,7 +12,7 @@ use mir.Syntax.{w32, w64}
 use mir.Val.{Fits, SFits, toZ, ofZ}
 use mir.Facts.{toZ-pos, toZ-ofZ, fits-natAbs}
 use borrow.Author.Tests.{ltb-true, le-leb, lt-leb}
-use Rattle.instructions.proofs.Signs.{wide, wide-fits}
+use Rattle.instructions.proofs.Signs.{not-negative, wide, wide-fits}
 use Rattle.rules.specs.declared.finding.Rule.the-variants.{Jump}
 use Rattle.rules.specs.Rules.{outside, jumpRule}
 
@@ -39,10 +39,6 @@ above (negsuc n) count e h = absurd (true≢false e)
 inside : (z : ℤ) (count : ℕ) → ltZ z (pos 0) ≡ false → natAbs z < count → none ≡ outside z count
 inside (pos n) count e h = rw (lt-leb count n h)
 inside (negsuc n) count e h = absurd (true≢false e)
-
-not-negative : (z : ℤ) → ltZ z (pos 0) ≡ false → T (nonNeg z)
-not-negative (pos n) e = tt
-not-negative (negsuc n) e = absurd (true≢false e)
 
 module _ (pc : ℕ) (z : ℤ) (low : pc < 2 ^ 32) (h : SFits w32 z) where
   abbrev pub target : ℤ
