@@ -43,6 +43,7 @@ fn list_of(kind: EntryKind, row: FunctionRow) -> ListAt
     }
 }
 
+// Where the list that holds an entry of a function begins, or why there is no such entry: the refusal of the chunk, 23, or 24.
 // Ruled out: an entry of the count's number, the place of another list.
 pub fn entry_list(
     s: &[u8],

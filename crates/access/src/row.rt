@@ -16,6 +16,7 @@ pub enum RowAnswer {
     Err(Refusal),
 }
 
+// The row of a function by its number: its fields, and where each of its lists begins; 23 where there is no such function.
 // Ruled out: main's row for every number, 23 before a refusal of the chunk.
 pub fn function_row(s: &[u8], limits: ResourceLimits, function: usize) -> RowAnswer
     ensures { λ r. ⌜ r ≡ shownRowAnswer (functionOf function (read limits (now (s .entry)))) ⌝ }

@@ -72,6 +72,7 @@ pub fn one(n: u64) -> [u64; 1]
     [n]
 }
 
+// Two numbers as an array.
 pub fn two(n: u64, m: u64) -> [u64; 2]
     ensures { λ r. ⌜ r ≡ n ∷ m ∷ [] ⌝ }
 {

@@ -19,6 +19,7 @@ pub fn complement_of_i32(z: i32) -> u64
     complement_of(z as i64)
 }
 
+// The same of a byte: its sign is filled up to 64 bits.
 pub fn complement_of_i8(z: i8) -> u64
     ensures { λ r. ⌜ r ≡ complement z ⌝ }
 {

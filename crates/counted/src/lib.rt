@@ -58,6 +58,7 @@ fn count_up_to(s: &[u8], cursor: Cursor, limit: usize, refusal: Refusal) -> U64R
     read
 }
 
+// Passes over the constants of a function: their count, which is held to its limit, and each of them.
 // Ruled out: a count of the limit refused, cut short reported before the limit.
 pub fn constants_list(
     s: &[u8],
@@ -81,6 +82,7 @@ pub fn constants_list(
     }
 }
 
+// Passes over the upvalues of a function: their count, which is held to its limit, and three bytes each.
 // Ruled out: the place of the count given as that of the items, one byte an upvalue.
 pub fn upvalues_list(s: &[u8], cursor: Cursor, max_upvalues: usize) -> ListResult
     ensures { λ r. ⌜ r ≡ listResult (spec.countedUpTo «max_upvalues» Upvalues spec.upvalue (cursor .at) (drop (cursor .at) (now (s .entry)))) ⌝ }
@@ -109,7 +111,7 @@ pub fn line_info_list(s: &[u8], cursor: Cursor) -> ListResult
     }
 }
 
-// Ruled out: a limit on anchors, the count of numbers given as that of anchors.
+// Passes over the anchors of a function: their count, and two numbers each. Ruled out: a limit on anchors, the count of numbers given as that of anchors.
 pub fn anchors_list(s: &[u8], cursor: Cursor) -> ListResult
     ensures { λ r. ⌜ r ≡ listResult (spec.counted spec.anchor (cursor .at) (drop (cursor .at) (now (s .entry)))) ⌝ }
 {
@@ -123,6 +125,7 @@ pub fn anchors_list(s: &[u8], cursor: Cursor) -> ListResult
     }
 }
 
+// Passes over the local variables of a function: their count, and each with its name and its two numbers.
 // Ruled out: a list that ends at an absent name, the cursor behind the last name.
 pub fn locals_list(s: &[u8], cursor: Cursor, max_string_bytes: usize) -> ListResult
     ensures { λ r. ⌜ r ≡ listResult (spec.counted (spec.local «max_string_bytes») (cursor .at) (drop (cursor .at) (now (s .entry)))) ⌝ }
@@ -184,6 +187,7 @@ fn instruction_count(
     read
 }
 
+// Passes over the instructions of a function: their count, which is held to its limit and to the total of all functions, and four bytes each.
 // Ruled out: the total not tested, 15 where 14 holds too.
 pub fn instructions_list(
     s: &[u8],

@@ -153,6 +153,7 @@ fn behind_format(s: &[u8], cursor: Cursor) -> CursorResult
     and_expect(read, s, b"\0\0\0\0\0\x28\x77\x40", Fixed::LuacNum)
 }
 
+// Reads the header: the parts that are the same in every file are compared, the format byte is shown, with a warning where it is not 0.
 // Ruled out: a format other than 0 refused, a refusal with the place of the first byte that differs instead of the part's.
 pub fn parse_header_lua54(s: &[u8], cursor: Cursor) -> HeaderResult
     ensures { λ r. ⌜ r ≡ headerResult (spec.header (cursor .at) (drop (cursor .at) (now (s .entry)))) ⌝ }

@@ -26,7 +26,7 @@ use show_entry::instruction;
 use show_entry::upvalue;
 use show_entry::upvalue_name;
 
-// Ruled out: a word of another function, 24 before 23.
+// An instruction word of a function, by their numbers. Ruled out: a word of another function, 24 before 23.
 #[no_mangle]
 pub extern "C" fn lafzimdo_instruction(
     chunk: &[u8],
@@ -48,6 +48,7 @@ pub extern "C" fn lafzimdo_instruction(
     }
 }
 
+// A constant of a function, by their numbers: its tag and its value, or where its string stands.
 // Ruled out: true shown as false, a string's place at its size, an integer without its sign.
 #[no_mangle]
 pub extern "C" fn lafzimdo_constant(
@@ -70,7 +71,7 @@ pub extern "C" fn lafzimdo_constant(
     }
 }
 
-// Ruled out: its three bytes in another order, an array that is touched where the answer is a refusal.
+// An upvalue of a function, by their numbers: its three bytes. Ruled out: its three bytes in another order, an array that is touched where the answer is a refusal.
 #[no_mangle]
 pub extern "C" fn lafzimdo_upvalue(
     chunk: &[u8],
@@ -92,7 +93,7 @@ pub extern "C" fn lafzimdo_upvalue(
     }
 }
 
-// Ruled out: a byte from 128 up shown as it stands, its eight bits not filled up to 64.
+// A line delta of a function, by their numbers. Ruled out: a byte from 128 up shown as it stands, its eight bits not filled up to 64.
 #[no_mangle]
 pub extern "C" fn lafzimdo_delta(
     chunk: &[u8],
@@ -114,7 +115,7 @@ pub extern "C" fn lafzimdo_delta(
     }
 }
 
-// Ruled out: pc and line exchanged, the first anchor always.
+// An anchor of a function, by their numbers: its pc and its line. Ruled out: pc and line exchanged, the first anchor always.
 #[no_mangle]
 pub extern "C" fn lafzimdo_anchor(
     chunk: &[u8],
@@ -136,6 +137,7 @@ pub extern "C" fn lafzimdo_anchor(
     }
 }
 
+// The name of an upvalue of a function, by their numbers: whether there is one, and where it stands.
 // Ruled out: an absent name shown as an empty one, a place before its size.
 #[no_mangle]
 pub extern "C" fn lafzimdo_upvalue_name(

@@ -8,6 +8,7 @@ ghost use Rattle.boundary.specs.Status.{limitsOf, status, written};
 ghost use Rattle.finding_list.specs.FindingNumbers.{ofFindings, numbersWritten};
 use finding_list::list_findings;
 
+// Validates a chunk: the verdict, the number of findings, and the findings in the lent list, four numbers each.
 // Ruled out: success that writes nothing, a refusal that writes, findings in another order.
 #[no_mangle]
 pub extern "C" fn lafzimdo_findings(

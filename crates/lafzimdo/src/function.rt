@@ -15,6 +15,7 @@ use numbers::fields::fields_numbers;
 use show_chunk::fields::FieldsAnswer;
 use show_chunk::fields::function_fields;
 
+// The fields of a function by its number, and how many entries each of its lists has.
 // Ruled out: nested functions that all show main's fields, an array that is touched where the answer is a refusal.
 #[no_mangle]
 pub extern "C" fn lafzimdo_function(
@@ -36,7 +37,7 @@ pub extern "C" fn lafzimdo_function(
     }
 }
 
-// Ruled out: lines always 0, the delta at the anchor skipped.
+// The source line of an instruction of a function. Ruled out: lines always 0, the delta at the anchor skipped.
 #[no_mangle]
 pub extern "C" fn lafzimdo_line(
     chunk: &[u8],

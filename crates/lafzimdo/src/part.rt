@@ -40,7 +40,7 @@ pub extern "C" fn lafzimdo_tail_at(
     tail_at(chunk, limits, place, out)
 }
 
-// Ruled out: high byte first, a word behind the end of the chunk.
+// The instruction word that begins at a place, and the place behind it. Ruled out: high byte first, a word behind the end of the chunk.
 #[no_mangle]
 pub extern "C" fn lafzimdo_word_at(
     chunk: &[u8],
@@ -54,7 +54,7 @@ pub extern "C" fn lafzimdo_word_at(
     word_at(chunk, limits, place, out)
 }
 
-// Ruled out: a short string shown as a long one, a string above its limit.
+// The constant that begins at a place, and the place behind it. Ruled out: a short string shown as a long one, a string above its limit.
 #[no_mangle]
 pub extern "C" fn lafzimdo_constant_at(
     chunk: &[u8],
@@ -68,7 +68,7 @@ pub extern "C" fn lafzimdo_constant_at(
     constant_at(chunk, limits, place, out)
 }
 
-// Ruled out: instack and idx exchanged, two bytes an upvalue.
+// The upvalue that begins at a place, and the place behind it. Ruled out: instack and idx exchanged, two bytes an upvalue.
 #[no_mangle]
 pub extern "C" fn lafzimdo_upvalue_at(
     chunk: &[u8],
@@ -82,7 +82,7 @@ pub extern "C" fn lafzimdo_upvalue_at(
     upvalue_at(chunk, limits, place, out)
 }
 
-// Ruled out: a byte from 128 up shown as it stands.
+// The line delta at a place, and the place behind it. Ruled out: a byte from 128 up shown as it stands.
 #[no_mangle]
 pub extern "C" fn lafzimdo_delta_at(
     chunk: &[u8],
@@ -96,7 +96,7 @@ pub extern "C" fn lafzimdo_delta_at(
     delta_at(chunk, limits, place, out)
 }
 
-// Ruled out: pc and line exchanged, the place behind pc given as the one behind.
+// The anchor that begins at a place, and the place behind it. Ruled out: pc and line exchanged, the place behind pc given as the one behind.
 #[no_mangle]
 pub extern "C" fn lafzimdo_anchor_at(
     chunk: &[u8],
@@ -124,7 +124,7 @@ pub extern "C" fn lafzimdo_local_at(
     local_at(chunk, limits, place, out)
 }
 
-// Ruled out: an absent string shown as an empty one, a place before its size.
+// The string that begins at a place, and the place behind it. Ruled out: an absent string shown as an empty one, a place before its size.
 #[no_mangle]
 pub extern "C" fn lafzimdo_string_at(
     chunk: &[u8],

@@ -19,6 +19,7 @@ use numbers::entry::local_numbers;
 use show_local::LocalAnswer;
 use show_local::local;
 
+// The index of a chunk: how many functions it has, and their rows in the lent memory.
 // Ruled out: the number of numbers in place of the number of functions, rows touched where they have no room.
 #[no_mangle]
 pub extern "C" fn lafzimdo_index(
@@ -41,7 +42,7 @@ pub extern "C" fn lafzimdo_index(
     }
 }
 
-// Ruled out: the chunk handed back, a copy that is cut to the lent memory.
+// The archive copy of a chunk: its length, and its bytes in the lent memory. Ruled out: the chunk handed back, a copy that is cut to the lent memory.
 #[no_mangle]
 pub extern "C" fn lafzimdo_copy(
     chunk: &[u8],
@@ -63,6 +64,7 @@ pub extern "C" fn lafzimdo_copy(
     }
 }
 
+// A local variable of a function, by their numbers: where it is live, and its name in the lent memory.
 // Ruled out: startpc and endpc exchanged, the length of what is lent in place of the name's.
 #[no_mangle]
 pub extern "C" fn lafzimdo_local(

@@ -10,6 +10,7 @@ use numbers::summary::summary_numbers;
 use show_chunk::summary::SummaryAnswer;
 use show_chunk::summary::chunk_summary;
 
+// Reads a chunk under limits, and shows what it is: its header, its totals and its warnings.
 // Ruled out: every chunk called cut short, an array that is touched where the answer is a refusal.
 #[no_mangle]
 pub extern "C" fn lafzimdo_summary(chunk: &[u8], limits: &[u64; 9], out: &mut [u64; 14]) -> u64

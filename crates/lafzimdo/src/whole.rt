@@ -16,7 +16,7 @@ use validator::verdict::VerdictAnswer;
 use validator::verdict::chunk_verdict;
 use validator::verdict::finding_count;
 
-// Ruled out: the length of the chunk itself, a length for a chunk that is refused.
+// The length of the archive copy of a chunk. Ruled out: the length of the chunk itself, a length for a chunk that is refused.
 #[no_mangle]
 pub extern "C" fn lafzimdo_copy_length(chunk: &[u8], limits: &[u64; 9], out: &mut [u64; 1]) -> u64
     ensures { λ r. ⌜ r ≡ status (ofCopy (shownLength (read (limitsOf (now (limits .entry))) (now (chunk .entry))))) ⌝ }
@@ -32,7 +32,7 @@ pub extern "C" fn lafzimdo_copy_length(chunk: &[u8], limits: &[u64; 9], out: &mu
     }
 }
 
-// Ruled out: incomplete at the first finding, valid for analysis where an error was found.
+// The verdict of validation on a chunk. Ruled out: incomplete at the first finding, valid for analysis where an error was found.
 #[no_mangle]
 pub extern "C" fn lafzimdo_verdict(chunk: &[u8], limits: &[u64; 9], out: &mut [u64; 1]) -> u64
     ensures { λ r. ⌜ r ≡ status (ofVerdict (shownVerdict (read (limitsOf (now (limits .entry))) (now (chunk .entry))))) ⌝ }
@@ -48,7 +48,7 @@ pub extern "C" fn lafzimdo_verdict(chunk: &[u8], limits: &[u64; 9], out: &mut [u
     }
 }
 
-// Ruled out: the reading's warnings counted with them, an instruction's second finding left out.
+// How many findings validation has on a chunk. Ruled out: the reading's warnings counted with them, an instruction's second finding left out.
 #[no_mangle]
 pub extern "C" fn lafzimdo_finding_count(chunk: &[u8], limits: &[u64; 9], out: &mut [u64; 1]) -> u64
     ensures { λ r. ⌜ r ≡ status (ofCount (shownCount (read (limitsOf (now (limits .entry))) (now (chunk .entry))))) ⌝ }

@@ -10,7 +10,7 @@ use instructions::instruction::RawInstruction54;
 use numbers::word::word_numbers;
 use numbers::word::word_of;
 
-// Ruled out: B read where C stands, a mode for a number that is no opcode's.
+// All fields of an instruction word, with its opcode and mode. Ruled out: B read where C stands, a mode for a number that is no opcode's.
 #[no_mangle]
 pub extern "C" fn lafzimdo_decode(word: u32, out: &mut [u64; 12]) -> u64
     ensures { λ r. ⌜ r ≡ 0 ⌝ }
@@ -20,6 +20,7 @@ pub extern "C" fn lafzimdo_decode(word: u32, out: &mut [u64; 12]) -> u64
     0
 }
 
+// The instruction word of an opcode and of the fields that its mode uses, or why there is none.
 // Ruled out: 27 where there is no opcode, a refusal for a field that the mode does not use.
 #[no_mangle]
 pub extern "C" fn lafzimdo_encode(

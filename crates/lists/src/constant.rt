@@ -138,7 +138,7 @@ fn read_tagged(
     }
 }
 
-// Ruled out: the tags of false and true exchanged, a string of size 0 refused.
+// Reads a constant: its tag, and the value that the tag says. Ruled out: the tags of false and true exchanged, a string of size 0 refused.
 pub fn read_constant(s: &[u8], cursor: Cursor, max_string_bytes: usize) -> ConstantResult
     ensures { λ r. ⌜ r ≡ constantResult (spec.constant «max_string_bytes» (cursor .at) (drop (cursor .at) (now (s .entry)))) ⌝ }
 {

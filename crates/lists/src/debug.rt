@@ -32,7 +32,7 @@ pub enum LocalResult {
     Err(Refusal),
 }
 
-// Ruled out: pc and line exchanged, the place behind pc given as the next.
+// Reads an anchor: its pc and its line. Ruled out: pc and line exchanged, the place behind pc given as the next.
 pub fn read_anchor(s: &[u8], cursor: Cursor) -> AnchorResult
     ensures { λ r. ⌜ r ≡ anchorResult (anchor (cursor .at) (drop (cursor .at) (now (s .entry)))) ⌝ }
 {
@@ -77,7 +77,7 @@ pub fn skip_anchors(s: &[u8], cursor: Cursor, n: usize) -> CursorResult
     CursorResult::Ok(next)
 }
 
-// Ruled out: an absent name given as an empty one, startpc and endpc exchanged.
+// Reads a local variable: its name and the two numbers between which it is live. Ruled out: an absent name given as an empty one, startpc and endpc exchanged.
 pub fn read_local(s: &[u8], cursor: Cursor, max_string_bytes: usize) -> LocalResult
     ensures { λ r. ⌜ r ≡ localResult (rawLocal «max_string_bytes» (cursor .at) (drop (cursor .at) (now (s .entry)))) ⌝ }
 {

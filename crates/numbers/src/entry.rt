@@ -25,18 +25,21 @@ pub fn constant_numbers(k: ConstantValue) -> [u64; 3]
     }
 }
 
+// The numbers of an upvalue, for C.
 pub fn upvalue_numbers(y: UpvalueDesc) -> [u64; 3]
     ensures { λ r. ⌜ r ≡ upvalueNumbers y ⌝ }
 {
     [y.instack as u64, y.idx as u64, y.kind as u64]
 }
 
+// The numbers of an anchor, for C.
 pub fn anchor_numbers(y: AbsLineInfo) -> [u64; 2]
     ensures { λ r. ⌜ r ≡ anchorNumbers y ⌝ }
 {
     [y.pc as u64, y.line as u64]
 }
 
+// The numbers of a local variable, for C.
 pub fn local_numbers(name_len: usize, startpc: usize, endpc: usize) -> [u64; 3]
     ensures { λ r. ⌜ r ≡ localNumbers «name_len» startpc endpc ⌝ }
 {

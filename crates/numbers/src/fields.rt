@@ -6,6 +6,7 @@ use crate::strings::place_number;
 use crate::strings::present_number;
 use show_chunk::fields::FunctionFields;
 
+// The numbers of a function's fields, for C.
 pub fn fields_numbers(y: FunctionFields) -> [u64; 18]
     ensures { λ r. ⌜ r ≡ fieldsNumbers y ⌝ }
 {

@@ -3,6 +3,7 @@ ghost use mathlib.Core.Path.{_≡_};
 ghost use Rattle.numbers.specs.Numbers.{presentNumber, placeNumber, lengthNumber, stringNumbers};
 use reader::string::OptionString;
 
+// 1 where there is a string, else 0.
 pub fn present_number(t: OptionString) -> u64
     ensures { λ r. ⌜ r ≡ presentNumber t ⌝ }
 {
@@ -12,6 +13,7 @@ pub fn present_number(t: OptionString) -> u64
     }
 }
 
+// Where a string stands; 0 where there is none.
 pub fn place_number(t: OptionString) -> u64
     ensures { λ r. ⌜ r ≡ placeNumber t ⌝ }
 {
@@ -21,6 +23,7 @@ pub fn place_number(t: OptionString) -> u64
     }
 }
 
+// A string's length; 0 where there is none.
 pub fn length_number(t: OptionString) -> u64
     ensures { λ r. ⌜ r ≡ lengthNumber t ⌝ }
 {
@@ -30,6 +33,7 @@ pub fn length_number(t: OptionString) -> u64
     }
 }
 
+// The three numbers of a string that may be absent: whether it is there, its place, its length.
 pub fn string_numbers(t: OptionString) -> [u64; 3]
     ensures { λ r. ⌜ r ≡ stringNumbers t ⌝ }
 {

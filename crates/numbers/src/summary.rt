@@ -29,6 +29,7 @@ fn warning_place(w: OptionWarning) -> u64
     }
 }
 
+// The numbers of a summary, for C.
 pub fn summary_numbers(y: Summary) -> [u64; 14]
     ensures { λ r. ⌜ r ≡ summaryNumbers y ⌝ }
 {

@@ -62,7 +62,7 @@ pub fn word_at(chunk: &[u8], limits: &[u64; 9], place: usize, out: &mut [u64; 2]
     }
 }
 
-// Ruled out: a short string shown as a long one, an integer's magnitude instead of its bits.
+// The constant that begins at a place, and the place behind it. Ruled out: a short string shown as a long one, an integer's magnitude instead of its bits.
 pub fn constant_at(chunk: &[u8], limits: &[u64; 9], place: usize, out: &mut [u64; 4]) -> u64
     ensures { λ r. ⌜ r ≡ status (constantAt (now (limits .entry)) place (now (chunk .entry))) ⌝ }
     ensures { λ _. ⌜ now (out .exit) ≡ written (constantAt (now (limits .entry)) place (now (chunk .entry))) (now (out .entry)) ⌝ }
@@ -82,7 +82,7 @@ pub fn constant_at(chunk: &[u8], limits: &[u64; 9], place: usize, out: &mut [u64
     }
 }
 
-// Ruled out: instack and idx exchanged, two bytes an upvalue.
+// The upvalue that begins at a place, and the place behind it. Ruled out: instack and idx exchanged, two bytes an upvalue.
 pub fn upvalue_at(chunk: &[u8], limits: &[u64; 9], place: usize, out: &mut [u64; 4]) -> u64
     ensures { λ r. ⌜ r ≡ status (upvalueAt (now (limits .entry)) place (now (chunk .entry))) ⌝ }
     ensures { λ _. ⌜ now (out .exit) ≡ written (upvalueAt (now (limits .entry)) place (now (chunk .entry))) (now (out .entry)) ⌝ }
@@ -111,7 +111,7 @@ fn delta_number(byte: u8) -> u64
     18446744073709551360 + byte as u64
 }
 
-// Ruled out: a byte from 128 up shown as it stands.
+// The line delta at a place, and the place behind it. Ruled out: a byte from 128 up shown as it stands.
 pub fn delta_at(chunk: &[u8], limits: &[u64; 9], place: usize, out: &mut [u64; 2]) -> u64
     ensures { λ r. ⌜ r ≡ status (deltaAt (now (limits .entry)) place (now (chunk .entry))) ⌝ }
     ensures { λ _. ⌜ now (out .exit) ≡ written (deltaAt (now (limits .entry)) place (now (chunk .entry))) (now (out .entry)) ⌝ }
@@ -130,7 +130,7 @@ pub fn delta_at(chunk: &[u8], limits: &[u64; 9], place: usize, out: &mut [u64; 2
     }
 }
 
-// Ruled out: pc and line exchanged, the place behind pc given as the one behind.
+// The anchor that begins at a place, and the place behind it. Ruled out: pc and line exchanged, the place behind pc given as the one behind.
 pub fn anchor_at(chunk: &[u8], limits: &[u64; 9], place: usize, out: &mut [u64; 3]) -> u64
     ensures { λ r. ⌜ r ≡ status (anchorAt (now (limits .entry)) place (now (chunk .entry))) ⌝ }
     ensures { λ _. ⌜ now (out .exit) ≡ written (anchorAt (now (limits .entry)) place (now (chunk .entry))) (now (out .entry)) ⌝ }

@@ -25,7 +25,7 @@ pub enum U64Result {
     Err(Refusal),
 }
 
-// Ruled out: the byte before the cursor, a refusal where the last byte stands at the cursor.
+// Reads a byte. Ruled out: the byte before the cursor, a refusal where the last byte stands at the cursor.
 pub fn read_u8(s: &[u8], cursor: Cursor) -> U8Result
     ensures { λ r. ⌜ r ≡ u8Result (field 1 (cursor .at) (drop (cursor .at) (now (s .entry)))) ⌝ }
 {
@@ -39,7 +39,7 @@ pub fn read_u8(s: &[u8], cursor: Cursor) -> U8Result
     U8Result::Err(short(1, at))
 }
 
-// Ruled out: high byte first, a refusal with the place of the missing byte instead of the field's.
+// Reads four bytes, low byte first. Ruled out: high byte first, a refusal with the place of the missing byte instead of the field's.
 pub fn read_u32_le(s: &[u8], cursor: Cursor) -> U32Result
     ensures { λ r. ⌜ r ≡ u32Result (field 4 (cursor .at) (drop (cursor .at) (now (s .entry)))) ⌝ }
 {
@@ -53,7 +53,7 @@ pub fn read_u32_le(s: &[u8], cursor: Cursor) -> U32Result
     }
 }
 
-// Ruled out: the two halves swapped, a cursor that stays where it was.
+// Reads eight bytes, low byte first. Ruled out: the two halves swapped, a cursor that stays where it was.
 pub fn read_u64_le(s: &[u8], cursor: Cursor) -> U64Result
     ensures { λ r. ⌜ r ≡ u64Result (field 8 (cursor .at) (drop (cursor .at) (now (s .entry)))) ⌝ }
 {

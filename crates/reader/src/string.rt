@@ -26,6 +26,7 @@ pub enum StringResult {
     Err(Refusal),
 }
 
+// Reads a string: its size, which is its length plus one, and its bytes; size 0 is an absent one.
 // Ruled out: a length of the limit refused, the content looked for before its length is tested.
 pub fn read_string_lua54(s: &[u8], cursor: Cursor, max_string_bytes: usize) -> StringResult
     ensures { λ r. ⌜ r ≡ stringResult (string «max_string_bytes» (cursor .at) (drop (cursor .at) (now (s .entry)))) ⌝ }

@@ -2,6 +2,7 @@
 ghost use mathlib.Core.Path.{_≡_};
 ghost use mathlib.Core.Bool.{_||_};
 ghost use Prim.Native.Nat.{_≤_};
+ghost use Rattle.format.specs.Limits.{MOST};
 ghost use Rattle.rules.specs.Rules as rules;
 ghost use Rattle.rules.specs.Findings as findings;
 ghost use Rattle.validator.specs.Inner.Position.{outOf, startPosition};
@@ -22,7 +23,7 @@ pub struct Totals {
     pub stopped: bool,
 }
 
-// Ruled out: a register at the stack's size as an error.
+// Whether a finding is an error or a warning. Ruled out: a register at the stack's size as an error.
 pub fn severity(rule: Rule) -> Severity
     ensures { λ r. ⌜ r ≡ rules.severity rule ⌝ }
 {
@@ -52,7 +53,7 @@ fn or_error(before: bool, rule: Rule) -> bool
 
 // All findings, one after the other.
 pub fn tally(s: &[u8], limits: ResourceLimits, max: u32, place: Cursor, kept: u64) -> Totals
-    requires { ⌜ limits .«max_total_instructions» ≤ 16777216 ⌝ }
+    requires { ⌜ limits .«max_total_instructions» ≤ MOST ⌝ }
     ensures { λ r. ⌜ r ≡ tallied (outOf limits (now (s .entry)) max (startPosition (place .at) kept)) ⌝ }
 {
     let mut p = start(place, kept);
@@ -79,7 +80,7 @@ pub fn tally(s: &[u8], limits: ResourceLimits, max: u32, place: Cursor, kept: u6
     }
 }
 
-// Ruled out: incomplete where an error was found, incomplete at the first finding.
+// The verdict on findings of which these are the totals. Ruled out: incomplete where an error was found, incomplete at the first finding.
 pub fn verdict_of(t: Totals) -> Verdict
     ensures { λ r. ⌜ r ≡ verdictShown t ⌝ }
 {
