@@ -1,6 +1,5 @@
 // The row of one function, read where a walk has found it.
 ghost use mathlib.Core.Path.{_≡_};
-ghost use lib.ListN.{drop};
 ghost use Rattle.reader.specs.Shown.{optionString};
 ghost use Rattle.chunk.specs.Inner.Spot.{sourceAt, inheritShown, rowShown, rowAt};
 use crate::spot::Above;

@@ -6,7 +6,6 @@ ghost use Prim.Native.Nat.{_+_, _≤_};
 ghost use lib.Dec.{eqb};
 ghost use Rattle.skim.specs.Inner.Skim.{skimResult};
 ghost use Rattle.chunk.specs.Inner.Spot.{spotOf, belowShown, standing, functionAt, functionsAt, rowAt, Found};
-use cursor::Cursor;
 use format::limits::ResourceLimits;
 use format::refusal::Refusal;
 use prototype::pass::HeadCountsResult;

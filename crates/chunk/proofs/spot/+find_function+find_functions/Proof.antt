@@ -1,7 +1,7 @@
 -- The proof of the cycle of calls {find_function, find_functions}: as that of skim's walk. A function at n levels calls `find_functions` at n levels, and that calls
 -- `find_function` at n - 1: the measure is 2n + 1 for the one and 2n for the other. What each return shows is in skim's laws, what it has found in Finds.antt.
 -- Assumes nothing.
-use Prim.Native.Nat.{ℕ, _<_, _≤_, _*_, _+_, _-_}
+use Prim.Native.Nat.{ℕ, _<_, _≤_, _*_, _+_}
 use mathlib.Core.Path.{_≡_, refl, sym, _∙_}
 use lib.ListN.{drop}
 use native.Mathlib.Omega.{arith}
