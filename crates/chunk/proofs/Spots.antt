@@ -20,26 +20,27 @@ use Rattle.format.specs.Form.{Bytes}
 use Rattle.format.specs.GrammarChunk as grammar
 use Rattle.format.specs.GrammarChunk.{inherit, outermost}
 use Rattle.format.specs.Read.{Read, ok, refused, Reader, next, give}
+use Rattle.format.specs.ReadFields as fields
 use Rattle.format.proofs.Exact.{never}
 use Rattle.lists.specs.Readers.{Count, protosCount}
 use Rattle.cursor.specs.declared.Cursor.{Cursor}
 use Rattle.cursor.specs.Shown.{cursorAt}
-use Rattle.reader.specs.Shown.{optionString}
+use Rattle.reader.specs.Shown.{optionString, stringResult}
 use Rattle.reader.specs.declared.string.OptionString.{OptionString}
 use Rattle.reader.specs.declared.string.OptionString.the-variants as string
-use Rattle.prototype.specs.declared.front.Front as declared-front
-use Rattle.prototype.specs.declared.front.FrontResult.the-variants as front-answer
+use Rattle.reader.specs.declared.string.StringResult.the-variants as string-answer
 use Rattle.prototype.specs.declared.parts.Head as declared-head
 use Rattle.prototype.specs.declared.parts.HeadResult.the-variants as head-answer
 use Rattle.prototype.specs.declared.parts.Tail as declared-tail
 use Rattle.prototype.specs.declared.parts.TailResult.the-variants as tail-answer
 use Rattle.prototype.specs.declared.row.OptionRow.the-variants as option
-use Rattle.prototype.specs.Front.{Front, front}
+use Rattle.prototype.specs.declared.front.Lines.{Lines}
+use Rattle.prototype.specs.declared.front.Sizes.{Sizes}
+use Rattle.prototype.specs.Front.{Front, front, lines, sizes}
 use Rattle.prototype.specs.Parts as parts
 use Rattle.prototype.specs.Parts.{Head, HeadLists, headLists, Tail}
 use Rattle.prototype.specs.PartsShown.{headOf, tailOf, headResult, tailResult}
 use Rattle.prototype.specs.Inner.Counts.{isSpelt, headCounts}
-use Rattle.prototype.specs.Inner.Results.{frontResult}
 use Rattle.prototype.specs.Inner.Row.{rowOf}
 use Rattle.prototype.specs.Inner.Whole.{prototypeOf, inside}
 use Rattle.skim.specs.declared.walk.Skimmed.{Skimmed}
@@ -48,23 +49,42 @@ use Rattle.chunk.specs.Inner.Spot.{spotOf, belowShown, spelt, sourceAt, 
 
 -- ## The source at a place
 module _ (limit : ℕ) (s : Bytes) (at : ℕ) where
-  pub no-source : (q : Refusal) → front-answer.Err q ≡ frontResult (front limit at (drop at s)) → string.None ≡ optionString (sourceAt limit s at)
-  no-source q e = by (front limit at (drop at s)) e
+  pub no-source : (q : Refusal) → string-answer.Err q ≡ stringResult (fields.string limit at (drop at s)) → string.None ≡ optionString (sourceAt limit s at)
+  no-source q e = by (fields.string limit at (drop at s)) e
     where
-      by : (o : Read Front) → front-answer.Err q ≡ frontResult o → string.None ≡ optionString (spelt o)
-      by (ok f to rest) e = absurd (let z : _≡_ {A = ℕ} 0 1 = cc in omega arith)
+      by : (o : Read (Option LuaString)) → string-answer.Err q ≡ stringResult o → string.None ≡ optionString (spelt o)
+      by (ok t to rest) e = absurd (let z : _≡_ {A = ℕ} 0 1 = cc in omega arith)
       by (refused p) e = refl
 
-  pub source-there : (f : declared-front.Front) (c : Cursor) → front-answer.Ok f c ≡ frontResult (front limit at (drop at s)) → f .source ≡ optionString (sourceAt limit s at)
-  source-there f c e = by (front limit at (drop at s)) e
+  pub source-there : (t : OptionString) (c : Cursor) → string-answer.Ok t c ≡ stringResult (fields.string limit at (drop at s)) → t ≡ optionString (sourceAt limit s at)
+  source-there t c e = by (fields.string limit at (drop at s)) e
     where
-      by : (o : Read Front) → front-answer.Ok f c ≡ frontResult o → f .source ≡ optionString (spelt o)
-      by (ok x to rest) e = let same : f ≡ record { source = optionString (x .source); lines = x .lines; sizes = x .sizes } = cc in ap (λ f. f .source) same
+      by : (o : Read (Option LuaString)) → string-answer.Ok t c ≡ stringResult o → t ≡ optionString (spelt o)
+      by (ok x to rest) e = let same : t ≡ optionString x = cc in same
       by (refused p) e = absurd (let z : _≡_ {A = ℕ} 0 1 = cc in omega arith)
+
+  -- it is the front's first field
+  front-source : {f : Front} {to : ℕ} {rest : Bytes} → front limit at (drop at s) ≡ ok f to rest → sourceAt limit s at ≡ f .source
+  front-source {f} {to} {rest} e = one (fields.string limit at (drop at s)) e
+    where
+      whole : Option LuaString → Lines → Sizes → Reader Front
+      whole t l z = give (record { source = t; lines = l; sizes = z })
+
+      three : (t : Option LuaString) (l : Lines) (o : Read Sizes) → next o (whole t l) ≡ ok f to rest → t ≡ f .source
+      three t l (refused q) e = absurd (never e)
+      three t l (ok z a b) e = let same : record { source = t; lines = l; sizes = z } ≡ f = cc in ap (λ f. f .source) same
+
+      two : (t : Option LuaString) (o : Read Lines) → next o (λ l a b. next (sizes a b) (whole t l)) ≡ ok f to rest → t ≡ f .source
+      two t (refused q) e = absurd (never e)
+      two t (ok l a b) e = three t l (sizes a b) e
+
+      one : (o : Read (Option LuaString)) → next o (λ t a b. next (lines a b) (λ l c d. next (sizes c d) (whole t l))) ≡ ok f to rest → spelt o ≡ f .source
+      one (refused q) e = absurd (never e)
+      one (ok t a b) e = two t (lines a b) e
 
 -- of the function that was read there
 pub spelt-there : (L : ResourceLimits) (before at : ℕ) (s : Bytes) {h : Head} {to : ℕ} {rest : Bytes} → parts.head L before at (drop at s) ≡ ok h to rest → sourceAt (L .«max_string_bytes») s at ≡ h .front .source
-spelt-there L before at s {h} {to} {rest} e = one (front (L .«max_string_bytes») at (drop at s)) e
+spelt-there L before at s {h} {to} {rest} e = one (front (L .«max_string_bytes») at (drop at s)) refl e
   where
     whole : Front → HeadLists → Count → Reader Head
     whole f l p = give (record { front = f; lists = l; protos = p })
@@ -77,9 +97,9 @@ spelt-there L before at s {h} {to} {rest} e = one (front (L .«max_string_bytes�
     two f (refused q) e = absurd (never e)
     two f (ok l a b) e = three f l (protosCount (L .«max_total_prototypes») a b) e
 
-    one : (o : Read Front) → next o (λ f a b. next (headLists L before a b) (λ l c d. next (protosCount (L .«max_total_prototypes») c d) (whole f l))) ≡ ok h to rest → spelt o ≡ h .front .source
-    one (refused q) e = absurd (never e)
-    one (ok f a b) e = two f (headLists L before a b) e
+    one : (o : Read Front) → front (L .«max_string_bytes») at (drop at s) ≡ o → next o (λ f a b. next (headLists L before a b) (λ l c d. next (protosCount (L .«max_total_prototypes») c d) (whole f l))) ≡ ok h to rest → sourceAt (L .«max_string_bytes») s at ≡ h .front .source
+    one (refused q) is e = absurd (never e)
+    one (ok f a b) is e = front-source (L .«max_string_bytes») s at is ∙ two f (headLists L before a b) e
 
 pick-source : (at above : ℕ) (limit : ℕ) (s : Bytes) (own : Option LuaString) → sourceAt limit s at ≡ own → sourceAt limit s (cond (isSpelt (optionString own)) at above) ≡ inherit own (sourceAt limit s above)
 pick-source at above limit s none e = refl
@@ -101,7 +121,7 @@ nothing-left : (s : Bytes) → drop (length s) s ≡ []
 nothing-left s = ap (drop (length s)) (sym (append-nil s)) ∙ drop-append-seam s []
 
 no-source-left : (limit : ℕ) (s : Bytes) → sourceAt limit s (length s) ≡ none
-no-source-left limit s = ap (λ rest. spelt (front limit (length s) rest)) (nothing-left s)
+no-source-left limit s = ap (λ rest. spelt (fields.string limit (length s) rest)) (nothing-left s)
 
 -- where main stands
 pub main-stands : (L : ResourceLimits) (s : Bytes) (at : Cursor) → standing L s (record { depth = 0; parent = 0; source = length s }) (record { next = at; number = 0; instructions = 0 }) ≡ outermost

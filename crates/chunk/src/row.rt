@@ -6,8 +6,6 @@ use crate::spot::Above;
 use crate::spot::Spot;
 use cursor::Cursor;
 use format::limits::ResourceLimits;
-use prototype::front::FrontResult;
-use prototype::front::read_front;
 use prototype::parts::Head;
 use prototype::parts::HeadResult;
 use prototype::parts::Tail;
@@ -18,6 +16,8 @@ use prototype::row::FunctionRow;
 use prototype::row::Lists;
 use prototype::row::OptionRow;
 use reader::string::OptionString;
+use reader::string::StringResult;
+use reader::string::read_string_lua54;
 
 // An absent source is the parent's.
 fn inherited(spelt: OptionString, parent: OptionString) -> OptionString
@@ -29,14 +29,15 @@ fn inherited(spelt: OptionString, parent: OptionString) -> OptionString
     }
 }
 
-// The source that the function at a place spells; none, where it spells none, or where no function stands.
+// The source that the function at a place spells; none, where it spells none, or where no function stands. It is a function's first field, and read alone: read_front is to have
+// one caller, so that the compiler keeps it in the judge's walk.
 fn source_at(s: &[u8], max_string_bytes: usize, place: usize) -> OptionString
     ensures { λ r. ⌜ r ≡ optionString (sourceAt «max_string_bytes» (now (s .entry)) place) ⌝ }
 {
-    let begins = read_front(s, Cursor { at: place }, max_string_bytes);
+    let begins = read_string_lua54(s, Cursor { at: place }, max_string_bytes);
     match begins {
-        FrontResult::Err(_) => OptionString::None,
-        FrontResult::Ok { front, next: _ } => front.source,
+        StringResult::Err(_) => OptionString::None,
+        StringResult::Ok { string, next: _ } => string,
     }
 }
 

@@ -24,7 +24,7 @@ use header::OptionWarning;
 use prototype::row::OptionRow;
 use skim::walk::SkimResult;
 use skim::walk::Skimmed;
-use skim::walk::skim_function;
+use skim::walk::skim_main;
 
 // The warnings of a reading, in their order: there are at most two.
 pub struct Warnings {
@@ -133,7 +133,7 @@ pub fn judge_chunk(s: &[u8], limits: ResourceLimits) -> JudgedResult
                 number: 0,
                 instructions: 0,
             };
-            let functions = skim_function(s, limits, limits.max_nesting_depth, from);
+            let functions = skim_main(s, limits, limits.max_nesting_depth, from);
             match functions {
                 SkimResult::Err(refusal) => JudgedResult::Err(refusal),
                 SkimResult::Ok(skimmed) => {

@@ -3,3 +3,4 @@ pub mod HeadTail
 pub mod OneFunction
 pub mod Passes
 pub mod SoFar
+pub mod Main

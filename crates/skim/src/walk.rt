@@ -93,3 +93,11 @@ fn skim_functions(
     }
     SkimResult::Ok(skimmed)
 }
+
+// Passes over main and all that nest in it, at most `left` deep: as one function of a list, so that the compiler puts skim_function, which then has one caller, into the loop.
+pub fn skim_main(s: &[u8], limits: ResourceLimits, left: usize, from: Skimmed) -> SkimResult
+    requires { ⌜ (limits .«max_total_prototypes» ≤ 16777216) × (limits .«max_total_instructions» ≤ 16777216) × (left ≤ 200) ⌝ }
+    ensures { λ r. ⌜ ((w : grammar.Where) → w .number ≡ 0 → from .number ≡ w .number → from .instructions ≡ w .instructions → r ≡ skimResult w (function limits left w (from .next .at) (drop (from .next .at) (now (s .entry))))) ⌝ }
+{
+    skim_functions(s, limits, 1, left + 1, from)
+}

@@ -17,6 +17,7 @@ use Rattle.format.specs.Reading.{Prototype}
 use Rattle.format.specs.GrammarFields.{LuaString}
 use Rattle.format.specs.GrammarChunk as grammar
 use Rattle.format.specs.Read.{Read, ok, refused}
+use Rattle.format.specs.ReadFields as fields
 use Rattle.format.specs.ReadChunk.{forest, function}
 use Rattle.reader.specs.Shown.{optionString}
 use Rattle.reader.specs.declared.string.OptionString.{OptionString}
@@ -45,12 +46,12 @@ spotOf a k tail = k .next .at ∷ tail ∷ k .instructions ∷ a .depth ∷ a .p
 abbrev pub belowShown : Above → Skimmed → Bool → Above
 belowShown a k named = record { depth = a .depth + 1; parent = k .number; source = cond named (k .next .at) (a .source) }
 
-abbrev pub spelt : Read Front → Option LuaString
-spelt (ok f to rest) = f .source
+abbrev pub spelt : Read (Option LuaString) → Option LuaString
+spelt (ok t to rest) = t
 spelt (refused q) = none
 
 abbrev pub sourceAt : ℕ → Bytes → ℕ → Option LuaString
-sourceAt limit s k = spelt (front limit k (drop k s))
+sourceAt limit s k = spelt (fields.string limit k (drop k s))
 
 abbrev pub standing : ResourceLimits → Bytes → Above → Skimmed → grammar.Where
 standing L s a k = record { number = k .number; instructions = k .instructions; depth = a .depth; parent = a .parent; source = sourceAt (L .«max_string_bytes») s (a .source) }

@@ -1,4 +1,4 @@
--- `decode::summary::judge_chunk` meets its contract: by what `open_chunk` and `skim_function` showed (`BeforeMain.antt`). Assumes nothing.
+-- `decode::summary::judge_chunk` meets its contract: by what `open_chunk` and `skim_main` showed (`BeforeMain.antt`). Assumes nothing.
 use mathlib.Core.Path.{refl, sym, _∙_, ap}
 use native.Mathlib.Omega.{arith}
 use borrow.Author.Needs.{needs}
@@ -10,13 +10,13 @@ use Rattle.decode.proofs.BeforeMain.{not-opened, in-limits, judged-refu
 use Rattle.decode.proofs.summary.judge_chunk.Statement.{statement}
 use Rattle.decode.proofs.summary.judge_chunk.Tie as tie
 
-skim-function-requires : tie.Need-skim-function-requires
-skim-function-requires c κs =
+skim-main-requires : tie.Need-skim-main-requires
+skim-main-requires c κs =
     let k = c .before .before in
     let o = k .before .before in
     let a = o .before .before .args in
     let l = in-ceilings (a .limits) (in-limits (a .limits) (a .s .now) (k .begins2 .given .0 .0) (sym (k .begins2 .given .1) ∙ o .open-chunk .ensures)) in
-    (l .1, l .2, omega arith)
+    (l .1, l .2, l .0)
 
 returns : tie.Need-returns
 returns c =
@@ -31,7 +31,7 @@ returns-2 c =
     let o = k .before .before in
     let a = o .before .before .args in
     judged-refused (a .limits) (a .s .now) (k .begins2 .given .0 .0) (sym (k .begins2 .given .1) ∙ o .open-chunk .ensures)
-    _ (sym (c .before .functions .given .1) ∙ f .skim-function .ensures outermost refl refl)
+    _ (sym (c .before .functions .given .1) ∙ f .skim-main .ensures outermost refl refl refl)
 
 returns-3 : tie.Need-returns-3
 returns-3 c =
@@ -42,14 +42,14 @@ returns-3 c =
     let a = o .before .before .args in
     ap judged.Ok (c .summarised .ensures)
     ∙ judged-read (a .limits) (a .s .now) (k .begins2 .given .0 .0) (sym (k .begins2 .given .1) ∙ o .open-chunk .ensures)
-    (n .functions2 .given .0 .0) (sym (n .functions2 .given .1) ∙ f .skim-function .ensures outermost refl refl)
+    (n .functions2 .given .0 .0) (sym (n .functions2 .given .1) ∙ f .skim-main .ensures outermost refl refl refl)
 
 pub judge-chunk-spec : {M : Type 1} → statement M
 judge-chunk-spec =
     tie.close
     (tie.spec
     (λ c κs. search needs) (λ c. search needs) (λ c. search needs)
-    skim-function-requires
+    skim-main-requires
     (λ c. search needs) (λ c. search needs)
     (λ c κs. search needs)
     returns
