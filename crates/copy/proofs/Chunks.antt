@@ -22,7 +22,7 @@ use Rattle.cursor.specs.Shown.{cursorAt}
 use Rattle.skim.specs.declared.walk.Skimmed.{Skimmed}
 use Rattle.skim.specs.declared.walk.SkimResult.the-variants as skim
 use Rattle.skim.specs.Inner.Skim.{skimResult}
-use Rattle.copy_walk.proofs.Functions.{skim-err}
+use Rattle.skim.proofs.OneFunction.{skim-err}
 use Rattle.lent.specs.Inner.Splice.{splice}
 use Rattle.lent.proofs.Splices.{splice-length, splice-before}
 use Rattle.encode.specs.Inner.Put.{Put}
