@@ -8,6 +8,9 @@ use Rattle.format.specs.Form.{Bytes}
 use Rattle.format.specs.Read.{Read, ok}
 use Rattle.format.proofs.Exact.{never}
 use Rattle.cursor.specs.declared.Cursor.{Cursor}
+use Rattle.cursor.specs.declared.CursorResult.the-variants as cursor
+use Rattle.cursor.specs.Inner.Results.{cursorResult}
+use Rattle.reader.proofs.Shows.{cursor-err, cursor-ok}
 use Rattle.prototype.specs.declared.parts.Tail as declared-tail
 use Rattle.prototype.specs.declared.parts.TailResult.the-variants as tail-answer
 use Rattle.skim.specs.declared.walk.Skimmed.{Skimmed}
@@ -19,15 +22,23 @@ use Rattle.encode.specs.Inner.Put.{Put}
 use Rattle.copy_parts.specs.Inner.Parts.{tailBytes}
 use Rattle.copy_parts.specs.Inner.Ends.{PutsTail, endShown}
 
-module _ (nested : Skimmed) {at : ℕ} {l : Bytes} {len : ℕ} {l′ : Bytes} where
-  pub end-stops : (o : Read Tail) (q : Refusal) → tail-answer.Err q ≡ tailResult o → (skim.Err q ≡ endShown nested o) × PutsTail o at l len l′
-  end-stops o q e = (sym (ap (endShown nested) (tail-err o q e)), record { put = λ t to rest f. absurd (never (sym (tail-err o q e) ∙ f)) })
+-- ## The lists behind the nested functions
+pub tail-stops : {at : ℕ} {l : Bytes} {len : ℕ} {l′ : Bytes} (o : Read Tail) (q : Refusal) → tail-answer.Err q ≡ tailResult o → (cursor.Err q ≡ cursorResult o) × PutsTail o at l len l′
+tail-stops o q e = (sym (ap cursorResult (tail-err o q e)), record { put = λ t to rest f. absurd (never (sym (tail-err o q e) ∙ f)) })
 
-  pub end-read : (s : Bytes) (limit from : ℕ) (t : declared-tail.Tail) (c : Cursor) → tail-answer.Ok t c ≡ tailResult (tail limit from (drop from s))
-      → ((from to : ℕ) (v : Tail) (rest : Bytes) → tail limit from (drop from s) ≡ ok v to rest → t ≡ tailOf v → Put (tailBytes v) at l len l′)
-      → (skim.Ok (record { next = c; number = nested .number; instructions = nested .instructions }) ≡ endShown nested (tail limit from (drop from s))) × PutsTail (tail limit from (drop from s)) at l len l′
-  end-read s limit from t c e p =
-      let o = tail-read s limit from t c e in (
-        sym (ap (endShown nested) (o .is)),
-        record { put = λ v to rest f. let same : o .value ≡ v = (let both = sym (o .is) ∙ f in cc) in p from to v rest f (o .shows ∙ ap tailOf same) },
-      )
+pub tail-copied : {at : ℕ} {l : Bytes} {len : ℕ} {l′ : Bytes} (s : Bytes) (limit from : ℕ) (t : declared-tail.Tail) (c : Cursor) → tail-answer.Ok t c ≡ tailResult (tail limit from (drop from s))
+    → ((from to : ℕ) (v : Tail) (rest : Bytes) → tail limit from (drop from s) ≡ ok v to rest → t ≡ tailOf v → Put (tailBytes v) at l len l′)
+    → (cursor.Ok c ≡ cursorResult (tail limit from (drop from s))) × PutsTail (tail limit from (drop from s)) at l len l′
+tail-copied s limit from t c e p =
+    let o = tail-read s limit from t c e in (
+      sym (ap cursorResult (o .is)),
+      record { put = λ v to rest f. let same : o .value ≡ v = (let both = sym (o .is) ∙ f in cc) in p from to v rest f (o .shows ∙ ap tailOf same) },
+    )
+
+-- ## The walk behind them
+module _ (nested : Skimmed) where
+  pub end-stops : (o : Read Tail) (q : Refusal) → cursor.Err q ≡ cursorResult o → skim.Err q ≡ endShown nested o
+  end-stops o q e = sym (ap (endShown nested) (cursor-err o q e))
+
+  pub end-read : (o : Read Tail) (c : Cursor) → cursor.Ok c ≡ cursorResult o → skim.Ok (record { next = c; number = nested .number; instructions = nested .instructions }) ≡ endShown nested o
+  end-read o c e = sym (ap (endShown nested) (cursor-ok o c e .was .is))

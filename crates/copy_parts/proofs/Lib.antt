@@ -5,4 +5,5 @@ pub mod Lists
 pub mod Lengths
 pub mod PartsAt
 pub mod PutParts
+pub mod Judged
 pub mod EndsPut

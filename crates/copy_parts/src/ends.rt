@@ -1,14 +1,21 @@
 // The end of a function, behind the functions that nest in it: read, and put into the copy.
 ghost use mathlib.Core.Path.{_≡_};
 ghost use lib.ListN.{drop};
+ghost use Rattle.cursor.specs.Inner.Results.{cursorResult};
 ghost use Rattle.skim.specs.declared.walk.SkimResult.the-variants as walk;
 ghost use Rattle.prototype.specs.Parts as parts;
 ghost use Rattle.copy_parts.specs.Inner.Ends.{PutsTail, endShown};
-use crate::parts::put_tail;
+use crate::entry::Passed;
+use crate::listed::anchors_copied;
+use crate::listed::locals_copied;
+use crate::listed::names_copied;
+use counted::ListResult;
+use counted::line_info_list;
+use cursor::Cursor;
+use cursor::CursorResult;
+use encode::raw::put_run;
 use format::limits::ResourceLimits;
 use format::refusal::Refusal;
-use prototype::parts::TailResult;
-use prototype::parts::read_tail;
 use skim::walk::SkimResult;
 use skim::walk::Skimmed;
 
@@ -30,6 +37,71 @@ pub fn stopped(refusal: Refusal) -> Copied
     }
 }
 
+// A function behind the functions that nest in it. Ruled out: the deltas behind the anchors, the names of the upvalues left out.
+fn copy_tail(s: &[u8], max_string_bytes: usize, cursor: Cursor, out: &mut [u8], at: usize) -> Passed
+    ensures { λ r. ⌜ r .read ≡ cursorResult (parts.tail «max_string_bytes» (cursor .at) (drop (cursor .at) (now (s .entry)))) ⌝ }
+    ensures { λ r. ⌜ PutsTail (parts.tail «max_string_bytes» (cursor .at) (drop (cursor .at) (now (s .entry)))) at (now (out .entry)) (r .behind) (now (out .exit)) ⌝ }
+{
+    let deltas = line_info_list(s, cursor);
+    match deltas {
+        ListResult::Err(refusal) => Passed {
+            read: CursorResult::Err(refusal),
+            behind: at,
+        },
+        ListResult::Ok {
+            count: count1,
+            place: place1,
+            next: next1,
+        } => {
+            let first = put_run(s, place1, count1, 1, out, at);
+            let second = anchors_copied(s, next1, out, first);
+            let anchors = second.list;
+            match anchors {
+                ListResult::Err(refusal) => Passed {
+                    read: CursorResult::Err(refusal),
+                    behind: at,
+                },
+                ListResult::Ok {
+                    count: _,
+                    place: _,
+                    next: next2,
+                } => {
+                    let third = locals_copied(s, next2, max_string_bytes, out, second.behind);
+                    let locals = third.list;
+                    match locals {
+                        ListResult::Err(refusal) => Passed {
+                            read: CursorResult::Err(refusal),
+                            behind: at,
+                        },
+                        ListResult::Ok {
+                            count: _,
+                            place: _,
+                            next: next3,
+                        } => {
+                            let last = names_copied(s, next3, max_string_bytes, out, third.behind);
+                            let names = last.list;
+                            match names {
+                                ListResult::Err(refusal) => Passed {
+                                    read: CursorResult::Err(refusal),
+                                    behind: at,
+                                },
+                                ListResult::Ok {
+                                    count: _,
+                                    place: _,
+                                    next: next4,
+                                } => Passed {
+                                    read: CursorResult::Ok(next4),
+                                    behind: last.behind,
+                                },
+                            }
+                        }
+                    }
+                }
+            }
+        }
+    }
+}
+
 // Reads what stands behind the nested functions of a function, and puts its copy behind theirs. Ruled out: an end put before theirs, a walk that goes on behind a refusal.
 pub fn copy_end(
     s: &[u8],
@@ -43,24 +115,22 @@ pub fn copy_end(
     ensures { λ r. ⌜ r .walk ≡ endShown nested (parts.tail (limits .«max_string_bytes») (nested .next .at) (drop (nested .next .at) (now (s .entry)))) ⌝ }
     ensures { λ r. ⌜ PutsTail (parts.tail (limits .«max_string_bytes») (nested .next .at) (drop (nested .next .at) (now (s .entry)))) at (now (out .entry)) (r .len) (now (out .exit)) ⌝ }
 {
-    let ends = read_tail(s, limits.max_string_bytes, nested.next);
-    match ends {
-        TailResult::Err(refusal) => Copied {
+    let ends = copy_tail(s, limits.max_string_bytes, nested.next, out, at);
+    let read = ends.read;
+    match read {
+        CursorResult::Err(refusal) => Copied {
             walk: SkimResult::Err(refusal),
             upvalues: upvalues,
-            len: 0,
+            len: ends.behind,
         },
-        TailResult::Ok { tail, next } => {
-            let len = put_tail(s, limits.max_string_bytes, tail, out, at);
-            Copied {
-                walk: SkimResult::Ok(Skimmed {
-                    next: next,
-                    number: nested.number,
-                    instructions: nested.instructions,
-                }),
-                upvalues: upvalues,
-                len: len,
-            }
-        }
+        CursorResult::Ok(next) => Copied {
+            walk: SkimResult::Ok(Skimmed {
+                next: next,
+                number: nested.number,
+                instructions: nested.instructions,
+            }),
+            upvalues: upvalues,
+            len: ends.behind,
+        },
     }
 }

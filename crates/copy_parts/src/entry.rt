@@ -1,4 +1,4 @@
-// The entries of a function's lists, read at a place of the chunk and put at a place of the copy.
+// The entries of a function's lists, read at a place of the chunk and put at a place of the copy: each is judged where it is copied.
 ghost use mathlib.Core.Path.{_≡_};
 ghost use lib.ListN.{drop};
 ghost use Rattle.format.specs.Form.{Below};
@@ -6,10 +6,12 @@ ghost use Rattle.format.specs.ReadFields.{string};
 ghost use Rattle.format.specs.ReadChunk.{constant, anchor, local};
 ghost use Rattle.format.specs.Copy.{constantBytes, anchorBytes, localBytes, optionBytes};
 ghost use Rattle.encode.specs.Inner.Put.{Put, Puts};
+ghost use Rattle.cursor.specs.Inner.Results.{cursorResult};
+ghost use Rattle.copy_parts.specs.Inner.Passed.{nextOf};
 ghost use Rattle.copy_parts.specs.Inner.Value.{Stood, valueBytes};
 use cursor::Cursor;
+use cursor::CursorResult;
 use encode::number::put_varint;
-use encode::raw::Spot;
 use encode::raw::put_between;
 use encode::text::put_name;
 use encode::text::put_string;
@@ -24,6 +26,12 @@ use lists::debug::read_local;
 use reader::string::StringResult;
 use reader::string::read_string_lua54;
 
+// Behind what is read and put: the cursor in the chunk or the refusal, and the place in the copy.
+pub struct Passed {
+    pub read: CursorResult,
+    pub behind: usize,
+}
+
 // The name of an upvalue. Ruled out: an absent name written as empty, a padded size kept.
 pub fn copy_name(
     s: &[u8],
@@ -31,19 +39,20 @@ pub fn copy_name(
     max_string_bytes: usize,
     out: &mut [u8],
     at: usize,
-) -> Spot
-    ensures { λ r. ⌜ Puts optionBytes (string «max_string_bytes» (cursor .at) (drop (cursor .at) (now (s .entry)))) at (now (out .entry)) (r .next .at) (r .behind) (now (out .exit)) ⌝ }
+) -> Passed
+    ensures { λ r. ⌜ r .read ≡ cursorResult (string «max_string_bytes» (cursor .at) (drop (cursor .at) (now (s .entry)))) ⌝ }
+    ensures { λ r. ⌜ Puts optionBytes (string «max_string_bytes» (cursor .at) (drop (cursor .at) (now (s .entry)))) at (now (out .entry)) (nextOf (r .read)) (r .behind) (now (out .exit)) ⌝ }
 {
     let read = read_string_lua54(s, cursor, max_string_bytes);
     match read {
-        StringResult::Err(_) => Spot {
-            next: cursor,
+        StringResult::Err(refusal) => Passed {
+            read: CursorResult::Err(refusal),
             behind: at,
         },
         StringResult::Ok { string, next } => {
             let behind = put_string(s, string, out, at);
-            Spot {
-                next: next,
+            Passed {
+                read: CursorResult::Ok(next),
                 behind: behind,
             }
         }
@@ -51,20 +60,21 @@ pub fn copy_name(
 }
 
 // An anchor. Ruled out: pc and line exchanged, a padded number kept.
-pub fn copy_anchor(s: &[u8], cursor: Cursor, out: &mut [u8], at: usize) -> Spot
-    ensures { λ r. ⌜ Puts anchorBytes (anchor (cursor .at) (drop (cursor .at) (now (s .entry)))) at (now (out .entry)) (r .next .at) (r .behind) (now (out .exit)) ⌝ }
+pub fn copy_anchor(s: &[u8], cursor: Cursor, out: &mut [u8], at: usize) -> Passed
+    ensures { λ r. ⌜ r .read ≡ cursorResult (anchor (cursor .at) (drop (cursor .at) (now (s .entry)))) ⌝ }
+    ensures { λ r. ⌜ Puts anchorBytes (anchor (cursor .at) (drop (cursor .at) (now (s .entry)))) at (now (out .entry)) (nextOf (r .read)) (r .behind) (now (out .exit)) ⌝ }
 {
     let read = read_anchor(s, cursor);
     match read {
-        AnchorResult::Err(_) => Spot {
-            next: cursor,
+        AnchorResult::Err(refusal) => Passed {
+            read: CursorResult::Err(refusal),
             behind: at,
         },
         AnchorResult::Ok { value, next } => {
             let first = put_varint(out, at, value.pc as u64);
             let behind = put_varint(out, first, value.line as u64);
-            Spot {
-                next: next,
+            Passed {
+                read: CursorResult::Ok(next),
                 behind: behind,
             }
         }
@@ -78,13 +88,14 @@ pub fn copy_local(
     max_string_bytes: usize,
     out: &mut [u8],
     at: usize,
-) -> Spot
-    ensures { λ r. ⌜ Puts localBytes (local «max_string_bytes» (cursor .at) (drop (cursor .at) (now (s .entry)))) at (now (out .entry)) (r .next .at) (r .behind) (now (out .exit)) ⌝ }
+) -> Passed
+    ensures { λ r. ⌜ r .read ≡ cursorResult (local «max_string_bytes» (cursor .at) (drop (cursor .at) (now (s .entry)))) ⌝ }
+    ensures { λ r. ⌜ Puts localBytes (local «max_string_bytes» (cursor .at) (drop (cursor .at) (now (s .entry)))) at (now (out .entry)) (nextOf (r .read)) (r .behind) (now (out .exit)) ⌝ }
 {
     let read = read_local(s, cursor, max_string_bytes);
     match read {
-        LocalResult::Err(_) => Spot {
-            next: cursor,
+        LocalResult::Err(refusal) => Passed {
+            read: CursorResult::Err(refusal),
             behind: at,
         },
         LocalResult::Ok {
@@ -96,8 +107,8 @@ pub fn copy_local(
             let named = put_name(s, name, out, at);
             let first = put_varint(out, named, startpc as u64);
             let behind = put_varint(out, first, endpc as u64);
-            Spot {
-                next: next,
+            Passed {
+                read: CursorResult::Ok(next),
                 behind: behind,
             }
         }
@@ -132,19 +143,20 @@ pub fn copy_constant(
     max_string_bytes: usize,
     out: &mut [u8],
     at: usize,
-) -> Spot
-    ensures { λ r. ⌜ (Below 256 (now (s .entry)) → Puts constantBytes (constant «max_string_bytes» (cursor .at) (drop (cursor .at) (now (s .entry)))) at (now (out .entry)) (r .next .at) (r .behind) (now (out .exit))) ⌝ }
+) -> Passed
+    ensures { λ r. ⌜ r .read ≡ cursorResult (constant «max_string_bytes» (cursor .at) (drop (cursor .at) (now (s .entry)))) ⌝ }
+    ensures { λ r. ⌜ (Below 256 (now (s .entry)) → Puts constantBytes (constant «max_string_bytes» (cursor .at) (drop (cursor .at) (now (s .entry)))) at (now (out .entry)) (nextOf (r .read)) (r .behind) (now (out .exit))) ⌝ }
 {
     let read = read_constant(s, cursor, max_string_bytes);
     match read {
-        ConstantResult::Err(_) => Spot {
-            next: cursor,
+        ConstantResult::Err(refusal) => Passed {
+            read: CursorResult::Err(refusal),
             behind: at,
         },
         ConstantResult::Ok { value, next } => {
             let behind = put_value(s, cursor.at, next.at, value, out, at);
-            Spot {
-                next: next,
+            Passed {
+                read: CursorResult::Ok(next),
                 behind: behind,
             }
         }

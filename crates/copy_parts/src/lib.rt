@@ -2,4 +2,5 @@
 pub mod ends;
 pub mod entry;
 pub mod list;
+pub mod listed;
 pub mod parts;

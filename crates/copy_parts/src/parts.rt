@@ -1,31 +1,36 @@
-// A function before and behind the functions that nest in it: what was read of it, put into the copy.
+// A function before the functions that nest in it: read, and put into the copy in the same pass.
 ghost use mathlib.Core.Path.{_≡_};
 ghost use mathlib.Core.Bool.{cond};
-ghost use mathlib.Core.List.{[], _∷_, _++_};
-ghost use Prim.Native.Nat.{ℕ};
+ghost use mathlib.Core.List.{[], _∷_};
 ghost use lib.ListN.{drop};
-ghost use Rattle.format.specs.Form.{Bytes, Below};
-ghost use Rattle.format.specs.Read.{ok};
+ghost use Rattle.format.specs.Form.{Below};
 ghost use Rattle.format.specs.Shortest.{shortest};
 ghost use Rattle.prototype.specs.Parts as parts;
-ghost use Rattle.prototype.specs.PartsShown.{listsOf, headOf, tailOf};
+ghost use Rattle.prototype.specs.PartsShown.{headListsResult, headResult};
 ghost use Rattle.encode.specs.Inner.Put.{Put};
 ghost use Rattle.encode.specs.Inner.Text.{There, spelt};
-ghost use Rattle.copy_parts.specs.Inner.Parts.{linesBytes, listsBytes, headBytes, tailBytes};
-use crate::list::copy_anchors;
-use crate::list::copy_constants;
-use crate::list::copy_locals;
-use crate::list::copy_names;
+ghost use Rattle.copy_parts.specs.Inner.Parts.{linesBytes};
+ghost use Rattle.copy_parts.specs.Inner.Passed.{PutsLists, PutsHead};
+use crate::listed::constants_copied;
+use counted::ListResult;
+use counted::instructions_list;
+use counted::protos_count;
+use counted::upvalues_list;
+use cursor::Cursor;
 use encode::number::put_varint;
 use encode::raw::put_byte;
 use encode::raw::put_run;
 use encode::text::put_string;
 use format::limits::ResourceLimits;
+use prototype::front::FrontResult;
 use prototype::front::Lines;
 use prototype::front::Sizes;
+use prototype::front::read_front;
 use prototype::parts::Head;
 use prototype::parts::HeadLists;
-use prototype::parts::Tail;
+use prototype::parts::HeadListsResult;
+use prototype::parts::HeadResult;
+use prototype::row::ListAt;
 use reader::string::OptionString;
 
 // Main's source; a nested function's is written as absent.
@@ -53,51 +58,168 @@ fn put_sizes(sizes: Sizes, out: &mut [u8], at: usize) -> usize
     put_byte(out, second, sizes.maxstacksize)
 }
 
+// What the lists before the nested functions show, and the place behind them in the copy.
+struct ListsCopied {
+    lists: HeadListsResult,
+    behind: usize,
+}
+
 // The lists before the nested functions: words and upvalues as they stand, the constants one by one.
-fn put_lists(s: &[u8], limits: ResourceLimits, lists: HeadLists, out: &mut [u8], at: usize) -> usize
-    ensures { λ r. ⌜ ((before from to : ℕ) (h : parts.HeadLists) (rest : Bytes) → Below 256 (now (s .entry)) → parts.headLists limits before from (drop from (now (s .entry))) ≡ ok h to rest → lists ≡ listsOf h → Put (listsBytes h) at (now (out .entry)) r (now (out .exit))) ⌝ }
+fn copy_lists(
+    s: &[u8],
+    limits: ResourceLimits,
+    before: usize,
+    cursor: Cursor,
+    out: &mut [u8],
+    at: usize,
+) -> ListsCopied
+    ensures { λ r. ⌜ r .lists ≡ headListsResult (parts.headLists limits before (cursor .at) (drop (cursor .at) (now (s .entry)))) ⌝ }
+    ensures { λ r. ⌜ PutsLists limits (now (s .entry)) (r .lists) at (now (out .entry)) (r .behind) (now (out .exit)) ⌝ }
 {
-    let words = lists.instructions;
-    let constants = lists.constants;
-    let upvalues = lists.upvalues;
-    let first = put_run(s, words.place, words.count, 4, out, at);
-    let second = copy_constants(
+    let code = instructions_list(
         s,
-        constants.place,
-        constants.count,
-        limits.max_string_bytes,
-        out,
-        first,
+        cursor,
+        limits.max_instructions_per_proto,
+        before,
+        limits.max_total_instructions,
     );
-    put_run(s, upvalues.place, upvalues.count, 3, out, second)
+    match code {
+        ListResult::Err(refusal) => ListsCopied {
+            lists: HeadListsResult::Err(refusal),
+            behind: at,
+        },
+        ListResult::Ok {
+            count: count1,
+            place: place1,
+            next: next1,
+        } => {
+            let first = put_run(s, place1, count1, 4, out, at);
+            let k = constants_copied(
+                s,
+                next1,
+                limits.max_constants_per_proto,
+                limits.max_string_bytes,
+                out,
+                first,
+            );
+            let constants = k.list;
+            match constants {
+                ListResult::Err(refusal) => ListsCopied {
+                    lists: HeadListsResult::Err(refusal),
+                    behind: at,
+                },
+                ListResult::Ok {
+                    count: count2,
+                    place: place2,
+                    next: next2,
+                } => {
+                    let u = upvalues_list(s, next2, limits.max_upvalues_per_proto);
+                    match u {
+                        ListResult::Err(refusal) => ListsCopied {
+                            lists: HeadListsResult::Err(refusal),
+                            behind: at,
+                        },
+                        ListResult::Ok { count, place, next } => {
+                            let behind = put_run(s, place, count, 3, out, k.behind);
+                            ListsCopied {
+                                lists: HeadListsResult::Ok {
+                                    lists: HeadLists {
+                                        instructions: ListAt {
+                                            count: count1,
+                                            place: place1,
+                                        },
+                                        constants: ListAt {
+                                            count: count2,
+                                            place: place2,
+                                        },
+                                        upvalues: ListAt {
+                                            count: count,
+                                            place: place,
+                                        },
+                                    },
+                                    next: next,
+                                },
+                                behind: behind,
+                            }
+                        }
+                    }
+                }
+            }
+        }
+    }
+}
+
+// What a function shows before the functions that nest in it, and how long its copy is.
+pub struct HeadCopied {
+    pub begins: HeadResult,
+    pub len: usize,
 }
 
 // A function up to the functions that nest in it, at the start of the lent memory. Ruled out: a nested function's source kept, the number of nested functions left out.
-pub fn put_head(s: &[u8], limits: ResourceLimits, named: bool, head: Head, out: &mut [u8]) -> usize
-    ensures { λ r. ⌜ ((before from to : ℕ) (h : parts.Head) (rest : Bytes) → Below 256 (now (s .entry)) → parts.head limits before from (drop from (now (s .entry))) ≡ ok h to rest → head ≡ headOf h → Put (headBytes named h) 0 (now (out .entry)) r (now (out .exit))) ⌝ }
+pub fn copy_head(
+    s: &[u8],
+    limits: ResourceLimits,
+    named: bool,
+    before: usize,
+    cursor: Cursor,
+    out: &mut [u8],
+) -> HeadCopied
+    ensures { λ r. ⌜ r .begins ≡ headResult (parts.head limits before (cursor .at) (drop (cursor .at) (now (s .entry)))) ⌝ }
+    ensures { λ r. ⌜ (Below 256 (now (s .entry)) → PutsHead named (parts.head limits before (cursor .at) (drop (cursor .at) (now (s .entry)))) (now (out .entry)) (r .len) (now (out .exit))) ⌝ }
 {
-    let front = head.front;
-    let spelt = front.source;
-    let lines = front.lines;
-    let sizes = front.sizes;
-    let lists = head.lists;
-    let sourced = put_source(s, named, spelt, out);
-    let lined = put_lines(lines, out, sourced);
-    let sized = put_sizes(sizes, out, lined);
-    let listed = put_lists(s, limits, lists, out, sized);
-    put_varint(out, listed, head.protos.count as u64)
-}
-
-// A function behind the functions that nest in it. Ruled out: the deltas behind the anchors, the names of the upvalues left out.
-pub fn put_tail(s: &[u8], max_string_bytes: usize, tail: Tail, out: &mut [u8], at: usize) -> usize
-    ensures { λ r. ⌜ ((from to : ℕ) (t : parts.Tail) (rest : Bytes) → parts.tail «max_string_bytes» from (drop from (now (s .entry))) ≡ ok t to rest → tail ≡ tailOf t → Put (tailBytes t) at (now (out .entry)) r (now (out .exit))) ⌝ }
-{
-    let deltas = tail.line_info;
-    let anchors = tail.abs_line_info;
-    let locals = tail.loc_vars;
-    let names = tail.upvalue_names;
-    let first = put_run(s, deltas.place, deltas.count, 1, out, at);
-    let second = copy_anchors(s, anchors.place, anchors.count, out, first);
-    let third = copy_locals(s, locals.place, locals.count, max_string_bytes, out, second);
-    copy_names(s, names.place, names.count, max_string_bytes, out, third)
+    let begins = read_front(s, cursor, limits.max_string_bytes);
+    match begins {
+        FrontResult::Err(refusal) => HeadCopied {
+            begins: HeadResult::Err(refusal),
+            len: 0,
+        },
+        FrontResult::Ok {
+            front: front,
+            next: behind,
+        } => {
+            let source = front.source;
+            let lines = front.lines;
+            let sizes = front.sizes;
+            let sourced = put_source(s, named, source, out);
+            let lined = put_lines(lines, out, sourced);
+            let sized = put_sizes(sizes, out, lined);
+            let middle = copy_lists(s, limits, before, behind, out, sized);
+            let between = middle.lists;
+            match between {
+                HeadListsResult::Err(refusal) => HeadCopied {
+                    begins: HeadResult::Err(refusal),
+                    len: 0,
+                },
+                HeadListsResult::Ok {
+                    lists: lists,
+                    next: further,
+                } => {
+                    let nested = protos_count(s, further, limits.max_total_prototypes);
+                    match nested {
+                        ListResult::Err(refusal) => HeadCopied {
+                            begins: HeadResult::Err(refusal),
+                            len: 0,
+                        },
+                        ListResult::Ok { count, place, next } => {
+                            let len = put_varint(out, middle.behind, count as u64);
+                            HeadCopied {
+                                begins: HeadResult::Ok {
+                                    head: Head {
+                                        front: front,
+                                        lists: lists,
+                                        protos: ListAt {
+                                            count: count,
+                                            place: place,
+                                        },
+                                    },
+                                    next: next,
+                                },
+                                len: len,
+                            }
+                        }
+                    }
+                }
+            }
+        }
+    }
 }

@@ -33,8 +33,9 @@ use Rattle.skim.proofs.OneFunction as one
 use Rattle.skim.proofs.OneFunction.{skim-err, Skims}
 use Rattle.encode.specs.Inner.Put.{Put}
 use Rattle.encode.proofs.Writes.{put-then}
-use Rattle.copy_parts.specs.Inner.Parts.{headBytes, functionBytes}
+use Rattle.copy_parts.specs.Inner.Parts.{functionBytes}
 use Rattle.copy_parts.specs.Inner.Ends.{PutsTail, endShown}
+use Rattle.copy_parts.specs.Inner.Passed.{PutsHead}
 use Rattle.copy_walk.specs.Inner.Walk.{PutsFunction}
 use Rattle.copy_parts.proofs.PutParts.{put-as}
 use Rattle.copy_walk.proofs.Nests.{made}
@@ -92,7 +93,7 @@ module _ (s : Bytes) (L : ResourceLimits) (left : ℕ) (w : Where) (at : ℕ) {b
           by (refused q) f = one.tail-refused s L left w at c₁ head-on (h .protos .count) many k nested q f
 
       pub whole-put : (named : Bool) → (named ≡ true → w .source ≡ none) → {l l₁ l₂ l₃ : Bytes} {upvalues n₁ n₂ n₃ : ℕ} → upvalues ≡ h .lists .upvalues .count
-          → ((before from to : ℕ) (v : Head) (rest : Bytes) → head L before from (drop from s) ≡ ok v to rest → h ≡ headOf v → Put (headBytes named v) 0 l n₁ l₁)
+          → PutsHead named (head L before at (drop at s)) l n₁ l₁
           → Put (flatten (foldr nest [] (nested .value))) n₁ l₁ n₂ l₂
           → PutsTail ends n₂ l₂ n₃ l₃
           → PutsFunction named (function L left w at (drop at s)) l upvalues n₃ l₃
@@ -116,5 +117,5 @@ module _ (s : Bytes) (L : ResourceLimits) (left : ℕ) (w : Where) (at : ℕ) {b
               let all : prototypeOf w at its-head t up ∷ nested .value ≡ ps = cc in
               subst (λ ps. Put (functionBytes named ps) 0 l n₃ l₃) all
               (put-as (sym (made named w at its-head t up (nested .value) main))
-              (put-then (p (w .instructions) at (c₁ .at) its-head _ head-on (headed .shows))
+              (put-then (p .put its-head (c₁ .at) _ (headed .is))
               (put-then q (r .put t up rest′ f))))

@@ -1,4 +1,4 @@
-// The functions of a chunk, judged and copied in one walk.
+// The functions of a chunk, judged and copied in one walk: each list is read once.
 ghost use mathlib.Core.Path.{_≡_};
 ghost use mathlib.Core.Bool.{true, cond};
 ghost use mathlib.Core.Option.{none};
@@ -13,12 +13,11 @@ ghost use Rattle.copy_walk.specs.Inner.Walk.{PutsFunction};
 use copy_parts::ends::Copied;
 use copy_parts::ends::copy_end;
 use copy_parts::ends::stopped;
-use copy_parts::parts::put_head;
+use copy_parts::parts::copy_head;
 use encode::raw::plus;
 use format::limits::ResourceLimits;
 use format::refusal::Refusal;
 use prototype::parts::HeadResult;
-use prototype::parts::read_head;
 use skim::walk::SkimResult;
 use skim::walk::Skimmed;
 
@@ -43,14 +42,15 @@ pub fn copy_function(
     ensures { λ r. ⌜ ((w : grammar.Where) → from .number ≡ w .number → from .instructions ≡ w .instructions → r .walk ≡ skimResult w (function limits left w (from .next .at) (drop (from .next .at) (now (s .entry))))) ⌝ }
     ensures { λ r. ⌜ ((w : grammar.Where) → from .number ≡ w .number → from .instructions ≡ w .instructions → (named ≡ true → w .source ≡ none) → Below 256 (now (s .entry)) → PutsFunction named (function limits left w (from .next .at) (drop (from .next .at) (now (s .entry)))) (now (out .entry)) (r .upvalues) (r .len) (now (out .exit))) ⌝ }
 {
-    let begins = read_head(s, limits, from.instructions, from.next);
+    let begun = copy_head(s, limits, named, from.instructions, from.next, out);
+    let begins = begun.begins;
     match begins {
         HeadResult::Err(refusal) => stopped(refusal),
         HeadResult::Ok {
             head: head,
             next: behind,
         } => {
-            let mut len = put_head(s, limits, named, head, out);
+            let mut len = begun.len;
             let mut nested = Skimmed {
                 next: behind,
                 number: from.number + 1,

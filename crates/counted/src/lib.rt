@@ -31,7 +31,7 @@ pub enum ListResult {
 }
 
 // What a list shows, of what passing over its items showed.
-fn listed(items: CursorResult, count: usize, place: usize) -> ListResult
+pub fn listed(items: CursorResult, count: usize, place: usize) -> ListResult
     ensures { λ r. ⌜ r ≡ listedOf items count place ⌝ }
 {
     match items {
@@ -45,7 +45,7 @@ fn listed(items: CursorResult, count: usize, place: usize) -> ListResult
 }
 
 // A count that is at most the limit, or the refusal.
-fn count_up_to(s: &[u8], cursor: Cursor, limit: usize, refusal: Refusal) -> U64Result
+pub fn count_up_to(s: &[u8], cursor: Cursor, limit: usize, refusal: Refusal) -> U64Result
     ensures { λ r. ⌜ r ≡ u64Result (countUpTo limit refusal (cursor .at) (drop (cursor .at) (now (s .entry)))) ⌝ }
 {
     let read = read_varint_lua54(s, cursor);

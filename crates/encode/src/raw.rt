@@ -51,12 +51,6 @@ pub fn put_bytes(s: &[u8], start: usize, len: usize, out: &mut [u8], at: usize) 
     at + len
 }
 
-// Behind an entry: the place in the chunk, and the place in the copy.
-pub struct Spot {
-    pub next: Cursor,
-    pub behind: usize,
-}
-
 // The bytes of s from `first` to `end`, where s has them. Ruled out: the byte at `end`, the bytes before `first`.
 pub fn put_between(s: &[u8], first: usize, end: usize, out: &mut [u8], at: usize) -> usize
     ensures { λ r. ⌜ (first ≤ end → end ≤ length (now (s .entry)) → Put (take (end - first) (drop first (now (s .entry)))) at (now (out .entry)) r (now (out .exit))) ⌝ }

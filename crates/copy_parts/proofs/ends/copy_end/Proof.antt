@@ -1,4 +1,4 @@
--- `copy_parts::ends::copy_end` meets its contract. Assumes nothing.
+-- `copy_parts::ends::copy_end` meets its contract: by what `copy_tail` showed and put (`EndsPut.antt`). Assumes nothing.
 use borrow.Author.Needs.{needs}
 use mathlib.Core.Path.{refl, sym, _∙_}
 use lib.ListN.{drop}
@@ -9,18 +9,13 @@ use Rattle.copy_parts.proofs.ends.copy_end.Tie as tie
 
 returns : tie.Need-returns
 returns c =
-    let e = c .before in
-    let r = e .before .before in
-    let a = r .before .before .before .args in
-    (refl, end-stops (a .nested) (tail (a .limits .«max_string_bytes») (a .nested .next .at) (drop (a .nested .next .at) (a .s .now))) _ (sym (e .ends .given .1) ∙ r .read-tail .ensures))
+    let a = c .before .before .before .before .before .before .before .before .before .args in
+    (refl, (end-stops (a .nested) (tail (a .limits .«max_string_bytes») (a .nested .next .at) (drop (a .nested .next .at) (a .s .now))) _ (sym (c .before .read .given .1) ∙ c .before .before .before .before .before .copy-tail .ensures .0), c .before .before .before .before .before .copy-tail .ensures .1))
 
 returns-2 : tie.Need-returns-2
 returns-2 c =
-    let p = c .before .before in
-    let e = p .before .before .before in
-    let r = e .before .before in
-    let a = r .before .before .before .args in
-    (refl, end-read (a .nested) (a .s .now) (a .limits .«max_string_bytes») (a .nested .next .at) _ _ (sym (e .ends2 .given .1) ∙ r .read-tail .ensures) (p .put-tail .ensures))
+    let a = c .before .before .before .before .before .before .before .before .before .args in
+    (refl, (end-read (a .nested) (tail (a .limits .«max_string_bytes») (a .nested .next .at) (drop (a .nested .next .at) (a .s .now))) _ (sym (c .before .read2 .given .1) ∙ c .before .before .before .before .before .copy-tail .ensures .0), c .before .before .before .before .before .copy-tail .ensures .1))
 
 pub copy-end-spec : {M : Type 1} → statement M
 copy-end-spec =
@@ -29,7 +24,7 @@ copy-end-spec =
     (λ c κs. search needs)
     (λ c. search needs)
     (λ c. search needs)
-    (λ c κs. search needs)
+    (λ c. search needs)
     returns
     (λ c. search needs)
     returns-2)

@@ -30,8 +30,7 @@ use Rattle.copy_walk.proofs.Functions.{not-read}
 use Rattle.copy_walk.proofs.walk.copy_function.Reads as copy-function
 use Rattle.copy_walk.proofs.walk.copy_function.Kinds as copy-function-kinds
 use Rattle.copy_walk.proofs.walk.+copy_function.Lts-copy_function as copy-function-lts
-use Rattle.prototype.proofs.parts.read_head.Reads as read-head-reads
-use Rattle.copy_parts.proofs.parts.put_head.Reads as put-head-reads
+use Rattle.copy_parts.proofs.parts.copy_head.Reads as copy-head-reads
 use Rattle.copy_parts.proofs.ends.copy_end.Reads as copy-end-reads
 use Rattle.copy_parts.proofs.ends.stopped.Reads as stopped-reads
 use Rattle.copy_walk.proofs.walk.within.Reads as within-reads
@@ -56,12 +55,10 @@ below t = and 2 copy-function-kinds.ps (falls 2 copy-function-kinds.ps _<_ μ t)
 -- what the calls ask and give
 abbrev calls : ℕ → copy-function-lts.Claims
 calls t = (
-  read-head-reads.Asked,
-  read-head-reads.Learnt,
+  copy-head-reads.Asked,
+  copy-head-reads.Learnt,
   stopped-reads.Asked,
   stopped-reads.Learnt,
-  put-head-reads.Asked,
-  put-head-reads.Learnt,
   within-reads.Asked,
   within-reads.Learnt,
   below t,
@@ -80,21 +77,21 @@ abbrev μ-loop : copy-function-lts.MeasureT-loop
 μ-loop s limits named left out₀ head len₀ nested₀ more₀ out len nested more = more
 
 -- behind the head: what it gave, and where the nested functions stand
-module _ (t : ℕ) (f : copy-function-lts.After-put-head (calls t) (at t) copy-function.Post Inv μ-loop) where
+module _ (t : ℕ) (f : copy-function-lts.After-begins2 (calls t) (at t) copy-function.Post Inv μ-loop) where
   abbrev a : copy-function-lts.Args (calls t) (at t) copy-function.Post Inv μ-loop (f .before .before .before .before .before .before .before .before .κs)
   a = f .before .before .before .before .before .before .before .before .args
 
   abbrev head : declared-head.Head
-  head = f .before .before .before .begins2 .given .0 .0
+  head = f .begins2 .given .0 .0
 
   abbrev behind : Cursor
-  behind = f .before .before .before .begins2 .given .0 .1 .0
+  behind = f .begins2 .given .0 .1 .0
 
   abbrev inside : Skimmed
   inside = record { next = behind; number = a .from .number + 1; instructions = a .from .instructions + head .lists .instructions .count }
 
   begun : head-answer.Ok head behind ≡ headResult (parts.head (a .limits) (a .from .instructions) (a .from .next .at) (drop (a .from .next .at) (a .s .now)))
-  begun = sym (f .before .before .before .begins2 .given .1) ∙ f .before .before .before .before .before .read-head .ensures
+  begun = sym (f .begins2 .given .1) ∙ f .before .before .before .before .copy-head .ensures .0
 
   module _ (w : Where) (n : a .from .number ≡ w .number) (i : a .from .instructions ≡ w .instructions) where
     abbrev first : Where
@@ -111,39 +108,38 @@ module _ (t : ℕ) (f : copy-function-lts.After-put-head (calls t) (at t) copy-f
     refused-inside = copied.nested-refused (a .s .now) (a .limits) (a .left) w (a .from .next .at) i head behind begun
 
 -- a head that was read, before what follows it
-total : (t : ℕ) → copy-function-lts.Need-add-t24 (calls t) (at t) copy-function.Post Inv μ-loop
+total : (t : ℕ) → copy-function-lts.Need-add-t25 (calls t) (at t) copy-function.Post Inv μ-loop
 total t c =
-    let b = c .before .before .before .before .before .before .before .before .before .before .before .before .before in
-    let h = c .before .before .before .before .before .before .before .before .begins2 .given in
-    let e = in-total (b .args .s .now) (b .args .limits) (b .args .from .instructions) (b .args .from .next .at) (h .0 .0) (h .0 .1 .0) (sym (h .1) ∙ c .before .before .before .before .before .before .before .before .before .before .read-head .ensures) in
-    let limit = b .pre .1 .1 in
+    let f = c .before .before .before .before in
+    let e = in-total (a t f .s .now) (a t f .limits) (a t f .from .instructions) (a t f .from .next .at) (head t f) (behind t f) (begun t f) in
+    let limit = c .before .before .before .before .before .before .before .before .before .before .before .before .pre .1 .1 in
     omega (arith, e, limit)
 
-number : (t : ℕ) → copy-function-lts.Need-add-t23 (calls t) (at t) copy-function.Post Inv μ-loop
-number t c = let few = c .before .before .before .before .before .before .before .before .before .before .before .pre .1 .2 in omega (arith, few)
+number : (t : ℕ) → copy-function-lts.Need-add-t24 (calls t) (at t) copy-function.Post Inv μ-loop
+number t c = let few = c .before .before .before .before .before .before .before .before .before .before .pre .1 .2 in omega (arith, few)
 
 loop-holds : (t : ℕ) → copy-function-lts.Need-loop-holds (calls t) (at t) copy-function.Post Inv μ-loop
 loop-holds t c =
-    let f = c .before .before .before .before .before in
+    let f = c .before .before .before .before in
     (refl, λ w n i. copies-none (a t f .s .now) (a t f .limits) (a t f .left) w (head t f .protos .count) (inside t f) _ _ n i)
 
 returns : (t : ℕ) → copy-function-lts.Need-returns (calls t) (at t) copy-function.Post Inv μ-loop
 returns t c =
     let l = c .before .before .before in
-    let f = c .before .before .before .before .before .before .before .before .before in
+    let f = c .before .before .before .before .before .before .before .before in
     not-read (a t f .named) (a t f .from) (a t f .s .now) (λ w. function (a t f .limits) (a t f .left) w (a t f .from .next .at) (drop (a t f .from .next .at) (a t f .s .now))) _ _ _ _ _ _ (c .stopped2 .ensures) λ w n i.
     refused-inside t f w n i _ (so-far.deep _ _ (l .loop .inv .1 (first t f w n i) (first-number t f w n i) (first-instructions t f w n i) .so-far) (c .before .before .loop-test .taken) (c .before .if1 .taken))
 
 returns-2 : (t : ℕ) → copy-function-lts.Need-returns-2 (calls t) (at t) copy-function.Post Inv μ-loop
 returns-2 t c =
     let l = c .before .before .before .before .before .before in
-    let f = c .before .before .before .before .before .before .before .before .before .before .before .before in
+    let f = c .before .before .before .before .before .before .before .before .before .before .before in
     not-read (a t f .named) (a t f .from) (a t f .s .now) (λ w. function (a t f .limits) (a t f .left) w (a t f .from .next .at) (drop (a t f .from .next .at) (a t f .s .now))) _ _ _ _ _ _ (c .stopped3 .ensures) λ w n i.
     refused-inside t f w n i _ (so-far.many _ _ (l .loop .inv .1 (first t f w n i) (first-number t f w n i) (first-instructions t f w n i) .so-far) (c .before .before .before .before .before .loop-test .taken) (level (a t f .left) (c .before .before .before .before .if1 .left)) (c .before .if2 .taken))
 
 copy-function-requires : (t : ℕ) → copy-function-lts.Need-copy-function-requires (calls t) (at t) copy-function.Post Inv μ-loop
 copy-function-requires t c κs =
-    let b = c .before .before .before .before .before .before .before .before .before .before .before .before .before .before .before .before .before .before .before .before .before in
+    let b = c .before .before .before .before .before .before .before .before .before .before .before .before .before .before .before .before .before .before .before .before in
     let within = c .before .before .if2 .left in
     let limit = b .pre .1 .0 in
     let more = level (b .args .left) (c .before .before .before .before .before .if1 .left) in
@@ -152,7 +148,7 @@ copy-function-requires t c κs =
 returns-3 : (t : ℕ) → copy-function-lts.Need-returns-3 (calls t) (at t) copy-function.Post Inv μ-loop
 returns-3 t c =
     let l = c .before .before .before .before .before .before .before .before .before .before .before .before .before .before in
-    let f = c .before .before .before .before .before .before .before .before .before .before .before .before .before .before .before .before .before .before .before .before in
+    let f = c .before .before .before .before .before .before .before .before .before .before .before .before .before .before .before .before .before .before .before in
     let r = c .before .before .before .before .before .before in
     not-read (a t f .named) (a t f .from) (a t f .s .now) (λ w. function (a t f .limits) (a t f .left) w (a t f .from .next .at) (drop (a t f .from .next .at) (a t f .s .now))) _ _ _ _ _ _ (c .stopped4 .ensures) λ w n i.
     refused-inside t f w n i _ (so-far.stops _ _ (l .loop .inv .1 (first t f w n i) (first-number t f w n i) (first-instructions t f w n i) .so-far) (c .before .before .before .before .before .before .before .before .before .before .before .before .before .loop-test .taken) (level (a t f .left) (c .before .before .before .before .before .before .before .before .before .before .before .before .if1 .left)) (c .before .before .before .before .before .before .before .before .before .if2 .left) _ (sym (c .before .before .walk .given .1) ∙ r .copy-function .ensures .0 (on (first t f w n i) (l .loop .nested)) refl refl))
@@ -160,7 +156,7 @@ returns-3 t c =
 loop-again : (t : ℕ) → copy-function-lts.Need-loop-again (calls t) (at t) copy-function.Post Inv μ-loop
 loop-again t c =
     let l = c .before .before .before .before .before .before .before .before .before .before .before .before .before .before in
-    let f = c .before .before .before .before .before .before .before .before .before .before .before .before .before .before .before .before .before .before .before .before in
+    let f = c .before .before .before .before .before .before .before .before .before .before .before .before .before .before .before .before .before .before .before in
     let r = c .before .before .before .before .before .before in
     let some = c .before .before .before .before .before .before .before .before .before .before .before .before .before .loop-test .taken in
     let levels = level (a t f .left) (c .before .before .before .before .before .before .before .before .before .before .before .before .if1 .left) in
@@ -173,14 +169,14 @@ loop-again t c =
 
 returns-4 : (t : ℕ) → copy-function-lts.Need-returns-4 (calls t) (at t) copy-function.Post Inv μ-loop
 returns-4 t c =
-    let a = c .before .before .before .before .before .before .before .args in
+    let a = c .before .before .before .before .before .before .before .before .before .before .args in
     not-read (a .named) (a .from) (a .s .now) (λ w. function (a .limits) (a .left) w (a .from .next .at) (drop (a .from .next .at) (a .s .now))) _ _ _ _ _ _ (c .stopped .ensures) λ w n i.
-    copied.head-refused (a .s .now) (a .limits) (a .left) w (a .from .next .at) i _ (sym (c .before .before .begins .given .1) ∙ c .before .before .before .before .read-head .ensures)
+    copied.head-refused (a .s .now) (a .limits) (a .left) w (a .from .next .at) i _ (sym (c .before .before .begins .given .1) ∙ c .before .before .before .before .before .before .copy-head .ensures .0)
 
 returns-5 : (t : ℕ) → copy-function-lts.Need-returns-5 (calls t) (at t) copy-function.Post Inv μ-loop
 returns-5 t c =
     let l = c .before .before .before .before .before in
-    let f = c .before .before .before .before .before .before .before .before .before .before .before in
+    let f = c .before .before .before .before .before .before .before .before .before .before in
     let z = c .before .before .copy-end .ensures in
     let over = c .before .before .before .before .loop-test .left in (
       λ w n i.
@@ -189,7 +185,7 @@ returns-5 t c =
       λ w n i main bytes.
           let those = l .loop .inv .1 (first t f w n i) (first-number t f w n i) (first-instructions t f w n i) in
           copied.whole-put (a t f .s .now) (a t f .limits) (a t f .left) w (a t f .from .next .at) i (head t f) (behind t f) (begun t f) (l .loop .nested) (so-far.those (those .so-far) over) (a t f .named) main (z .0)
-          (λ before from to v rest e g. f .put-head .ensures before from to v rest bytes e g)
+          (c .before .before .before .before .before .before .before .before .before .before .before .before .before .before .copy-head .ensures .1 bytes)
           (copies-all (a t f .limits) (a t f .left) those bytes)
           (z .1 .1),
     )
@@ -201,25 +197,24 @@ pub +copy-function-spec : {M : Type 1} → statement M
     (λ c. search needs)
     (λ c κs. search needs)
     (λ c. search needs)
-    (λ c κs. search needs)
     (number t)
     (total t)
     (loop-holds t)
     (λ c κs. search needs)
-    (λ c. search needs)
+    (λ c. let two = c .before .before .before .before .before .before .before .before .before .before .before .before .copy-head .kept in search needs)
     (returns t)
     (λ c κs. search needs)
-    (λ c. search needs)
+    (λ c. let two = c .before .before .before .before .before .before .before .before .before .before .before .before .before .before .before .copy-head .kept in search needs)
     (returns-2 t)
     (λ c κs. search needs)
-    (λ c. omega (arith, level (c .before .before .before .before .before .before .before .before .before .before .before .before .before .before .before .before .before .before .before .before .args .left) (c .before .before .before .before .if1 .left)))
+    (λ c. omega (arith, level (c .before .before .before .before .before .before .before .before .before .before .before .before .before .before .before .before .before .before .before .args .left) (c .before .before .before .before .if1 .left)))
     (λ c. omega (arith, tail-inside (c .before .before .before .before .before .before .loop .len) (length (c .before .before .before .before .before .before .loop .out)) (c .within .result) (c .within .ensures)))
     (λ c. omega (arith, tail-inside (c .before .before .before .before .before .before .loop .len) (length (c .before .before .before .before .before .before .loop .out)) (c .within .result) (c .within .ensures)))
     (λ c. search needs)
     (copy-function-requires t)
     (λ c. search needs)
     (λ c κs. search needs)
-    (λ c. let l = c .before .before .before .before .before .before .before .before .before .before .before .before .before .before in let f = c .before .before .before .before .before .before .before .before .before .before .before .before .before .before .before .before .before .before .before .before in let r = c .before .before .before .before .before .before in let one = part-kept (l .loop .len) _ (l .loop .out) (r .copy-function .last .1 .1 .1 .1 .1 .0) (c .before .before .before .before .before .before .before .before .within .ensures) (r .copy-function .kept .1 .1 .1 .1 .1 .0) ∙ l .loop .inv .0 in let two = f .put-head .kept in search needs)
+    (λ c. let l = c .before .before .before .before .before .before .before .before .before .before .before .before .before .before in let r = c .before .before .before .before .before .before in let one = part-kept (l .loop .len) _ (l .loop .out) (r .copy-function .last .1 .1 .1 .1 .1 .0) (c .before .before .before .before .before .before .before .before .within .ensures) (r .copy-function .kept .1 .1 .1 .1 .1 .0) ∙ l .loop .inv .0 in let two = c .before .before .before .before .before .before .before .before .before .before .before .before .before .before .before .before .before .before .before .before .before .before .before .copy-head .kept in search needs)
     (returns-3 t)
     (λ c. search needs)
     (λ c κs. search needs)
@@ -227,6 +222,7 @@ pub +copy-function-spec : {M : Type 1} → statement M
     (λ c. omega (arith, c .before .before .before .before .before .before .before .before .before .before .before .before .before .loop-test .taken))
     (loop-again t)
     (λ c κs. search needs)
+    (λ c. let two = c .before .before .before .before .before .before .copy-head .kept in search needs)
     (returns-4 t)
-    (λ c. search needs)
+    (λ c. let two = c .before .before .before .before .before .before .before .before .before .before .before .before .before .before .copy-head .kept in search needs)
     (returns-5 t)

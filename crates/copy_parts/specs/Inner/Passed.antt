@@ -1,0 +1,39 @@
+-- What is shown of an entry and of a list that are read and put in one pass.
+--     nextOf r                 the place behind what was read
+--     PutsListed r bytes s o at l behind l′    where o shows a list, its entries, behind their count
+--     PutsLists, PutsHead      the same of the lists before the nested functions, and of all before them
+use mathlib.Core.Path.{_≡_}
+use mathlib.Core.Bool.{Bool}
+use Prim.Native.Nat.{ℕ}
+use lib.ListN.{drop}
+use Rattle.format.specs.declared.limits.ResourceLimits.{ResourceLimits}
+use Rattle.format.specs.Form.{Bytes, Below}
+use Rattle.format.specs.Read.{Read, ok, Reader, many}
+use Rattle.cursor.specs.declared.Cursor.{Cursor}
+use Rattle.cursor.specs.declared.CursorResult.{CursorResult}
+use Rattle.cursor.specs.declared.CursorResult.the-variants as cursor
+use Rattle.counted.specs.declared.ListResult.{ListResult}
+use Rattle.counted.specs.declared.ListResult.the-variants as list
+use Rattle.prototype.specs.declared.parts.HeadLists as declared-lists
+use Rattle.prototype.specs.declared.parts.HeadListsResult.{HeadListsResult}
+use Rattle.prototype.specs.declared.parts.HeadListsResult.the-variants as lists-answer
+use Rattle.prototype.specs.Parts.{HeadLists, headLists, Head}
+use Rattle.prototype.specs.PartsShown.{listsOf}
+use Rattle.encode.specs.Inner.Put.{Put, PutsAll}
+use Rattle.copy_parts.specs.Inner.Parts.{listsBytes, headBytes}
+
+abbrev pub nextOf : CursorResult → ℕ
+nextOf (cursor.Ok c) = c .at
+nextOf (cursor.Err q) = 0
+
+pub record PutsListed {A : Type 0} (r : Reader A) (bytes : A → Bytes) (s : Bytes) (o : ListResult) (at : ℕ) (l : Bytes) (behind : ℕ) (l′ : Bytes) : Type 0 where
+  pub put : (count place : ℕ) (c : Cursor) → o ≡ list.Ok count place c → PutsAll bytes (many count r place (drop place s)) at l behind l′
+
+-- where o shows the lists before the nested functions, their bytes, wherever they were read
+pub record PutsLists (L : ResourceLimits) (s : Bytes) (o : HeadListsResult) (at : ℕ) (l : Bytes) (behind : ℕ) (l′ : Bytes) : Type 0 where
+  pub put : (lists : declared-lists.HeadLists) (c : Cursor) → o ≡ lists-answer.Ok lists c
+      → (before from to : ℕ) (h : HeadLists) (rest : Bytes) → Below 256 s → headLists L before from (drop from s) ≡ ok h to rest → lists ≡ listsOf h → Put (listsBytes h) at l behind l′
+
+-- where a function was read up to the functions that nest in it, its bytes, at the start
+pub record PutsHead (named : Bool) (o : Read Head) (l : Bytes) (len : ℕ) (l′ : Bytes) : Type 0 where
+  pub put : (h : Head) (to : ℕ) (rest : Bytes) → o ≡ ok h to rest → Put (headBytes named h) 0 l len l′
