@@ -26,7 +26,7 @@ pub enum SkimResult {
 }
 
 // Passes over a function and all that nest in it, at most `left` deep. Ruled out: nested functions that are not counted, instructions that are counted twice.
-pub fn skim_function(s: &[u8], limits: ResourceLimits, left: usize, from: Skimmed) -> SkimResult
+fn skim_function(s: &[u8], limits: ResourceLimits, left: usize, from: Skimmed) -> SkimResult
     requires { ⌜ (limits .«max_total_prototypes» ≤ 16777216) × (limits .«max_total_instructions» ≤ 16777216) × (from .number ≤ 16777216) ⌝ }
     ensures { λ r. ⌜ ((w : grammar.Where) → from .number ≡ w .number → from .instructions ≡ w .instructions → r ≡ skimResult w (function limits left w (from .next .at) (drop (from .next .at) (now (s .entry))))) ⌝ }
 {
