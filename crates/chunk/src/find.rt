@@ -2,6 +2,7 @@
 ghost use mathlib.Core.Path.{_≡_};
 ghost use Prim.Native.Nat.{_≤_};
 ghost use lib.ListN.{drop};
+ghost use Rattle.format.specs.Limits.{DEEPEST, Walkable};
 ghost use Rattle.format.specs.GrammarChunk.{outermost};
 ghost use Rattle.format.specs.ReadChunk.{function};
 ghost use Rattle.chunk.specs.Inner.Find.{findResult};
@@ -23,7 +24,7 @@ pub enum FindResult {
 
 // Judges main and all functions that nest in it, and shows the row of one of them. Ruled out: main's row for every number, a row where there is no function of that number.
 pub fn find_row(s: &[u8], limits: ResourceLimits, wanted: usize, main_at: Cursor) -> FindResult
-    requires { ⌜ (limits .«max_total_prototypes» ≤ 16777216) × (limits .«max_total_instructions» ≤ 16777216) × (limits .«max_nesting_depth» ≤ 200) ⌝ }
+    requires { ⌜ Walkable limits × (limits .«max_nesting_depth» ≤ DEEPEST) ⌝ }
     ensures { λ r. ⌜ r ≡ findResult wanted (function limits (limits .«max_nesting_depth») outermost («main_at» .at) (drop («main_at» .at) (now (s .entry)))) ⌝ }
 {
     // No function stands at the end of the file: main inherits no source, and nothing is found yet.

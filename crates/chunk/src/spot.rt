@@ -4,6 +4,7 @@ ghost use mathlib.Core.Path.{_≡_};
 ghost use mathlib.Core.Bool.{cond};
 ghost use Prim.Native.Nat.{_+_, _≤_};
 ghost use lib.Dec.{eqb};
+ghost use Rattle.format.specs.Limits.{DEEPEST, MOST, Walkable};
 ghost use Rattle.skim.specs.Inner.Skim.{skimResult};
 ghost use Rattle.chunk.specs.Inner.Spot.{spotOf, belowShown, standing, functionAt, functionsAt, rowAt, Found};
 use format::limits::ResourceLimits;
@@ -34,7 +35,7 @@ fn source_below(named: bool, start: usize, above: usize) -> usize
 
 // What the functions inherit that nest in one. Ruled out: the parent's own parent, the source of the parent's parent where the parent's is spelt.
 fn below(above: Above, from: Skimmed, named: bool) -> Above
-    requires { ⌜ above .depth ≤ 200 ⌝ }
+    requires { ⌜ above .depth ≤ DEEPEST ⌝ }
     ensures { λ r. ⌜ r ≡ belowShown above from named ⌝ }
 {
     let source = source_below(named, from.next.at, above.source);
@@ -71,7 +72,7 @@ pub fn find_function(
     from: Skimmed,
     spot: &mut Spot,
 ) -> SkimResult
-    requires { ⌜ (limits .«max_total_prototypes» ≤ 16777216) × (limits .«max_total_instructions» ≤ 16777216) × (from .number ≤ 16777216) × (above .depth + left ≤ 200) ⌝ }
+    requires { ⌜ Walkable limits × (from .number ≤ MOST) × (above .depth + left ≤ DEEPEST) ⌝ }
     ensures { λ r. ⌜ r ≡ skimResult (standing limits (now (s .entry)) above from) (functionAt limits (now (s .entry)) left above from) ⌝ }
     ensures { λ _. ⌜ Found wanted (from .number) (functionAt limits (now (s .entry)) left above from) (rowAt limits (now (s .entry)) (now (spot .entry))) (rowAt limits (now (s .entry)) (now (spot .exit))) ⌝ }
 {
@@ -121,7 +122,7 @@ fn find_functions(
     from: Skimmed,
     spot: &mut Spot,
 ) -> SkimResult
-    requires { ⌜ (limits .«max_total_prototypes» ≤ 16777216) × (limits .«max_total_instructions» ≤ 16777216) × (above .depth + left ≤ 201) ⌝ }
+    requires { ⌜ Walkable limits × (above .depth + left ≤ DEEPEST + 1) ⌝ }
     ensures { λ r. ⌜ r ≡ skimResult (standing limits (now (s .entry)) above from) (functionsAt limits (now (s .entry)) n left above from) ⌝ }
     ensures { λ _. ⌜ Found wanted (from .number) (functionsAt limits (now (s .entry)) n left above from) (rowAt limits (now (s .entry)) (now (spot .entry))) (rowAt limits (now (s .entry)) (now (spot .exit))) ⌝ }
 {

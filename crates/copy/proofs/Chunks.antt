@@ -7,6 +7,7 @@ use Prim.Native.Nat.{ℕ, _+_, _-_, _*_, _≤_}
 use native.Mathlib.Omega.{arith}
 use lib.ListN.{length, take, drop, length-append, length-drop}
 use lib.Seq.{take-all}
+use Rattle.format.specs.Limits.{MOST}
 use Rattle.format.specs.declared.limits.ResourceLimits.{ResourceLimits}
 use Rattle.format.specs.declared.refusal.Refusal.{Refusal}
 use Rattle.format.specs.Form.{Bytes, Below}
@@ -65,7 +66,7 @@ functions-are : (ps : List Prototype) → functionBytes true ps ≡ functionsByt
 functions-are [] = refl
 functions-are (p ∷ ps) = refl
 
-module _ (s : Bytes) (bytes : Below 256 s) (short : length s ≤ 16777216) (L : ResourceLimits) (at : ℕ) where
+module _ (s : Bytes) (bytes : Below 256 s) (short : length s ≤ MOST) (L : ResourceLimits) (at : ℕ) where
   abbrev functions : Read (List Prototype)
   functions = function L (L .«max_nesting_depth») outermost at (drop at s)
 

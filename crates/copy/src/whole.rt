@@ -2,6 +2,7 @@
 ghost use mathlib.Core.List.{_++_};
 ghost use Prim.Native.Nat.{_≤_};
 ghost use lib.ListN.{length, drop};
+ghost use Rattle.format.specs.Limits.{DEEPEST, MOST, Walkable};
 ghost use Rattle.format.specs.Form.{Below};
 ghost use Rattle.format.specs.GrammarChunk.{outermost};
 ghost use Rattle.format.specs.ReadChunk as format;
@@ -44,8 +45,8 @@ fn put_front(upvalues: usize, out: &mut [u8]) -> usize
 
 // Main, which begins at the cursor, with all that nest in it, then the header, of which one byte depends on main, then the trailing bytes.
 fn copy_functions(s: &[u8], limits: ResourceLimits, cursor: Cursor, out: &mut [u8]) -> CopyAnswer
-    requires { ⌜ (limits .«max_nesting_depth» ≤ 200) × (limits .«max_total_prototypes» ≤ 16777216) × (limits .«max_total_instructions» ≤ 16777216) ⌝ }
-    ensures { λ r. ⌜ (Below 256 (now (s .entry)) → length (now (s .entry)) ≤ 16777216 → Answers chunkBytes (format.function limits (limits .«max_nesting_depth») outermost (cursor .at) (drop (cursor .at) (now (s .entry)))) (now (out .entry)) r (now (out .exit))) ⌝ }
+    requires { ⌜ (limits .«max_nesting_depth» ≤ DEEPEST) × Walkable limits ⌝ }
+    ensures { λ r. ⌜ (Below 256 (now (s .entry)) → length (now (s .entry)) ≤ MOST → Answers chunkBytes (format.function limits (limits .«max_nesting_depth») outermost (cursor .at) (drop (cursor .at) (now (s .entry)))) (now (out .entry)) r (now (out .exit))) ⌝ }
 {
     let left = limits.max_nesting_depth;
     let from = Skimmed {

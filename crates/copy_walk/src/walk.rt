@@ -5,6 +5,7 @@ ghost use mathlib.Core.Option.{none};
 ghost use Prim.Native.Nat.{_≤_};
 ghost use lib.Dec.{leb};
 ghost use lib.ListN.{drop};
+ghost use Rattle.format.specs.Limits.{MOST, Walkable};
 ghost use Rattle.format.specs.Form.{Below};
 ghost use Rattle.format.specs.GrammarChunk as grammar;
 ghost use Rattle.format.specs.ReadChunk.{function};
@@ -38,7 +39,7 @@ pub fn copy_function(
     from: Skimmed,
     out: &mut [u8],
 ) -> Copied
-    requires { ⌜ (limits .«max_total_prototypes» ≤ 16777216) × (limits .«max_total_instructions» ≤ 16777216) × (from .number ≤ 16777216) ⌝ }
+    requires { ⌜ Walkable limits × (from .number ≤ MOST) ⌝ }
     ensures { λ r. ⌜ ((w : grammar.Where) → from .number ≡ w .number → from .instructions ≡ w .instructions → r .walk ≡ skimResult w (function limits left w (from .next .at) (drop (from .next .at) (now (s .entry))))) ⌝ }
     ensures { λ r. ⌜ ((w : grammar.Where) → from .number ≡ w .number → from .instructions ≡ w .instructions → (named ≡ true → w .source ≡ none) → Below 256 (now (s .entry)) → PutsFunction named (function limits left w (from .next .at) (drop (from .next .at) (now (s .entry)))) (now (out .entry)) (r .upvalues) (r .len) (now (out .exit))) ⌝ }
 {

@@ -12,7 +12,7 @@ use Rattle.format.specs.declared.limits.ResourceLimits.{ResourceLimits}
 use Rattle.format.specs.declared.header.Warning.{Warning}
 use Rattle.format.specs.declared.header.Warning.the-variants as code
 use Rattle.format.specs.Form.{Bytes}
-use Rattle.format.specs.Limits.{withinCeilings}
+use Rattle.format.specs.Limits.{withinCeilings, DEEPEST, MOST, Walkable}
 use Rattle.format.specs.GrammarHeader.{Headed, Header, formatWarnings}
 use Rattle.format.specs.GrammarChunk.{Main, trailingWarnings}
 use Rattle.format.proofs.Every.{Every, any, every-then, every-is}
@@ -66,27 +66,27 @@ both true true e = (refl, refl)
 both true false e = absurd (let z : _≡_ {A = ℕ} 0 1 = cc in omega arith)
 both false c e = absurd (let z : _≡_ {A = ℕ} 0 1 = cc in omega arith)
 
-pub in-ceilings : (L : ResourceLimits) → withinCeilings L ≡ true → (L .«max_nesting_depth» ≤ 200) × (L .«max_total_prototypes» ≤ 16777216) × (L .«max_total_instructions» ≤ 16777216)
+pub in-ceilings : (L : ResourceLimits) → withinCeilings L ≡ true → (L .«max_nesting_depth» ≤ DEEPEST) × Walkable L
 in-ceilings L e =
-    let input = leb (L .«max_input_bytes») 16777216 in
-    let nesting = leb (L .«max_nesting_depth») 200 in
-    let protos = leb (L .«max_total_prototypes») 16777216 in
-    let code = leb (L .«max_instructions_per_proto») 16777216 in
-    let total = leb (L .«max_total_instructions») 16777216 in
-    let constants = leb (L .«max_constants_per_proto») 16777216 in
-    let upvalues = leb (L .«max_upvalues_per_proto») 16777216 in
-    let strings = leb (L .«max_string_bytes») 16777216 in
+    let input = leb (L .«max_input_bytes») MOST in
+    let nesting = leb (L .«max_nesting_depth») DEEPEST in
+    let protos = leb (L .«max_total_prototypes») MOST in
+    let code = leb (L .«max_instructions_per_proto») MOST in
+    let total = leb (L .«max_total_instructions») MOST in
+    let constants = leb (L .«max_constants_per_proto») MOST in
+    let upvalues = leb (L .«max_upvalues_per_proto») MOST in
+    let strings = leb (L .«max_string_bytes») MOST in
     let eight = both (input && nesting && protos && code && total && constants && upvalues && strings) _ e .0 in
     let seven = both (input && nesting && protos && code && total && constants && upvalues) strings eight .0 in
     let six = both (input && nesting && protos && code && total && constants) upvalues seven .0 in
     let five = both (input && nesting && protos && code) total (both (input && nesting && protos && code && total) constants six .0) in
     let three = both (input && nesting) protos (both (input && nesting && protos) code (five .0) .0) in
     let two = both input nesting (three .0) in
-    (leb-true (L .«max_nesting_depth») 200 (two .1), leb-true (L .«max_total_prototypes») 16777216 (three .1), leb-true (L .«max_total_instructions») 16777216 (five .1))
+    (leb-true _ DEEPEST (two .1), (leb-true _ MOST (three .1), leb-true _ MOST (five .1)))
 
-pub input-ceiling : (L : ResourceLimits) → withinCeilings L ≡ true → L .«max_input_bytes» ≤ 16777216
-input-ceiling L e = by (leb (L .«max_input_bytes») 16777216) refl
+pub input-ceiling : (L : ResourceLimits) → withinCeilings L ≡ true → L .«max_input_bytes» ≤ MOST
+input-ceiling L e = by (leb (L .«max_input_bytes») MOST) refl
   where
-    by : (t : Bool) → leb (L .«max_input_bytes») 16777216 ≡ t → L .«max_input_bytes» ≤ 16777216
-    by true h = leb-true (L .«max_input_bytes») 16777216 h
+    by : (t : Bool) → leb (L .«max_input_bytes») MOST ≡ t → L .«max_input_bytes» ≤ MOST
+    by true h = leb-true (L .«max_input_bytes») MOST h
     by false h = absurd (true≢false (sym (rw h at e)))

@@ -7,6 +7,7 @@ use Prim.Native.Nat.{ℕ, zero, suc, _+_, _-_, _<_, _≤_}
 use native.Mathlib.Omega.{arith}
 use lib.Dec.{leb}
 use lib.ListN.{drop}
+use Rattle.format.specs.Limits.{DEEPEST}
 use Rattle.format.specs.declared.limits.ResourceLimits.{ResourceLimits}
 use Rattle.format.specs.declared.refusal.Refusal.the-variants.{TotalPrototypes}
 use Rattle.format.specs.Form.{Bytes}
@@ -23,7 +24,7 @@ use Rattle.skim.specs.Inner.Skim.{entered}
 use Rattle.skim.proofs.Entering.{exact-entered}
 use Rattle.skim.proofs.HeadTail.{exact-head}
 use Rattle.skim.proofs.OneFunction.{by-parts}
-use Rattle.functions.specs.Inner.Rows.{rowShown, headAt, tailAt, onHead, onTail, Walked, through, cut, before, andThen, times, bodyAt, functionAt, chunkRows, prototypeRow}
+use Rattle.functions.specs.Inner.Rows.{LEVELS, rowShown, headAt, tailAt, onHead, onTail, Walked, through, cut, before, andThen, times, bodyAt, functionAt, chunkRows, prototypeRow}
 use Rattle.functions.specs.declared.Row.{Row}
 use Rattle.functions.proofs.Fewer.{Fewer, fewer-head}
 
@@ -95,13 +96,13 @@ module _ (L : ResourceLimits) (s : Bytes) where
   agree-enter true w n at walked a = a
   agree-enter false w n at walked a = tt
 
-  pub agree : (n levels : ℕ) → n < levels → (w : Where) → w .depth + levels ≡ 201 → (at : ℕ) → Agree (function L n w at (drop at s)) (functionAt L s levels at)
+  pub agree : (n levels : ℕ) → n < levels → (w : Where) → w .depth + levels ≡ LEVELS → (at : ℕ) → Agree (function L n w at (drop at s)) (functionAt L s levels at)
   unfolding functionAt
   agree n zero h w deep at = absurd (omega arith)
-  agree zero (suc levels) h w deep at = agree-body (200 - levels) zero (functionAt L s levels) (λ w at d. tt) w (omega arith) at
+  agree zero (suc levels) h w deep at = agree-body (DEEPEST - levels) zero (functionAt L s levels) (λ w at d. tt) w (omega arith) at
   agree (suc n) (suc levels) h w deep at =
-      agree-body (200 - levels) (suc n) (functionAt L s levels) (λ w at d. agree-enter (leb (w .number) (L .«max_total_prototypes»)) w n at _ (agree n levels (omega arith) w (omega arith) at)) w (omega arith) at
+      agree-body (DEEPEST - levels) (suc n) (functionAt L s levels) (λ w at d. agree-enter (leb (w .number) (L .«max_total_prototypes»)) w n at _ (agree n levels (omega arith) w (omega arith) at)) w (omega arith) at
 
-  pub all-rows : (n : ℕ) → n ≤ 200 → (w : Where) → w .depth ≡ 0 → (at : ℕ) {ps : List Prototype} {to : ℕ} {rest : Bytes} → function L n w at (drop at s) ≡ ok ps to rest → chunkRows L s at ≡ rowsFor ps
+  pub all-rows : (n : ℕ) → n ≤ DEEPEST → (w : Where) → w .depth ≡ 0 → (at : ℕ) {ps : List Prototype} {to : ℕ} {rest : Bytes} → function L n w at (drop at s) ≡ ok ps to rest → chunkRows L s at ≡ rowsFor ps
   unfolding chunkRows
-  all-rows n h w top at e = rw (subst (λ (o : Read (List Prototype)). Agree o (functionAt L s 201 at)) e (agree n 201 (omega arith) w (omega arith) at))
+  all-rows n h w top at e = rw (subst (λ (o : Read (List Prototype)). Agree o (functionAt L s LEVELS at)) e (agree n LEVELS (omega arith) w (omega arith) at))

@@ -10,6 +10,7 @@ use mathlib.Core.List.{List, [], _∷_, _++_, map}
 use Prim.Native.Nat.{ℕ, zero, suc, _+_, _≤_}
 use native.Mathlib.Omega.{arith}
 use lib.ListN.{length, length-append}
+use Rattle.format.specs.Limits.{DEEPEST, MOST}
 use Rattle.format.specs.declared.limits.ResourceLimits.{ResourceLimits}
 use Rattle.format.specs.Form.{Bytes, Form, Then, Is, Here, Given, Nothing, Run, Many}
 use Rattle.format.specs.GrammarFields.{Field, Number}
@@ -37,7 +38,7 @@ takes-field n h = takes-then (takes-run n h)
 
 -- ## What ends within the largest file
 record Within {A : Type 0} (F : Form A) (P : A → Type 0) : Type 0 where
-  holds : (at : ℕ) (b : Bytes) (x : A) → F at b x → at + length b ≤ 16777216 → P x
+  holds : (at : ℕ) (b : Bytes) (x : A) → F at b x → at + length b ≤ MOST → P x
 
 any : {A : Type 0} {F : Form A} → Within F (λ _. Unit {0})
 any = record { holds = λ at b x d fits. tt }
@@ -52,7 +53,7 @@ within-then one two = record {
 within-is : {A : Type 0} {x : A} {P : A → Type 0} → P x → Within (Is x) P
 within-is p = record { holds = λ at b y d fits. rw (← d .1) p }
 
-within-here : Within Here (λ place. place ≤ 16777216)
+within-here : Within Here (λ place. place ≤ MOST)
 within-here = record { holds = λ at b x d fits. rw (← d .1) (omega arith) }
 
 within-given : {Q : Type 0} → Within (Given Q) (λ _. Q)
@@ -61,7 +62,7 @@ within-given = record { holds = λ at b x d fits. d .1 }
 within-nothing : {A : Type 0} {P : A → Type 0} → Within {A = A} Nothing P
 within-nothing = record { holds = λ at b x d fits. absurd d }
 
-within-run : (n : ℕ) → Within (Run n) (λ b. length b ≤ 16777216)
+within-run : (n : ℕ) → Within (Run n) (λ b. length b ≤ MOST)
 within-run n = record { holds = λ at b x d fits. rw (← d .0) (omega arith) }
 
 many-length : {A : Type 0} {F : Form A} → Takes F → (n : ℕ) (at : ℕ) (b : Bytes) (xs : List A) → Many n F at b xs → length xs ≤ length b
@@ -75,11 +76,11 @@ many-length one (suc n) at b xs d =
     let size : suc (length (rest .value)) ≡ length xs = ap length (rest .two .1) in
     omega arith
 
-within-many : {A : Type 0} {F : Form A} (n : ℕ) → Takes F → Within (Many n F) (λ xs. length xs ≤ 16777216)
+within-many : {A : Type 0} {F : Form A} (n : ℕ) → Takes F → Within (Many n F) (λ xs. length xs ≤ MOST)
 within-many n one = record { holds = λ at b xs d fits. let fewer = many-length one n at b xs d in omega arith }
 
 abbrev Few : {A : Type 0} → Listed A → Type 0
-Few l = length (l .items) ≤ 16777216
+Few l = length (l .items) ≤ MOST
 
 within-counted : {A : Type 0} {F : Form A} → Takes F → Within (Counted F) Few
 within-counted one = within-then any λ n _. within-then any λ place _. within-then (within-many n one) λ items h. within-is h
@@ -89,17 +90,17 @@ within-countedUpTo limit one = within-then any λ n _. within-then any λ _ _. w
 
 -- ## Functions
 abbrev Small : List Prototype → Type 0
-Small ps = All (λ p. All (λ n. n ≤ 16777216) (indexRow p)) ps
+Small ps = All (λ p. All (λ n. n ≤ MOST) (indexRow p)) ps
 
-within-forest : (n depth : ℕ) {F : Where → Form (List Prototype)} (w : Where) → w .parent ≤ 16777216 → w .depth ≡ depth
-    → ((v : Where) → v .parent ≤ 16777216 → v .depth ≡ depth → Within (F v) Small) → Within (Forest n F w) Small
+within-forest : (n depth : ℕ) {F : Where → Form (List Prototype)} (w : Where) → w .parent ≤ MOST → w .depth ≡ depth
+    → ((v : Where) → v .parent ≤ MOST → v .depth ≡ depth → Within (F v) Small) → Within (Forest n F w) Small
 within-forest zero depth w parent level one = within-is tt
 within-forest (suc n) depth w parent level one =
     within-then (one w parent level) λ ps h. within-then (within-forest n depth (after ps w) parent level one) λ more k. within-is (all-append _ ps more h k)
 
-module _ (L : ResourceLimits) (few : L .«max_total_prototypes» ≤ 16777216) where
-  within-body : {F : Where → Form (List Prototype)} (w : Where) → w .number ≤ 16777216 → w .parent ≤ 16777216 → w .depth ≤ 200
-      → ((v : Where) → v .parent ≤ 16777216 → v .depth ≡ w .depth + 1 → Within (F v) Small) → Within (Body L F w) Small
+module _ (L : ResourceLimits) (few : L .«max_total_prototypes» ≤ MOST) where
+  within-body : {F : Where → Form (List Prototype)} (w : Where) → w .number ≤ MOST → w .parent ≤ MOST → w .depth ≤ DEEPEST
+      → ((v : Where) → v .parent ≤ MOST → v .depth ≡ w .depth + 1 → Within (F v) Small) → Within (Body L F w) Small
   unfolding Body
   within-body w number parent depth one =
       within-then within-here λ start h1.
@@ -129,7 +130,7 @@ module _ (L : ResourceLimits) (few : L .«max_total_prototypes» ≤ 16777216) w
       within-then within-here λ end h10.
       within-is ((h1, (h10, (omega arith, (parent, (h2, (h3, (h4, (omega arith, (h6, (h7, (h8, (h9, tt)))))))))))), rest)
 
-  within-function : (left : ℕ) (w : Where) → w .number ≤ 16777216 → w .parent ≤ 16777216 → w .depth + left ≤ 200 → Within (Function L left w) Small
+  within-function : (left : ℕ) (w : Where) → w .number ≤ MOST → w .parent ≤ MOST → w .depth + left ≤ DEEPEST → Within (Function L left w) Small
   unfolding Function
   within-function zero w number parent depth = within-body w number parent (omega arith) λ v _ _. within-nothing
   within-function (suc left) w number parent depth =
@@ -137,17 +138,17 @@ module _ (L : ResourceLimits) (few : L .«max_total_prototypes» ≤ 16777216) w
       within-then within-given λ _ h.
       within-function left v (omega arith) p (omega arith)
 
-  pub small-main : L .«max_nesting_depth» ≤ 200 → (front : Bytes) (m : Loaded) → length front ≤ 16777216 → Main L 0 front m → Small (m .functions)
+  pub small-main : L .«max_nesting_depth» ≤ DEEPEST → (front : Bytes) (m : Loaded) → length front ≤ MOST → Main L 0 front m → Small (m .functions)
   small-main deep front m short d = all .holds 0 front m d (omega arith)
     where
       all : Within (Main L) (λ m. Small (m .functions))
       all = within-then any λ _ _. within-then any λ _ _. within-then (within-function (L .«max_nesting_depth») _ (omega arith) (omega arith) (omega arith)) λ functions h. within-is h
 
 -- ## What is stored
-low-small : (n : ℕ) → n ≤ 16777216 → low n ≡ n
+low-small : (n : ℕ) → n ≤ MOST → low n ≡ n
 low-small n h = omega arith
 
-lows-small : (ns : List ℕ) → All (λ n. n ≤ 16777216) ns → map low ns ≡ ns
+lows-small : (ns : List ℕ) → All (λ n. n ≤ MOST) ns → map low ns ≡ ns
 lows-small [] h = refl
 lows-small (n ∷ ns) h = λ i. low-small n (h .0) i ∷ lows-small ns (h .1) i
 

@@ -12,6 +12,7 @@ use native.Mathlib.Omega.{arith}
 use borrow.Author.Tests.{le-leb, lt-leb}
 use lib.Dec.{leb}
 use lib.ListN.{length, drop, length-append}
+use Rattle.format.specs.Limits.{DEEPEST, Walkable}
 use Rattle.format.specs.declared.limits.ResourceLimits.{ResourceLimits}
 use Rattle.format.specs.declared.refusal.Refusal.{Refusal}
 use Rattle.format.specs.declared.refusal.Refusal.the-variants.{LentSpace}
@@ -89,7 +90,7 @@ module _ (old : List ℕ) (L : ResourceLimits) (s : Bytes) (d : Summary) (e : ju
   was : read L s ≡ shown (was-shown (read L s) d e .value)
   was = was-shown (read L s) d e .is
 
-  pub in-limits : (L .«max_nesting_depth» ≤ 200) × (L .«max_total_prototypes» ≤ 16777216) × (L .«max_total_instructions» ≤ 16777216)
+  pub in-limits : (L .«max_nesting_depth» ≤ DEEPEST) × Walkable L
   in-limits = in-ceilings L (read-within L s (was-shown (read L s) d e .value) was .0)
 
   chunk : Chunk L s (was-shown (read L s) d e .value)
@@ -104,7 +105,7 @@ module _ (old : List ℕ) (L : ResourceLimits) (s : Bytes) (d : Summary) (e : ju
       let input = input-ceiling L (short .0) in
       let size : length s ≡ length (chunk .front) + length (chunk .trailing) = ap length (chunk .whole) ∙ length-append (chunk .front) (chunk .trailing) in
       let within = short .1 in
-      let small = small-main L (in-limits .1) (in-limits .0) (chunk .front) (chunk .value) (omega arith) (chunk .main) in
+      let small = small-main L (in-limits .1 .0) (in-limits .0) (chunk .front) (chunk .value) (omega arith) (chunk .main) in
       rw (← those) (stored-index (chunk .value .functions) small)
 
   main-place : MainAt L s all-functions

@@ -2,6 +2,7 @@
 ghost use mathlib.Core.Path.{_≡_};
 ghost use Prim.Native.Nat.{_+_, _≤_};
 ghost use lib.ListN.{drop};
+ghost use Rattle.format.specs.Limits.{DEEPEST, MOST, Walkable};
 ghost use Rattle.format.specs.GrammarChunk as grammar;
 ghost use Rattle.format.specs.ReadChunk.{function};
 ghost use Rattle.skim.specs.Inner.Skim.{skimResult};
@@ -26,7 +27,7 @@ pub fn write_function(
     from: Skimmed,
     rows: &mut [u32],
 ) -> SkimResult
-    requires { ⌜ (limits .«max_total_prototypes» ≤ 16777216) × (limits .«max_total_instructions» ≤ 16777216) × (from .number ≤ 16777216) × (depth + left ≤ 200) ⌝ }
+    requires { ⌜ Walkable limits × (from .number ≤ MOST) × (depth + left ≤ DEEPEST) ⌝ }
     ensures { λ r. ⌜ ((w : grammar.Where) → from .number ≡ w .number → from .instructions ≡ w .instructions → r ≡ skimResult w (function limits left w (from .next .at) (drop (from .next .at) (now (s .entry))))) ⌝ }
     ensures { λ _. ⌜ ((w : grammar.Where) → from .number ≡ w .number → from .instructions ≡ w .instructions → depth ≡ w .depth → parent ≡ w .parent → Wrote w (function limits left w (from .next .at) (drop (from .next .at) (now (s .entry)))) (now (rows .entry)) (now (rows .exit))) ⌝ }
 {

@@ -2,6 +2,7 @@
 ghost use mathlib.Core.Path.{_≡_};
 ghost use Prim.Native.Nat.{_≤_};
 ghost use lib.ListN.{drop};
+ghost use Rattle.format.specs.Limits.{DEEPEST, MOST, Walkable};
 ghost use Rattle.format.specs.GrammarChunk as grammar;
 ghost use Rattle.format.specs.ReadChunk.{forest, function};
 ghost use Rattle.skim.specs.Inner.Skim.{entered, skimResult};
@@ -27,7 +28,7 @@ pub enum SkimResult {
 
 // Passes over a function and all that nest in it, at most `left` deep. Ruled out: nested functions that are not counted, instructions that are counted twice.
 fn skim_function(s: &[u8], limits: ResourceLimits, left: usize, from: Skimmed) -> SkimResult
-    requires { ⌜ (limits .«max_total_prototypes» ≤ 16777216) × (limits .«max_total_instructions» ≤ 16777216) × (from .number ≤ 16777216) ⌝ }
+    requires { ⌜ Walkable limits × (from .number ≤ MOST) ⌝ }
     ensures { λ r. ⌜ ((w : grammar.Where) → from .number ≡ w .number → from .instructions ≡ w .instructions → r ≡ skimResult w (function limits left w (from .next .at) (drop (from .next .at) (now (s .entry))))) ⌝ }
 {
     let begins = pass_head(s, limits, from.instructions, from.next);
@@ -69,7 +70,7 @@ fn skim_functions(
     left: usize,
     from: Skimmed,
 ) -> SkimResult
-    requires { ⌜ (limits .«max_total_prototypes» ≤ 16777216) × (limits .«max_total_instructions» ≤ 16777216) ⌝ }
+    requires { ⌜ Walkable limits ⌝ }
     ensures { λ r. ⌜ ((w : grammar.Where) → from .number ≡ w .number → from .instructions ≡ w .instructions → r ≡ skimResult w (forest n (entered limits left) w (from .next .at) (drop (from .next .at) (now (s .entry))))) ⌝ }
 {
     let mut skimmed = from;
@@ -96,7 +97,7 @@ fn skim_functions(
 
 // Passes over main and all that nest in it, at most `left` deep: as one function of a list, so that the compiler puts skim_function, which then has one caller, into the loop.
 pub fn skim_main(s: &[u8], limits: ResourceLimits, left: usize, from: Skimmed) -> SkimResult
-    requires { ⌜ (limits .«max_total_prototypes» ≤ 16777216) × (limits .«max_total_instructions» ≤ 16777216) × (left ≤ 200) ⌝ }
+    requires { ⌜ Walkable limits × (left ≤ DEEPEST) ⌝ }
     ensures { λ r. ⌜ ((w : grammar.Where) → w .number ≡ 0 → from .number ≡ w .number → from .instructions ≡ w .instructions → r ≡ skimResult w (function limits left w (from .next .at) (drop (from .next .at) (now (s .entry))))) ⌝ }
 {
     skim_functions(s, limits, 1, left + 1, from)

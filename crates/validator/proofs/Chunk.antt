@@ -5,6 +5,7 @@ use mathlib.Core.List.{List, [], _∷_}
 use Prim.Native.Nat.{ℕ, _+_, _≤_, _<_}
 use native.Mathlib.Omega.{arith}
 use lib.ListN.{length, drop}
+use Rattle.format.specs.Limits.{DEEPEST, MOST, Walkable}
 use Rattle.format.specs.declared.limits.ResourceLimits.{ResourceLimits}
 use Rattle.format.specs.declared.refusal.Refusal.{Refusal}
 use Rattle.format.specs.declared.header.Warning.{Warning}
@@ -84,11 +85,11 @@ module _ (L : ResourceLimits) (s : Bytes) (d : Summary) (e : judged.Ok d ≡ jud
   known : Known L s r
   known = known-of L s r was
 
-  limits : (L .«max_nesting_depth» ≤ 200) × (L .«max_total_prototypes» ≤ 16777216) × (L .«max_total_instructions» ≤ 16777216)
+  limits : (L .«max_nesting_depth» ≤ DEEPEST) × Walkable L
   limits = in-ceilings L (read-within L s r was .0)
 
-  pub few-instructions : L .«max_total_instructions» ≤ 16777216
-  few-instructions = limits .2
+  pub few-instructions : L .«max_total_instructions» ≤ MOST
+  few-instructions = limits .1 .1
 
   -- the rows from where main begins are those of all functions
   pub rows-shown : chunkRows L s 32 ≡ rowsFor (r .functions)

@@ -23,7 +23,7 @@ write-function-requires c κs =
     let a = b .before .before .before .args in
     let l = in-limits (a .rows .now) (a .limits) (a .s .now) (j .judged2 .given .0 .0) (sym (j .judged2 .given .1) ∙ b .judge-chunk .ensures) in
     let nesting = l .0 in
-    (l .1, l .2, omega arith, omega arith)
+    (l .1, omega arith, omega arith)
 
 returns-2 : tie.Need-returns-2
 returns-2 c =

@@ -86,13 +86,13 @@ module _ (t : ℕ) (h : write-function-lts.After-begins2 (calls t) (at t) write-
     refused-inside = passes.nested-refused (a .s .now) (a .limits) (a .left) w (a .from .next .at) i head behind begun
 
 number : (t : ℕ) → write-function-lts.Need-add-t23 (calls t) (at t) write-function.Post Inv μ-loop
-number t c = let few = c .before .before .before .before .before .before .before .pre .1 .2 in omega (arith, few)
+number t c = let few = c .before .before .before .before .before .before .before .pre .1 .1 in omega (arith, few)
 
 total : (t : ℕ) → write-function-lts.Need-add-t24 (calls t) (at t) write-function.Post Inv μ-loop
 total t c =
     let h = c .before .before .before .before in
     let e = counts-total (a t h .s .now) (a t h .limits) (a t h .from .instructions) (a t h .from .next .at) (head t h) (behind t h) (begun t h) in
-    let limit = h .before .before .before .before .before .pre .1 .1 in
+    let limit = h .before .before .before .before .before .pre .1 .0 .1 in
     omega (arith, e, limit)
 
 loop-holds : (t : ℕ) → write-function-lts.Need-loop-holds (calls t) (at t) write-function.Post Inv μ-loop
@@ -117,7 +117,7 @@ returns-2 t c =
 
 deeper : (t : ℕ) → write-function-lts.Need-add-write-function (calls t) (at t) write-function.Post Inv μ-loop
 deeper t c =
-    let deep = c .before .before .before .before .before .before .before .before .before .before .before .before .before .before .before .pre .1 .3 in
+    let deep = c .before .before .before .before .before .before .before .before .before .before .before .before .before .before .before .pre .1 .2 in
     omega (arith, deep)
 
 write-function-requires : (t : ℕ) → write-function-lts.Need-write-function-requires (calls t) (at t) write-function.Post Inv μ-loop
@@ -125,11 +125,11 @@ write-function-requires t c κs =
     let g = c .before in
     let e = g .before .before .before in
     let b = e .before .before .before .before .before .before .before .before .before .before .before .before in
-    let limit = b .pre .1 .0 in
+    let limit = b .pre .1 .0 .0 in
     let within = g .if2 .left in
-    let deepest = b .pre .1 .3 in
+    let deepest = b .pre .1 .2 in
     let more = level (b .args .left) (e .if1 .left) in
-    (omega (arith, b .pre .0, more), (limit, b .pre .1 .1, omega (arith, within, limit), omega (arith, deepest, more)))
+    (omega (arith, b .pre .0, more), (b .pre .1 .0, omega (arith, within, limit), omega (arith, deepest, more)))
 
 -- behind one function more: the rows are as many
 rows-long : (t : ℕ) (f : write-function-lts.After-write-function (calls t) (at t) write-function.Post Inv μ-loop)

@@ -8,6 +8,7 @@ use native.Mathlib.Omega.{arith}
 use borrow.Author.Needs.{needs}
 use borrow.Fn.Kinds.{In}
 use borrow.Fn.PlainCycle.{Measures, is, falls, and}
+use Rattle.format.specs.Limits.{DEEPEST}
 use Rattle.cursor.specs.declared.Cursor.{Cursor}
 use Rattle.prototype.specs.declared.pass.HeadCounts.{HeadCounts}
 use Rattle.prototype.specs.declared.pass.HeadCountsResult.the-variants as head-answer
@@ -74,7 +75,7 @@ functions-calls t = (find-function-below t, find-function.Post)
 
 function-number : (t : ℕ) → find-function-lts.Need-add-t21 (function-calls t) (find-function-at t) find-function.Post
 function-number t c =
-    let few = c .before .before .before .before .before .before .pre .1 .2 in
+    let few = c .before .before .before .before .before .before .pre .1 .1 in
     omega (arith, few)
 
 function-total : (t : ℕ) → find-function-lts.Need-add-t22 (function-calls t) (find-function-at t) find-function.Post
@@ -82,20 +83,20 @@ function-total t c =
     let h = c .before .before .before .before in
     let b = h .before .before .before .before in
     let e = counts-total (b .args .s .now) (b .args .limits) (b .args .from .instructions) (b .args .from .next .at) (h .begins2 .given .0 .0) (h .begins2 .given .0 .1 .0) (sym (h .begins2 .given .1) ∙ h .before .before .pass-head .ensures) in
-    let limit = b .pre .1 .1 in
+    let limit = b .pre .1 .0 .1 in
     omega (arith, e, limit)
 
 function-below-requires : (t : ℕ) → find-function-lts.Need-below-requires (function-calls t) (find-function-at t) find-function.Post
 function-below-requires t c κs =
-    let deepest = c .before .before .before .before .before .before .before .before .pre .1 .3 in
+    let deepest = c .before .before .before .before .before .before .before .before .pre .1 .2 in
     omega (arith, deepest)
 
 function-functions-requires : (t : ℕ) → find-function-lts.Need-find-functions-requires (function-calls t) (find-function-at t) find-function.Post
 function-functions-requires t c κs =
     let g = c .before in
     let b = g .before .before .before .before .before .before .before .before .before in
-    let deepest = b .pre .1 .3 in
-    let depth : g .below .result .depth + b .args .left ≤ 201 = rw (g .below .ensures) (omega (arith, deepest)) in
+    let deepest = b .pre .1 .2 in
+    let depth : g .below .result .depth + b .args .left ≤ DEEPEST + 1 = rw (g .below .ensures) (omega (arith, deepest)) in
     search needs
 
 function-returns : (t : ℕ) → find-function-lts.Need-returns (function-calls t) (find-function-at t) find-function.Post
@@ -173,8 +174,8 @@ functions-function-requires t c κs =
     let g = c .before in
     let i = g .before .before .before in
     let b = i .before .before .before .before in
-    let limit = b .pre .1 .0 in
-    let deepest = b .pre .1 .2 in
+    let limit = b .pre .1 .0 .0 in
+    let deepest = b .pre .1 .1 in
     let within = g .if2 .left in
     let more = level (b .args .left) (i .if1 .left) in
     search needs

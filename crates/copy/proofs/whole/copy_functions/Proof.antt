@@ -14,7 +14,7 @@ use Rattle.copy.proofs.whole.copy_functions.Tie as tie
 copy-function-requires : tie.Need-copy-function-requires
 copy-function-requires c κs =
     let b = c .before .before .before .before in
-    (b .pre .1, b .pre .2, omega arith)
+    (b .pre .1, omega arith)
 
 returns : tie.Need-returns
 returns c =

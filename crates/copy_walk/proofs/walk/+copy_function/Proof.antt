@@ -112,11 +112,11 @@ total : (t : ℕ) → copy-function-lts.Need-add-t25 (calls t) (at t) copy-funct
 total t c =
     let f = c .before .before .before .before in
     let e = in-total (a t f .s .now) (a t f .limits) (a t f .from .instructions) (a t f .from .next .at) (head t f) (behind t f) (begun t f) in
-    let limit = c .before .before .before .before .before .before .before .before .before .before .before .before .pre .1 .1 in
+    let limit = c .before .before .before .before .before .before .before .before .before .before .before .before .pre .1 .0 .1 in
     omega (arith, e, limit)
 
 number : (t : ℕ) → copy-function-lts.Need-add-t24 (calls t) (at t) copy-function.Post Inv μ-loop
-number t c = let few = c .before .before .before .before .before .before .before .before .before .before .pre .1 .2 in omega (arith, few)
+number t c = let few = c .before .before .before .before .before .before .before .before .before .before .pre .1 .1 in omega (arith, few)
 
 loop-holds : (t : ℕ) → copy-function-lts.Need-loop-holds (calls t) (at t) copy-function.Post Inv μ-loop
 loop-holds t c =
@@ -141,9 +141,9 @@ copy-function-requires : (t : ℕ) → copy-function-lts.Need-copy-function-requ
 copy-function-requires t c κs =
     let b = c .before .before .before .before .before .before .before .before .before .before .before .before .before .before .before .before .before .before .before .before in
     let within = c .before .before .if2 .left in
-    let limit = b .pre .1 .0 in
+    let limit = b .pre .1 .0 .0 in
     let more = level (b .args .left) (c .before .before .before .before .before .if1 .left) in
-    (omega (arith, b .pre .0), (limit, b .pre .1 .1, omega (arith, within, limit)))
+    (omega (arith, b .pre .0), (b .pre .1 .0, omega (arith, within, limit)))
 
 returns-3 : (t : ℕ) → copy-function-lts.Need-returns-3 (calls t) (at t) copy-function.Post Inv μ-loop
 returns-3 t c =

@@ -83,7 +83,7 @@ functions-calls t = (skim-function-below t, skim-function.Post)
 
 function-number : (t : ℕ) → skim-function-lts.Need-add-t17 (function-calls t) (skim-function-at t) skim-function.Post
 function-number t c =
-    let few = c .before .before .before .before .before .before .pre .1 .2 in
+    let few = c .before .before .before .before .before .before .pre .1 .1 in
     omega (arith, few)
 
 function-total : (t : ℕ) → skim-function-lts.Need-add-t18 (function-calls t) (skim-function-at t) skim-function.Post
@@ -91,7 +91,7 @@ function-total t c =
     let b = c .before .before .before .before .before .before .before .before in
     let h = c .before .before .before .before .begins2 .given in
     let e = counts-total (b .args .s .now) (b .args .limits) (b .args .from .instructions) (b .args .from .next .at) (h .0 .0) (h .0 .1 .0) (sym (h .1) ∙ c .before .before .before .before .before .before .pass-head .ensures) in
-    let limit = b .pre .1 .1 in
+    let limit = b .pre .1 .0 .1 in
     omega (arith, e, limit)
 
 function-returns : (t : ℕ) → skim-function-lts.Need-returns (function-calls t) (skim-function-at t) skim-function.Post
