@@ -24,9 +24,9 @@ ROOT = os.path.join(os.path.dirname(os.path.abspath(__file__)), '..')
 # demand -> its promises: the public theorems of crates/CRATE/proofs/FILE.antt, or those that are named behind a colon
 PROMISES = {
     'demand 1': ['demands/Demand1', 'demands/Order', 'demands/AtOneByte', 'demands/CutShort', 'demands/Continued', 'demands/ByLimits', 'demands/Exactly', 'demands/Accepted',
-                 'demands/ByC', 'demands/RefusedAt', 'demands/PartsInOrder', 'demands/Printed', 'format/RefusalNumbers', 'boundary/Numbers'],
+                 'demands/ByC', 'demands/RefusedAt', 'demands/PartsInOrder', 'demands/Printed', 'format/RefusalNumbers', 'c_boundary/Numbers'],
     'demand 2': ['demands/Demand2', 'demands/Demand2C', 'demands/Promise', 'format_lua/LundumpBack:as-loaded read-is-loaded', 'format_lua/LdumpWhole:copy-as-dumped copy-as-stripped',
-                 'instructions/Macros', 'instructions/Created', 'opcodes/Opcodes', 'lines/Ldebug:same-line'],
+                 'word_fields/Macros', 'word_fields/Created', 'word_opcodes/Opcodes', 'line_lookup/Ldebug:same-line'],
     'demand 3': ['demands/Demand3', 'demands/ShownAt:shown-at', 'demands/Same:header-fixed same-exactly', 'demands/Complete'],
 }
 # the table of docs/PROOF.md: what a group of files says, and the files; what is reached and named nowhere here comes last
@@ -34,17 +34,17 @@ GROUPS = [
     ('the grammar of a chunk under limits, and the reading; no reader in it', 'format/specs: Form GrammarFields GrammarHeader Reading GrammarChunk Limits'),
     ("the Rust's reader as a function, with every refusal and place", 'format/specs: Read ReadFields ReadHeader ReadChunk Refusals Warnings'),
     ('the archive copy', 'format/specs: Shortest Copy'),
-    ('what each call on a chunk answers, and leaves in lent memory', 'access/specs: Asked; show_chunk/specs: Summaries Fields; show_entry/specs: Entries; show_local/specs: Locals; index/specs: Index; copy/specs: Copied; lent/specs: Over'),
-    ("how the code's values show places, strings, constants, warnings", 'cursor/specs: Shown; reader/specs: Shown; header/specs: Shown; lists/specs: Shown; entries/specs: Shown; decode/specs: Decoded'),
-    ('the line of an instruction', 'lines/specs: Lines'),
-    ('the findings of an instruction and of a chunk, the stop, the verdict; the same as loops, as the Rust has them', 'rules/specs: Rules Findings Rust; format/specs: Any; validator/specs: Answers; finding_plan/specs: Validated; finding_array/specs: Blank'),
-    ('instruction words; lopcodes.h', 'opcodes/specs: Table Lopcodes; instructions/specs: Word; instructions/proofs: Ranges Words Macros Created'),
-    ('for who links from C: limits, refusals and answers as numbers; parts at a place, with the readers of a function in two parts', 'boundary/specs: Status; boundary/proofs: Numbers; numbers/specs: Numbers Words; finding_list/specs: FindingNumbers; parts_at/specs: PartNumbers; prototype/specs: Front Parts PartsShown; lists/specs: Readers'),
-    ('what `chunklist` prints', 'listing/specs: Listing; listing_text/specs: Lines; format/specs: Ascii; print/specs: Output'),
-    ("Lua's own loader, dumper and line lookup, close to the C", 'format_lua/specs: Lundump LundumpFunctions Ldump LdumpFunctions; lines/specs: Ldebug; format_lua/proofs: LundumpParts LundumpChunk LundumpBack LdumpChunk LdumpWhole; format/proofs: Every'),
+    ('what each call on a chunk answers, and leaves in lent memory', 'show_row/specs: Asked; show_chunk/specs: Summaries Fields; show_entry/specs: Entries; show_local/specs: Locals; index/specs: Index; copy/specs: Copied; slice/specs: Over'),
+    ("how the code's values show places, strings, constants, warnings", 'slice/specs: Shown; read_field/specs: Shown; read_header/specs: Shown; read_entry/specs: Shown; read_nth/specs: Shown; read_chunk/specs: Decoded'),
+    ('the line of an instruction', 'line_lookup/specs: Lines'),
+    ('the findings of an instruction and of a chunk, the stop, the verdict; the same as loops, as the Rust has them', 'validate_rules/specs: Rules Findings Rust; format/specs: Any; validate_verdict/specs: Answers; validate_plan/specs: Validated; validate_findings/specs: Blank'),
+    ('instruction words; lopcodes.h', 'word_opcodes/specs: Table Lopcodes; word_fields/specs: Word; word_fields/proofs: Ranges Words Macros Created'),
+    ('for who links from C: limits, refusals and answers as numbers; parts at a place, with the readers of a function in two parts', 'c_boundary/specs: Status; c_boundary/proofs: Numbers; c_numbers/specs: Numbers Words; c_findings/specs: FindingNumbers; c_parts/specs: PartNumbers; read_prototype/specs: Front Parts PartsShown; read_entry/specs: Readers'),
+    ('what `chunklist` prints', 'chunklist_listing/specs: Listing; chunklist_lines/specs: Lines; format/specs: Ascii; text_print/specs: Output'),
+    ("Lua's own loader, dumper and line lookup, close to the C", 'format_lua/specs: Lundump LundumpFunctions Ldump LdumpFunctions; line_lookup/specs: Ldebug; format_lua/proofs: LundumpParts LundumpChunk LundumpBack LdumpChunk LdumpWhole; format/proofs: Every'),
     ("words of demand 1's statements: a call's conditions in order; what a refusal is about", 'demands/proofs: Refused Causes InOrder Early Order AtOneByte CutShort Continued ByLimits Exactly Accepted ByC RefusedAt PartsInOrder Printed Demand1; format/proofs: RefusalNumbers'),
     ("words of demand 2's statements: a whole contract", 'demands/proofs: Promise Demand2 Demand2C'),
-    ("words of demand 3's statements: what is shown, what is set aside", 'demands/proofs: Demand3 Calls Written Same Alike Together Complete ShownAt SpeltHere EntriesAt Nested; format/proofs: Located OrderCases; entries/proofs: Strings'),
+    ("words of demand 3's statements: what is shown, what is set aside", 'demands/proofs: Demand3 Calls Written Same Alike Together Complete ShownAt SpeltHere EntriesAt Nested; format/proofs: Located OrderCases; read_nth/proofs: Strings'),
 ]
 WORD = re.compile(r'[^\s(){};,\[\]]+')
 HEAD = re.compile(r'^( *)(abbrev |unfoldable )?(pub )?(record |data )?(\S+)')

@@ -180,7 +180,7 @@ mod tests {
 
     #[test]
     fn names_are_the_librarys() {
-        let list = include_str!("../../../crates/opcodes/src/opcode.rt");
+        let list = include_str!("../../../crates/word_opcodes/src/opcode.rt");
         let (_, list) = list.split_once("pub enum Opcode54 {").unwrap();
         let (list, _) = list.split_once('}').unwrap();
         let names = list

@@ -19,15 +19,15 @@ use Rattle.format.specs.Copy.{fieldBytes, headerBytes, functionsBytes, upvalues
 use Rattle.format.proofs.Exact.{never}
 use Rattle.format.proofs.ExactChunk.{exact-function}
 use Rattle.format.proofs.Left.{left}
-use Rattle.cursor.specs.Shown.{cursorAt}
-use Rattle.skim.specs.declared.walk.Skimmed.{Skimmed}
-use Rattle.skim.specs.declared.walk.SkimResult.the-variants as skim
-use Rattle.skim.specs.Inner.Skim.{skimResult}
-use Rattle.skim.proofs.OneFunction.{skim-err}
-use Rattle.lent.specs.Inner.Splice.{splice}
-use Rattle.lent.proofs.Splices.{splice-length, splice-before}
-use Rattle.encode.specs.Inner.Put.{Put}
-use Rattle.encode.proofs.Writes.{put-then}
+use Rattle.slice.specs.Shown.{cursorAt}
+use Rattle.read_walk.specs.declared.walk.Skimmed.{Skimmed}
+use Rattle.read_walk.specs.declared.walk.SkimResult.the-variants as skim
+use Rattle.read_walk.specs.Inner.Skim.{skimResult}
+use Rattle.read_walk.proofs.OneFunction.{skim-err}
+use Rattle.slice.specs.Inner.Splice.{splice}
+use Rattle.slice.proofs.Splices.{splice-length, splice-before}
+use Rattle.copy_put.specs.Inner.Put.{Put}
+use Rattle.copy_put.proofs.Writes.{put-then}
 use Rattle.copy.specs.declared.whole.CopyAnswer.the-variants as answer
 use Rattle.copy_parts.specs.Inner.Parts.{functionBytes}
 use Rattle.copy.specs.Inner.Answers.{chunkBytes, Answers}

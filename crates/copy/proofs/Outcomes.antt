@@ -16,12 +16,12 @@ use Rattle.format.specs.GrammarChunk.{reading}
 use Rattle.format.specs.Read.{Read, ok, refused}
 use Rattle.format.specs.ReadChunk.{Outcome, shown, refusal, read}
 use Rattle.format.specs.Copy.{copy}
-use Rattle.decode.specs.declared.Opening.{Opening}
-use Rattle.decode.specs.declared.OpeningResult.the-variants as begins
-use Rattle.decode.specs.Inner.Opening.{opened, openingResult}
-use Rattle.decode.proofs.BeforeMain.{known, functions, functions-refused, shows}
-use Rattle.lent.specs.Inner.Splice.{splice}
-use Rattle.lent.proofs.Splices.{splice-front}
+use Rattle.read_chunk.specs.declared.Opening.{Opening}
+use Rattle.read_chunk.specs.declared.OpeningResult.the-variants as begins
+use Rattle.read_chunk.specs.Inner.Opening.{opened, openingResult}
+use Rattle.read_chunk.proofs.BeforeMain.{known, functions, functions-refused, shows}
+use Rattle.slice.specs.Inner.Splice.{splice}
+use Rattle.slice.proofs.Splices.{splice-front}
 use Rattle.copy.specs.declared.whole.CopyAnswer.{CopyAnswer}
 use Rattle.copy.specs.declared.whole.CopyAnswer.the-variants as answer
 use Rattle.copy.specs.Copied.{shownLength, shownCopy, copyWritten}

@@ -10,7 +10,7 @@ use Rattle.format.specs.declared.refusal.Refusal.the-variants.{LentSpace}
 use Rattle.format.specs.Form.{Bytes}
 use Rattle.format.specs.ReadChunk.{Outcome, shown, refusal}
 use Rattle.format.specs.Copy.{copy}
-use Rattle.lent.specs.Over.{over}
+use Rattle.slice.specs.Over.{over}
 use Rattle.copy.specs.declared.whole.CopyAnswer.{CopyAnswer}
 use Rattle.copy.specs.declared.whole.CopyAnswer.the-variants as answer
 

@@ -7,21 +7,21 @@ ghost use Rattle.format.specs.Form.{Below};
 ghost use Rattle.format.specs.GrammarChunk.{outermost};
 ghost use Rattle.format.specs.ReadChunk as format;
 ghost use Rattle.format.specs.Copy.{fieldBytes, headerBytes};
-ghost use Rattle.encode.specs.Inner.Put.{Put};
+ghost use Rattle.copy_put.specs.Inner.Put.{Put};
 ghost use Rattle.copy.specs.Inner.Answers.{chunkBytes, Answers, Copies};
+use copy_put::raw::plus;
+use copy_put::raw::put_byte;
+use copy_put::raw::put_bytes;
 use copy_walk::walk::copy_function;
 use copy_walk::walk::within;
-use cursor::Cursor;
-use cursor::remaining;
-use decode::OpeningResult;
-use decode::open_chunk;
-use encode::raw::plus;
-use encode::raw::put_byte;
-use encode::raw::put_bytes;
 use format::limits::ResourceLimits;
 use format::refusal::Refusal;
-use skim::walk::SkimResult;
-use skim::walk::Skimmed;
+use read_chunk::OpeningResult;
+use read_chunk::open_chunk;
+use read_walk::walk::SkimResult;
+use read_walk::walk::Skimmed;
+use slice::cursor::Cursor;
+use slice::cursor::remaining;
 
 // The length of the copy, or why there is none.
 pub enum CopyAnswer {

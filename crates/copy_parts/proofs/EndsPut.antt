@@ -7,18 +7,18 @@ use Rattle.format.specs.declared.refusal.Refusal.{Refusal}
 use Rattle.format.specs.Form.{Bytes}
 use Rattle.format.specs.Read.{Read, ok}
 use Rattle.format.proofs.Exact.{never}
-use Rattle.cursor.specs.declared.Cursor.{Cursor}
-use Rattle.cursor.specs.declared.CursorResult.the-variants as cursor
-use Rattle.cursor.specs.Inner.Results.{cursorResult}
-use Rattle.reader.proofs.Shows.{cursor-err, cursor-ok}
-use Rattle.prototype.specs.declared.parts.Tail as declared-tail
-use Rattle.prototype.specs.declared.parts.TailResult.the-variants as tail-answer
-use Rattle.skim.specs.declared.walk.Skimmed.{Skimmed}
-use Rattle.skim.specs.declared.walk.SkimResult.the-variants as skim
-use Rattle.prototype.specs.Parts.{Tail, tail}
-use Rattle.prototype.specs.PartsShown.{tailOf, tailResult}
-use Rattle.skim.proofs.HeadTail.{tail-err, tail-read}
-use Rattle.encode.specs.Inner.Put.{Put}
+use Rattle.slice.specs.declared.cursor.Cursor.{Cursor}
+use Rattle.slice.specs.declared.cursor.CursorResult.the-variants as cursor
+use Rattle.slice.specs.Inner.Results.{cursorResult}
+use Rattle.read_field.proofs.Shows.{cursor-err, cursor-ok}
+use Rattle.read_prototype.specs.declared.parts.Tail as declared-tail
+use Rattle.read_prototype.specs.declared.parts.TailResult.the-variants as tail-answer
+use Rattle.read_walk.specs.declared.walk.Skimmed.{Skimmed}
+use Rattle.read_walk.specs.declared.walk.SkimResult.the-variants as skim
+use Rattle.read_prototype.specs.Parts.{Tail, tail}
+use Rattle.read_prototype.specs.PartsShown.{tailOf, tailResult}
+use Rattle.read_walk.proofs.HeadTail.{tail-err, tail-read}
+use Rattle.copy_put.specs.Inner.Put.{Put}
 use Rattle.copy_parts.specs.Inner.Parts.{tailBytes}
 use Rattle.copy_parts.specs.Inner.Ends.{PutsTail, endShown}
 

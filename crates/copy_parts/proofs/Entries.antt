@@ -27,12 +27,12 @@ use Rattle.format.proofs.ExactFields.{exact-field, exact-number, exact-string}
 use Rattle.format.proofs.FieldBytes.{field-back}
 use Rattle.format.proofs.Below.{below-split}
 use Rattle.format.proofs.Located.{AtPlace, any, at-give, at-here, at-then, at-string, Stands, StandsIf}
-use Rattle.reader.specs.Shown.{optionString}
-use Rattle.reader.proofs.Shows.{Was}
-use Rattle.lists.specs.Readers.{RawLocal, rawLocal}
-use Rattle.lists.specs.Inner.Counts.{named}
-use Rattle.encode.specs.Inner.Put.{Put, Puts}
-use Rattle.encode.specs.Inner.Text.{There, spelt, speltName}
+use Rattle.read_field.specs.Shown.{optionString}
+use Rattle.read_field.proofs.Shows.{Was}
+use Rattle.read_entry.specs.Readers.{RawLocal, rawLocal}
+use Rattle.read_entry.specs.Inner.Counts.{named}
+use Rattle.copy_put.specs.Inner.Put.{Put, Puts}
+use Rattle.copy_put.specs.Inner.Text.{There, spelt, speltName}
 
 module _ {A : Type 0} {bytes : A → Bytes} {o : Read A} {at : ℕ} {l : Bytes} {behind : ℕ} {l′ : Bytes} where
   pub puts-of : {x : A} {to : ℕ} → Was o x to → Put (bytes x) at l behind l′ → Puts bytes o at l to behind l′

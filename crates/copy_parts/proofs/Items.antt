@@ -16,25 +16,25 @@ use Rattle.format.specs.ReadChunk.{constant, anchor, local}
 use Rattle.format.specs.Shortest.{shortest}
 use Rattle.format.specs.Copy.{stringBytes, optionBytes, anchorBytes, localBytes, constantBytes}
 use Rattle.format.proofs.Located.{StandsIf, at-string}
-use Rattle.cursor.specs.declared.Cursor.{Cursor}
-use Rattle.reader.specs.declared.string.OptionString.{OptionString}
-use Rattle.reader.specs.declared.string.StringResult.the-variants as string-answer
-use Rattle.cursor.specs.Shown.{cursorAt}
-use Rattle.reader.specs.Shown.{optionString, stringResult}
-use Rattle.reader.proofs.Shows.{Was, string-err, string-ok}
-use Rattle.lists.specs.declared.constant.ConstantValue as declared
-use Rattle.lists.specs.declared.constant.ConstantResult.the-variants as constant-answer
-use Rattle.lists.specs.declared.debug.AnchorResult.the-variants as anchor-answer
-use Rattle.lists.specs.declared.debug.LocalResult.the-variants as local-answer
-use Rattle.lists.specs.Readers.{RawLocal, rawLocal}
-use Rattle.lists.specs.Inner.Counts.{named}
-use Rattle.lists.specs.Shown.{constantValue, constantResult, anchorResult, localResult}
-use Rattle.lists.proofs.Constants.{constant-err, constant-ok}
-use Rattle.lists.proofs.DebugInfo.{local-named, local-refused, anchor-err, anchor-ok}
-use Rattle.encode.specs.Inner.Put.{Put, Puts}
-use Rattle.encode.specs.Inner.Text.{There, spelt, speltName}
+use Rattle.slice.specs.declared.cursor.Cursor.{Cursor}
+use Rattle.read_field.specs.declared.string.OptionString.{OptionString}
+use Rattle.read_field.specs.declared.string.StringResult.the-variants as string-answer
+use Rattle.slice.specs.Shown.{cursorAt}
+use Rattle.read_field.specs.Shown.{optionString, stringResult}
+use Rattle.read_field.proofs.Shows.{Was, string-err, string-ok}
+use Rattle.read_entry.specs.declared.constant.ConstantValue as declared
+use Rattle.read_entry.specs.declared.constant.ConstantResult.the-variants as constant-answer
+use Rattle.read_entry.specs.declared.debug.AnchorResult.the-variants as anchor-answer
+use Rattle.read_entry.specs.declared.debug.LocalResult.the-variants as local-answer
+use Rattle.read_entry.specs.Readers.{RawLocal, rawLocal}
+use Rattle.read_entry.specs.Inner.Counts.{named}
+use Rattle.read_entry.specs.Shown.{constantValue, constantResult, anchorResult, localResult}
+use Rattle.read_entry.proofs.Constants.{constant-err, constant-ok}
+use Rattle.read_entry.proofs.DebugInfo.{local-named, local-refused, anchor-err, anchor-ok}
+use Rattle.copy_put.specs.Inner.Put.{Put, Puts}
+use Rattle.copy_put.specs.Inner.Text.{There, spelt, speltName}
 use Rattle.copy_parts.specs.Inner.Value.{Stood, valueBytes}
-use Rattle.encode.proofs.Writes.{put-then}
+use Rattle.copy_put.proofs.Writes.{put-then}
 use Rattle.copy_parts.proofs.Entries.{puts-of, puts-not, there-is, spelt-is, name-is, at-rawLocal}
 use Rattle.copy_parts.proofs.Values.{Kept, at-constant}
 

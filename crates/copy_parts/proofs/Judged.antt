@@ -20,35 +20,35 @@ use Rattle.format.specs.ReadChunk.{constant, anchor, local}
 use Rattle.format.specs.Shortest.{shortest}
 use Rattle.format.specs.Copy.{constantBytes}
 use Rattle.format.proofs.Exact.{never}
-use Rattle.cursor.specs.declared.Cursor.{Cursor}
-use Rattle.cursor.specs.declared.CursorResult.{CursorResult}
-use Rattle.cursor.specs.declared.CursorResult.the-variants as cursor
-use Rattle.cursor.specs.Shown.{cursorAt}
-use Rattle.cursor.specs.Inner.Results.{cursorResult}
-use Rattle.reader.specs.declared.string.OptionString.{OptionString}
-use Rattle.reader.specs.declared.string.StringResult.the-variants as string-answer
-use Rattle.reader.specs.Shown.{stringResult}
-use Rattle.reader.proofs.Shows.{Was, cursor-err, string-err, string-ok}
-use Rattle.lists.specs.declared.constant.ConstantValue as declared
-use Rattle.lists.specs.declared.constant.ConstantResult.the-variants as constant-answer
-use Rattle.lists.specs.declared.debug.AnchorResult.the-variants as anchor-answer
-use Rattle.lists.specs.declared.debug.LocalResult.the-variants as local-answer
-use Rattle.lists.specs.Readers.{rawLocal}
-use Rattle.lists.specs.Shown.{constantResult, anchorResult, localResult}
-use Rattle.lists.proofs.Constants.{constant-err, constant-ok}
-use Rattle.lists.proofs.DebugInfo.{local-refused, local-passed, anchor-err, anchor-ok}
-use Rattle.counted.specs.declared.ListResult.{ListResult}
-use Rattle.counted.specs.declared.ListResult.the-variants as list
-use Rattle.counted.specs.Inner.Shown.{listedOf}
-use Rattle.prototype.specs.declared.parts.HeadLists as declared-lists
-use Rattle.prototype.specs.declared.parts.HeadListsResult.the-variants as lists-answer
-use Rattle.prototype.specs.declared.parts.Head as declared-head
-use Rattle.prototype.specs.declared.parts.HeadResult.the-variants as head-answer
-use Rattle.prototype.specs.Parts.{HeadLists, headLists, Head, head}
-use Rattle.prototype.specs.PartsShown.{listsOf, headOf, headResult}
-use Rattle.skim.proofs.HeadTail.{head-err}
-use Rattle.encode.specs.Inner.Put.{Put, Puts, PutsAll}
-use Rattle.encode.specs.Inner.Text.{There, spelt}
+use Rattle.slice.specs.declared.cursor.Cursor.{Cursor}
+use Rattle.slice.specs.declared.cursor.CursorResult.{CursorResult}
+use Rattle.slice.specs.declared.cursor.CursorResult.the-variants as cursor
+use Rattle.slice.specs.Shown.{cursorAt}
+use Rattle.slice.specs.Inner.Results.{cursorResult}
+use Rattle.read_field.specs.declared.string.OptionString.{OptionString}
+use Rattle.read_field.specs.declared.string.StringResult.the-variants as string-answer
+use Rattle.read_field.specs.Shown.{stringResult}
+use Rattle.read_field.proofs.Shows.{Was, cursor-err, string-err, string-ok}
+use Rattle.read_entry.specs.declared.constant.ConstantValue as declared
+use Rattle.read_entry.specs.declared.constant.ConstantResult.the-variants as constant-answer
+use Rattle.read_entry.specs.declared.debug.AnchorResult.the-variants as anchor-answer
+use Rattle.read_entry.specs.declared.debug.LocalResult.the-variants as local-answer
+use Rattle.read_entry.specs.Readers.{rawLocal}
+use Rattle.read_entry.specs.Shown.{constantResult, anchorResult, localResult}
+use Rattle.read_entry.proofs.Constants.{constant-err, constant-ok}
+use Rattle.read_entry.proofs.DebugInfo.{local-refused, local-passed, anchor-err, anchor-ok}
+use Rattle.read_list.specs.declared.ListResult.{ListResult}
+use Rattle.read_list.specs.declared.ListResult.the-variants as list
+use Rattle.read_list.specs.Inner.Shown.{listedOf}
+use Rattle.read_prototype.specs.declared.parts.HeadLists as declared-lists
+use Rattle.read_prototype.specs.declared.parts.HeadListsResult.the-variants as lists-answer
+use Rattle.read_prototype.specs.declared.parts.Head as declared-head
+use Rattle.read_prototype.specs.declared.parts.HeadResult.the-variants as head-answer
+use Rattle.read_prototype.specs.Parts.{HeadLists, headLists, Head, head}
+use Rattle.read_prototype.specs.PartsShown.{listsOf, headOf, headResult}
+use Rattle.read_walk.proofs.HeadTail.{head-err}
+use Rattle.copy_put.specs.Inner.Put.{Put, Puts, PutsAll}
+use Rattle.copy_put.specs.Inner.Text.{There, spelt}
 use Rattle.copy_parts.specs.Inner.Parts.{linesBytes, listsBytes}
 use Rattle.copy_parts.specs.Inner.Passed.{nextOf, PutsListed, PutsLists, PutsHead}
 use Rattle.copy_parts.proofs.PutParts.{lists-put, head-put}

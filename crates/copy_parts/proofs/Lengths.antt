@@ -27,7 +27,7 @@ use Rattle.format.proofs.ExactFields.{exact-field, exact-number, exact-string}
 use Rattle.format.proofs.ExactChunk.{exact-always}
 use Rattle.format.proofs.ShortestLaws.{shortest-least, length-zero}
 use Rattle.format.proofs.Located.{Found, AtPlace, at-give, at-here, at-then, at-refuse}
-use Rattle.counted.proofs.Listing.{many-sized}
+use Rattle.read_list.proofs.Listing.{many-sized}
 use Rattle.copy_parts.proofs.Entries.{Raw, at-run, raw-field}
 use Rattle.copy_parts.proofs.Values.{at-pick}
 

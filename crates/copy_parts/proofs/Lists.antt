@@ -13,9 +13,9 @@ use Rattle.format.specs.Shortest.{shortest}
 use Rattle.format.specs.Copy.{listBytes}
 use Rattle.format.proofs.Exact.{Exact, never}
 use Rattle.format.proofs.Left.{left}
-use Rattle.counted.proofs.Listing.{many-sized}
-use Rattle.encode.specs.Inner.Put.{Put, Puts, PutsAll}
-use Rattle.encode.proofs.Writes.{put-nothing, put-then}
+use Rattle.read_list.proofs.Listing.{many-sized}
+use Rattle.copy_put.specs.Inner.Put.{Put, Puts, PutsAll}
+use Rattle.copy_put.proofs.Writes.{put-nothing, put-then}
 
 -- entries without their count
 pub record Gives {A : Type 0} (bytes : A → Bytes) (o : Read (List A)) (at : ℕ) (l : Bytes) (behind : ℕ) (l′ : Bytes) : Type 0 where

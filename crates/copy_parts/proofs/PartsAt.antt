@@ -23,14 +23,14 @@ use Rattle.format.proofs.ExactFields.{exact-field, exact-number, exact-string}
 use Rattle.format.proofs.ExactChunk.{exact-counted, exact-countedUpTo, exact-constant, exact-upvalue, exact-anchor, exact-local}
 use Rattle.format.proofs.ShortestLaws.{length-zero}
 use Rattle.format.proofs.Located.{Found, AtPlace, at-give, at-here, at-then, at-string, StandsIf}
-use Rattle.lists.specs.Readers.{Count, protosCount, code, lineInfo}
-use Rattle.counted.proofs.Within.{exact-code, exact-lineInfo, exact-protosCount}
-use Rattle.prototype.specs.declared.front.Sizes.{Sizes}
-use Rattle.prototype.specs.Front.{Front, front, lines, sizes}
-use Rattle.prototype.specs.Parts.{HeadLists, headLists, Head, head, Tail, tail}
-use Rattle.prototype.proofs.FrontAnswers.{exact-front}
-use Rattle.prototype.proofs.HeadAnswers.{exact-lists}
-use Rattle.encode.proofs.Stores.{size-pos}
+use Rattle.read_entry.specs.Readers.{Count, protosCount, code, lineInfo}
+use Rattle.read_list.proofs.Within.{exact-code, exact-lineInfo, exact-protosCount}
+use Rattle.read_prototype.specs.declared.front.Sizes.{Sizes}
+use Rattle.read_prototype.specs.Front.{Front, front, lines, sizes}
+use Rattle.read_prototype.specs.Parts.{HeadLists, headLists, Head, head, Tail, tail}
+use Rattle.read_prototype.proofs.FrontAnswers.{exact-front}
+use Rattle.read_prototype.proofs.HeadAnswers.{exact-lists}
+use Rattle.copy_put.proofs.Stores.{size-pos}
 use Rattle.copy_parts.proofs.Entries.{Raw, at-run, raw-field, raw-upvalue, below-part}
 use Rattle.copy_parts.specs.Inner.Parts.{sourceBytes, linesBytes, sizesBytes, listsBytes, headBytes, tailBytes}
 use Rattle.copy_parts.proofs.Lengths.{Short, short-then, short-number, raw-short, stays, short-string, short-anchor, short-local, short-constant, Listing, listed, counted-at, upTo-at}

@@ -20,18 +20,18 @@ use Rattle.format.proofs.Exact.{Exact}
 use Rattle.format.proofs.ExactFields.{exact-field}
 use Rattle.format.proofs.ExactChunk.{exact-upvalue}
 use Rattle.format.proofs.Located.{Found, AtPlace, StandsIf}
-use Rattle.prototype.specs.declared.parts.HeadLists as declared-lists
-use Rattle.prototype.specs.declared.parts.Head as declared-head
-use Rattle.prototype.specs.declared.parts.Tail as declared-tail
-use Rattle.prototype.specs.declared.front.Lines.{Lines}
-use Rattle.prototype.specs.declared.front.Sizes.{Sizes}
-use Rattle.prototype.specs.Parts.{HeadLists, headLists, Head, head, Tail, tail}
-use Rattle.prototype.specs.PartsShown.{listsOf, headOf, tailOf}
-use Rattle.reader.specs.declared.string.OptionString.{OptionString}
-use Rattle.reader.specs.Shown.{optionString}
-use Rattle.encode.specs.Inner.Put.{Put, PutsAll}
-use Rattle.encode.specs.Inner.Text.{There, spelt}
-use Rattle.encode.proofs.Writes.{put-then}
+use Rattle.read_prototype.specs.declared.parts.HeadLists as declared-lists
+use Rattle.read_prototype.specs.declared.parts.Head as declared-head
+use Rattle.read_prototype.specs.declared.parts.Tail as declared-tail
+use Rattle.read_prototype.specs.declared.front.Lines.{Lines}
+use Rattle.read_prototype.specs.declared.front.Sizes.{Sizes}
+use Rattle.read_prototype.specs.Parts.{HeadLists, headLists, Head, head, Tail, tail}
+use Rattle.read_prototype.specs.PartsShown.{listsOf, headOf, tailOf}
+use Rattle.read_field.specs.declared.string.OptionString.{OptionString}
+use Rattle.read_field.specs.Shown.{optionString}
+use Rattle.copy_put.specs.Inner.Put.{Put, PutsAll}
+use Rattle.copy_put.specs.Inner.Text.{There, spelt}
+use Rattle.copy_put.proofs.Writes.{put-then}
 use Rattle.copy_parts.proofs.Items.{string-put}
 use Rattle.copy_parts.proofs.Entries.{Raw, at-run, raw-field, raw-upvalue, raw-many, there-is, spelt-is}
 use Rattle.copy_parts.specs.Inner.Parts.{sourceBytes, linesBytes, sizesBytes, listsBytes, headBytes, tailBytes}

@@ -19,7 +19,7 @@ use Rattle.format.specs.Copy.{fieldBytes, constantBytes}
 use Rattle.format.proofs.ExactFields.{exact-field, exact-string}
 use Rattle.format.proofs.ExactChunk.{exact-always}
 use Rattle.format.proofs.Located.{AtPlace, at-give, at-here, at-then, at-refuse, at-string, Stands, StandsIf}
-use Rattle.lists.specs.Shown.{constantValue}
+use Rattle.read_entry.specs.Shown.{constantValue}
 use Rattle.copy_parts.specs.Inner.Value.{Stood, valueBytes}
 use Rattle.copy_parts.proofs.Entries.{Raw, raw-field, joined}
 

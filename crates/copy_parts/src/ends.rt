@@ -1,23 +1,23 @@
 // The end of a function, behind the functions that nest in it: read, and put into the copy.
 ghost use mathlib.Core.Path.{_≡_};
 ghost use lib.ListN.{drop};
-ghost use Rattle.cursor.specs.Inner.Results.{cursorResult};
-ghost use Rattle.skim.specs.declared.walk.SkimResult.the-variants as walk;
-ghost use Rattle.prototype.specs.Parts as parts;
+ghost use Rattle.slice.specs.Inner.Results.{cursorResult};
+ghost use Rattle.read_walk.specs.declared.walk.SkimResult.the-variants as walk;
+ghost use Rattle.read_prototype.specs.Parts as parts;
 ghost use Rattle.copy_parts.specs.Inner.Ends.{PutsTail, endShown};
 use crate::entry::Passed;
 use crate::listed::anchors_copied;
 use crate::listed::locals_copied;
 use crate::listed::names_copied;
-use counted::ListResult;
-use counted::line_info_list;
-use cursor::Cursor;
-use cursor::CursorResult;
-use encode::raw::put_run;
+use copy_put::raw::put_run;
 use format::limits::ResourceLimits;
 use format::refusal::Refusal;
-use skim::walk::SkimResult;
-use skim::walk::Skimmed;
+use read_list::ListResult;
+use read_list::line_info_list;
+use read_walk::walk::SkimResult;
+use read_walk::walk::Skimmed;
+use slice::cursor::Cursor;
+use slice::cursor::CursorResult;
 
 // What a walk over functions found, how many upvalues the first of them has, and the length of their copy.
 pub struct Copied {

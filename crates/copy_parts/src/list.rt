@@ -6,16 +6,16 @@ ghost use Rattle.format.specs.Read.{many};
 ghost use Rattle.format.specs.ReadFields.{string};
 ghost use Rattle.format.specs.ReadChunk.{constant, anchor, local};
 ghost use Rattle.format.specs.Copy.{constantBytes, anchorBytes, localBytes, optionBytes};
-ghost use Rattle.encode.specs.Inner.Put.{PutsAll};
-ghost use Rattle.cursor.specs.Inner.Results.{cursorResult};
+ghost use Rattle.copy_put.specs.Inner.Put.{PutsAll};
+ghost use Rattle.slice.specs.Inner.Results.{cursorResult};
 use crate::entry::Passed;
 use crate::entry::copy_anchor;
 use crate::entry::copy_constant;
 use crate::entry::copy_local;
 use crate::entry::copy_name;
-use cursor::Cursor;
-use cursor::CursorResult;
-use encode::number::put_varint;
+use copy_put::number::put_varint;
+use slice::cursor::Cursor;
+use slice::cursor::CursorResult;
 
 // The constants. Ruled out: the last one left out, the list without its count.
 pub fn copy_constants(

@@ -6,19 +6,19 @@ ghost use Rattle.format.specs.Form.{Below};
 ghost use Rattle.format.specs.ReadFields.{string};
 ghost use Rattle.format.specs.ReadChunk as spec;
 ghost use Rattle.format.specs.Copy.{constantBytes, anchorBytes, localBytes, optionBytes};
-ghost use Rattle.counted.specs.Inner.Shown.{listResult};
+ghost use Rattle.read_list.specs.Inner.Shown.{listResult};
 ghost use Rattle.copy_parts.specs.Inner.Passed.{PutsListed};
 use crate::list::copy_anchors;
 use crate::list::copy_constants;
 use crate::list::copy_locals;
 use crate::list::copy_names;
-use counted::ListResult;
-use counted::count_up_to;
-use counted::listed;
-use cursor::Cursor;
 use format::refusal::Refusal;
-use reader::field::U64Result;
-use reader::varint::read_varint_lua54;
+use read_field::field::U64Result;
+use read_field::varint::read_varint_lua54;
+use read_list::ListResult;
+use read_list::count_up_to;
+use read_list::listed;
+use slice::cursor::Cursor;
 
 // What a list shows, and the place behind it in the copy.
 pub struct Listed {

@@ -18,21 +18,21 @@ use Rattle.format.specs.Read.{Read, ok, refused, next}
 use Rattle.format.specs.ReadChunk.{forest, function}
 use Rattle.format.specs.Copy.{nest, upvaluesOfMain}
 use Rattle.format.proofs.Exact.{never}
-use Rattle.cursor.specs.declared.Cursor.{Cursor}
-use Rattle.prototype.specs.declared.parts.Head as declared-head
-use Rattle.prototype.specs.declared.parts.HeadResult.the-variants as head-answer
-use Rattle.prototype.specs.Parts.{Head, head, Tail, tail}
-use Rattle.prototype.specs.Inner.Whole.{prototypeOf, inside}
-use Rattle.prototype.specs.PartsShown.{headOf, headResult}
-use Rattle.skim.specs.declared.walk.Skimmed.{Skimmed}
-use Rattle.skim.specs.declared.walk.SkimResult.{SkimResult}
-use Rattle.skim.specs.declared.walk.SkimResult.the-variants as skim
-use Rattle.skim.specs.Inner.Skim.{entered, skimResult}
-use Rattle.skim.proofs.HeadTail.{ReadOn, head-err, head-read}
-use Rattle.skim.proofs.OneFunction as one
-use Rattle.skim.proofs.OneFunction.{skim-err, Skims}
-use Rattle.encode.specs.Inner.Put.{Put}
-use Rattle.encode.proofs.Writes.{put-then}
+use Rattle.slice.specs.declared.cursor.Cursor.{Cursor}
+use Rattle.read_prototype.specs.declared.parts.Head as declared-head
+use Rattle.read_prototype.specs.declared.parts.HeadResult.the-variants as head-answer
+use Rattle.read_prototype.specs.Parts.{Head, head, Tail, tail}
+use Rattle.read_prototype.specs.Inner.Whole.{prototypeOf, inside}
+use Rattle.read_prototype.specs.PartsShown.{headOf, headResult}
+use Rattle.read_walk.specs.declared.walk.Skimmed.{Skimmed}
+use Rattle.read_walk.specs.declared.walk.SkimResult.{SkimResult}
+use Rattle.read_walk.specs.declared.walk.SkimResult.the-variants as skim
+use Rattle.read_walk.specs.Inner.Skim.{entered, skimResult}
+use Rattle.read_walk.proofs.HeadTail.{ReadOn, head-err, head-read}
+use Rattle.read_walk.proofs.OneFunction as one
+use Rattle.read_walk.proofs.OneFunction.{skim-err, Skims}
+use Rattle.copy_put.specs.Inner.Put.{Put}
+use Rattle.copy_put.proofs.Writes.{put-then}
 use Rattle.copy_parts.specs.Inner.Parts.{functionBytes}
 use Rattle.copy_parts.specs.Inner.Ends.{PutsTail, endShown}
 use Rattle.copy_parts.specs.Inner.Passed.{PutsHead}

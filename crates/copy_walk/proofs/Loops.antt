@@ -15,12 +15,12 @@ use Rattle.format.specs.GrammarChunk.{Where}
 use Rattle.format.specs.Read.{ok}
 use Rattle.format.specs.ReadChunk.{function}
 use Rattle.format.specs.Copy.{nest}
-use Rattle.skim.specs.declared.walk.Skimmed.{Skimmed}
-use Rattle.skim.specs.declared.walk.SkimResult.the-variants as skim
-use Rattle.skim.specs.Inner.Skim.{entered, on, skimResult}
-use Rattle.skim.proofs.SoFar.{SoFar, starts, next-read, goes-on}
-use Rattle.encode.specs.Inner.Put.{Put}
-use Rattle.encode.proofs.Writes.{put-nothing, put-then}
+use Rattle.read_walk.specs.declared.walk.Skimmed.{Skimmed}
+use Rattle.read_walk.specs.declared.walk.SkimResult.the-variants as skim
+use Rattle.read_walk.specs.Inner.Skim.{entered, on, skimResult}
+use Rattle.read_walk.proofs.SoFar.{SoFar, starts, next-read, goes-on}
+use Rattle.copy_put.specs.Inner.Put.{Put}
+use Rattle.copy_put.proofs.Writes.{put-nothing, put-then}
 use Rattle.copy_parts.specs.Inner.Parts.{functionBytes}
 use Rattle.copy_parts.proofs.PutParts.{put-as}
 use Rattle.copy_walk.proofs.Nests.{Single, function-single}

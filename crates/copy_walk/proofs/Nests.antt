@@ -22,12 +22,12 @@ use Rattle.format.specs.Copy.{optionBytes, behindSource, nest}
 use Rattle.format.proofs.Exact.{Exact, exact-atMost}
 use Rattle.format.proofs.ExactChunk.{exact-forest}
 use Rattle.format.proofs.Located.{AtPlace, at-give, at-here, at-then, at-refuse}
-use Rattle.prototype.specs.Parts.{Head, Tail}
-use Rattle.prototype.specs.Inner.Whole.{prototypeOf, inside, parts}
-use Rattle.skim.specs.Inner.Skim.{entered}
-use Rattle.skim.proofs.Entering.{exact-entered}
-use Rattle.skim.proofs.HeadTail.{exact-head, exact-tail}
-use Rattle.skim.proofs.OneFunction as one
+use Rattle.read_prototype.specs.Parts.{Head, Tail}
+use Rattle.read_prototype.specs.Inner.Whole.{prototypeOf, inside, parts}
+use Rattle.read_walk.specs.Inner.Skim.{entered}
+use Rattle.read_walk.proofs.Entering.{exact-entered}
+use Rattle.read_walk.proofs.HeadTail.{exact-head, exact-tail}
+use Rattle.read_walk.proofs.OneFunction as one
 use Rattle.copy_parts.specs.Inner.Parts.{sourceBytes, headBytes, tailBytes, functionBytes}
 use Rattle.copy_parts.proofs.Lengths.{Short, short-then, short-none, stays}
 use Rattle.copy_parts.proofs.PartsAt.{head-at, tail-at}

@@ -9,9 +9,9 @@ use borrow.Rule.Slice.PartMut.{putMid}
 use lib.Dec.{leb}
 use lib.ListN.{length, take, drop}
 use Rattle.format.specs.Form.{Bytes}
-use Rattle.lent.specs.Inner.Splice.{splice}
-use Rattle.lent.proofs.Tails.{part-length, put-length, splice-behind}
-use Rattle.encode.specs.Inner.Put.{Put}
+use Rattle.slice.specs.Inner.Splice.{splice}
+use Rattle.slice.proofs.Tails.{part-length, put-length, splice-behind}
+use Rattle.copy_put.specs.Inner.Put.{Put}
 
 pub tail-inside : (at n from : ℕ) → from ≡ cond (leb at n) at n → from ≤ n
 tail-inside at n from e = by (leb at n) refl

@@ -9,18 +9,18 @@ ghost use Rattle.format.specs.Limits.{MOST, Walkable};
 ghost use Rattle.format.specs.Form.{Below};
 ghost use Rattle.format.specs.GrammarChunk as grammar;
 ghost use Rattle.format.specs.ReadChunk.{function};
-ghost use Rattle.skim.specs.Inner.Skim.{skimResult};
+ghost use Rattle.read_walk.specs.Inner.Skim.{skimResult};
 ghost use Rattle.copy_walk.specs.Inner.Walk.{PutsFunction};
 use copy_parts::ends::Copied;
 use copy_parts::ends::copy_end;
 use copy_parts::ends::stopped;
 use copy_parts::parts::copy_head;
-use encode::raw::plus;
+use copy_put::raw::plus;
 use format::limits::ResourceLimits;
 use format::refusal::Refusal;
-use prototype::parts::HeadResult;
-use skim::walk::SkimResult;
-use skim::walk::Skimmed;
+use read_prototype::parts::HeadResult;
+use read_walk::walk::SkimResult;
+use read_walk::walk::Skimmed;
 
 // The smaller of two numbers.
 pub fn within(n: usize, limit: usize) -> usize

@@ -25,18 +25,18 @@ use Rattle.format.specs.Form.{Bytes}
 use Rattle.format.specs.Reading.{Reading, Prototype, LocalVar}
 use Rattle.format.specs.ReadChunk.{Outcome, shown, refusal, read}
 use Rattle.format.specs.Copy.{copy}
-use Rattle.reader.specs.Shown.{optionString}
-use Rattle.lists.specs.Shown.{constantValue}
-use Rattle.access.specs.Asked.{Asked, found, orRefuse, functionOf, entryIn, entryOf}
+use Rattle.read_field.specs.Shown.{optionString}
+use Rattle.read_entry.specs.Shown.{constantValue}
+use Rattle.show_row.specs.Asked.{Asked, found, orRefuse, functionOf, entryIn, entryOf}
 use Rattle.index.specs.declared.IndexAnswer.the-variants as index-answer
 use Rattle.index.specs.Index.{index, shownIndex, indexWritten}
-use Rattle.lines.specs.declared.line.LineAnswer.the-variants as line-answer
-use Rattle.lines.specs.Lines.{large, lineOf, shownLine}
+use Rattle.line_lookup.specs.declared.line.LineAnswer.the-variants as line-answer
+use Rattle.line_lookup.specs.Lines.{large, lineOf, shownLine}
 use Rattle.copy.specs.declared.whole.CopyAnswer.the-variants as copy-answer
 use Rattle.copy.specs.Copied.{shownLength, shownCopy, copyWritten}
 use Rattle.show_chunk.specs.declared.summary.SummaryAnswer.the-variants as summary-answer
 use Rattle.show_chunk.specs.declared.fields.FieldsAnswer.the-variants as fields-answer
-use Rattle.decode.specs.Decoded.{summaryOf}
+use Rattle.read_chunk.specs.Decoded.{summaryOf}
 use Rattle.show_chunk.specs.Summaries.{shownSummary, trailingOf}
 use Rattle.show_chunk.specs.Fields.{fieldsOf, shownFields}
 use Rattle.show_entry.specs.declared.WordAnswer.the-variants as word-answer
@@ -48,18 +48,18 @@ use Rattle.show_entry.specs.declared.NameAnswer.the-variants as name-answer
 use Rattle.show_entry.specs.Entries.{shownWord, shownConstant, shownUpvalue, shownDelta, shownAnchor, shownName}
 use Rattle.show_local.specs.declared.LocalAnswer.the-variants as local-answer
 use Rattle.show_local.specs.Locals.{shownLocal, nameWritten}
-use Rattle.rules.specs.declared.finding.Finding.{Finding}
-use Rattle.rules.specs.Findings.{chunkFindings, verdict}
-use Rattle.validator.specs.declared.verdict.VerdictAnswer.the-variants as verdict-answer
-use Rattle.validator.specs.declared.verdict.CountAnswer.the-variants as count-answer
-use Rattle.validator.specs.Answers.{shownVerdict, shownCount}
-use Rattle.validator.proofs.Few.{findings-few}
-use Rattle.finding_plan.specs.declared.FindingsAnswer.the-variants as findings-answer
-use Rattle.finding_plan.specs.Validated.{shownFindings, findingsWritten}
-use Rattle.instructions.specs.declared.instruction.RawInstruction54.{RawInstruction54}
-use Rattle.instructions.specs.declared.instruction.Encoded.{Encoded}
-use Rattle.instructions.specs.declared.instruction.Encoded.the-variants as encoded-answer
-use Rattle.instructions.specs.Word.{encoded}
+use Rattle.validate_rules.specs.declared.finding.Finding.{Finding}
+use Rattle.validate_rules.specs.Findings.{chunkFindings, verdict}
+use Rattle.validate_verdict.specs.declared.verdict.VerdictAnswer.the-variants as verdict-answer
+use Rattle.validate_verdict.specs.declared.verdict.CountAnswer.the-variants as count-answer
+use Rattle.validate_verdict.specs.Answers.{shownVerdict, shownCount}
+use Rattle.validate_verdict.proofs.Few.{findings-few}
+use Rattle.validate_plan.specs.declared.FindingsAnswer.the-variants as findings-answer
+use Rattle.validate_plan.specs.Validated.{shownFindings, findingsWritten}
+use Rattle.word_fields.specs.declared.instruction.RawInstruction54.{RawInstruction54}
+use Rattle.word_fields.specs.declared.instruction.Encoded.{Encoded}
+use Rattle.word_fields.specs.declared.instruction.Encoded.the-variants as encoded-answer
+use Rattle.word_fields.specs.Word.{encoded}
 use Rattle.demands.proofs.Refused.{nothing-later, unless, missing, first, ofChunk, noFunction, ofFunction, noEntry, largeLine, ofLocal, longName, tooLong, inEncoded}
 use Rattle.demands.proofs.Refused.{forChunk, forReading, forSpace, forFunction, forLine, forEntry, forLocal, forWord}
 use Rattle.demands.proofs.Demand1.{after, order, encode}

@@ -13,12 +13,12 @@ use Rattle.format.specs.declared.limits.ResourceLimits.{ResourceLimits}
 use Rattle.format.specs.Form.{Bytes}
 use Rattle.format.specs.Reading.{Reading, Prototype}
 use Rattle.format.specs.ReadChunk.{read}
-use Rattle.reader.specs.declared.string.StringAt.{StringAt}
-use Rattle.reader.specs.declared.string.OptionString.{OptionString}
-use Rattle.reader.specs.declared.string.OptionString.the-variants as option
-use Rattle.lists.specs.declared.constant.ConstantValue.{ConstantValue}
-use Rattle.lists.specs.declared.constant.ConstantValue.the-variants as constant
-use Rattle.access.specs.Asked.{functionOf, entryOf}
+use Rattle.read_field.specs.declared.string.StringAt.{StringAt}
+use Rattle.read_field.specs.declared.string.OptionString.{OptionString}
+use Rattle.read_field.specs.declared.string.OptionString.the-variants as option
+use Rattle.read_entry.specs.declared.constant.ConstantValue.{ConstantValue}
+use Rattle.read_entry.specs.declared.constant.ConstantValue.the-variants as constant
+use Rattle.show_row.specs.Asked.{functionOf, entryOf}
 use Rattle.show_chunk.specs.declared.fields.FieldsAnswer.{FieldsAnswer}
 use Rattle.show_chunk.specs.declared.fields.FieldsAnswer.the-variants as fields-answer
 use Rattle.show_chunk.specs.Summaries.{shownSummary, trailingOf}

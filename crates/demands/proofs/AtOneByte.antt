@@ -27,8 +27,8 @@ use Rattle.format.specs.GrammarChunk.{Where}
 use Rattle.format.specs.Read.{ok, refused, Reader, next, _>>=_, _>>_, here, refuse, test, atMost, piece, run}
 use Rattle.format.specs.ReadFields.{groups, number}
 use Rattle.format.specs.ReadChunk.{body, function, main}
-use Rattle.prototype.specs.Front.{Front, front}
-use Rattle.prototype.proofs.Flat.{in-parts}
+use Rattle.read_prototype.specs.Front.{Front, front}
+use Rattle.read_prototype.proofs.Flat.{in-parts}
 use Rattle.demands.proofs.Causes.{causeOf, enters, LastNumber, Ends}
 use Rattle.demands.proofs.Order.{in-byte-order}
 use Rattle.demands.proofs.Refused.{alone, unless, first, byReader}

@@ -1,9 +1,9 @@
--- Demand 1 of the calls behind C: each returns number and place of the first of its conditions that holds, coded in one number (crates/boundary/specs/Status.antt), and then leaves its array as it was;
+-- Demand 1 of the calls behind C: each returns number and place of the first of its conditions that holds, coded in one number (crates/c_boundary/specs/Status.antt), and then leaves its array as it was;
 -- where none holds it returns 0, and the array holds the answer. One law, and a line for each call.
 --     InC a qs             so it is of a call whose answer is a and whose conditions are qs, in 01's order
 --     law                  it is enough that the refusal in the answer is the first of the conditions
 --     findings-kept        a call that refuses leaves its list as it was. (Rows, copy and name: Demand1.antt, `index-kept`, `copy-kept`, `local-kept`, of the same definitions.)
--- (crates/boundary/proofs/Numbers.antt: 0 is returned nowhere else, and number and place can be got back.)
+-- (crates/c_boundary/proofs/Numbers.antt: 0 is returned nowhere else, and number and place can be got back.)
 -- Assumes nothing.
 use mathlib.Core.Path.{_≡_, refl, sym, _∙_, ap}
 use mathlib.Core.Bool.{Bool, true, false, cond}
@@ -21,13 +21,13 @@ use Rattle.format.specs.Refusals.{reported}
 use Rattle.format.specs.Form.{Bytes}
 use Rattle.format.specs.ReadChunk.{Outcome, shown, refusal, read}
 use Rattle.format.specs.Copy.{copy}
-use Rattle.access.specs.Asked.{functionOf, entryOf}
+use Rattle.show_row.specs.Asked.{functionOf, entryOf}
 use Rattle.index.specs.declared.IndexAnswer.{IndexAnswer}
 use Rattle.index.specs.declared.IndexAnswer.the-variants as index-answer
 use Rattle.index.specs.Index.{index, shownIndex}
-use Rattle.lines.specs.declared.line.LineAnswer.{LineAnswer}
-use Rattle.lines.specs.declared.line.LineAnswer.the-variants as line-answer
-use Rattle.lines.specs.Lines.{shownLine}
+use Rattle.line_lookup.specs.declared.line.LineAnswer.{LineAnswer}
+use Rattle.line_lookup.specs.declared.line.LineAnswer.the-variants as line-answer
+use Rattle.line_lookup.specs.Lines.{shownLine}
 use Rattle.copy.specs.declared.whole.CopyAnswer.{CopyAnswer}
 use Rattle.copy.specs.declared.whole.CopyAnswer.the-variants as copy-answer
 use Rattle.copy.specs.Copied.{shownLength, shownCopy}
@@ -53,26 +53,26 @@ use Rattle.show_entry.specs.Entries.{shownWord, shownConstant, shownUpvalue, sh
 use Rattle.show_local.specs.declared.LocalAnswer.{LocalAnswer}
 use Rattle.show_local.specs.declared.LocalAnswer.the-variants as local-answer
 use Rattle.show_local.specs.Locals.{shownLocal}
-use Rattle.rules.specs.Findings.{chunkFindings, verdict}
-use Rattle.validator.specs.declared.verdict.VerdictAnswer.{VerdictAnswer}
-use Rattle.validator.specs.declared.verdict.VerdictAnswer.the-variants as verdict-answer
-use Rattle.validator.specs.declared.verdict.CountAnswer.{CountAnswer}
-use Rattle.validator.specs.declared.verdict.CountAnswer.the-variants as count-answer
-use Rattle.validator.specs.Answers.{shownVerdict, shownCount}
-use Rattle.finding_plan.specs.declared.FindingsAnswer.{FindingsAnswer}
-use Rattle.finding_plan.specs.declared.FindingsAnswer.the-variants as findings-answer
-use Rattle.finding_plan.specs.Validated.{shownFindings}
-use Rattle.instructions.specs.declared.instruction.Encoded.{Encoded}
-use Rattle.instructions.specs.declared.instruction.Encoded.the-variants as encoded-answer
-use Rattle.instructions.specs.Word.{decoded, encoded}
-use Rattle.boundary.specs.Status.{limitsOf, withPlace, Answer, done, refuses, status, written}
-use Rattle.numbers.specs.Numbers.{ofSummary, ofFields, ofLine, ofWord, ofConstant, ofUpvalue, ofDelta, ofAnchor, ofLocal, ofName, ofIndex, ofCopy, ofVerdict, ofCount}
-use Rattle.numbers.specs.Words.{wordNumbers, spelt, ofEncoded}
-use Rattle.finding_list.specs.FindingNumbers.{listNumbers, ofFindings, numbersWritten}
+use Rattle.validate_rules.specs.Findings.{chunkFindings, verdict}
+use Rattle.validate_verdict.specs.declared.verdict.VerdictAnswer.{VerdictAnswer}
+use Rattle.validate_verdict.specs.declared.verdict.VerdictAnswer.the-variants as verdict-answer
+use Rattle.validate_verdict.specs.declared.verdict.CountAnswer.{CountAnswer}
+use Rattle.validate_verdict.specs.declared.verdict.CountAnswer.the-variants as count-answer
+use Rattle.validate_verdict.specs.Answers.{shownVerdict, shownCount}
+use Rattle.validate_plan.specs.declared.FindingsAnswer.{FindingsAnswer}
+use Rattle.validate_plan.specs.declared.FindingsAnswer.the-variants as findings-answer
+use Rattle.validate_plan.specs.Validated.{shownFindings}
+use Rattle.word_fields.specs.declared.instruction.Encoded.{Encoded}
+use Rattle.word_fields.specs.declared.instruction.Encoded.the-variants as encoded-answer
+use Rattle.word_fields.specs.Word.{decoded, encoded}
+use Rattle.c_boundary.specs.Status.{limitsOf, withPlace, Answer, done, refuses, status, written}
+use Rattle.c_numbers.specs.Numbers.{ofSummary, ofFields, ofLine, ofWord, ofConstant, ofUpvalue, ofDelta, ofAnchor, ofLocal, ofName, ofIndex, ofCopy, ofVerdict, ofCount}
+use Rattle.c_numbers.specs.Words.{wordNumbers, spelt, ofEncoded}
+use Rattle.c_findings.specs.FindingNumbers.{listNumbers, ofFindings, numbersWritten}
 use Rattle.demands.proofs.Refused.{first, forChunk, forSpace, forFunction, forLine, forEntry, forLocal, forWord}
 use Rattle.demands.proofs.Refused.{inSummary, inFields, inWord, inConstant, inUpvalue, inDelta, inAnchor, inName, inLocal, inLine, inIndex, inCopy, inVerdict, inCount, inFindings, inEncoded}
 use Rattle.demands.proofs.Demand1 as calls
-use Rattle.finding_list.proofs.Numbered.{all-or-none}
+use Rattle.c_findings.proofs.Numbered.{all-or-none}
 
 -- ## The law
 -- what is returned for a refusal, or for none

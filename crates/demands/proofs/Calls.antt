@@ -32,20 +32,20 @@ use Rattle.format.specs.ReadFields.{string}
 use Rattle.format.specs.ReadChunk.{constant, shown, refusal, read}
 use Rattle.format.specs.Copy.{copy}
 use Rattle.format.proofs.Located.{Located, StandsIf}
-use Rattle.entries.proofs.Items.{many-nth}
-use Rattle.entries.proofs.Strings.{ConstantStands, constant-stands, name-stands}
-use Rattle.rules.specs.declared.finding.Finding.{Finding}
-use Rattle.rules.specs.declared.finding.Rule.the-variants.{Register}
-use Rattle.rules.specs.Findings.{chunkFindings, verdict}
-use Rattle.validator.specs.declared.verdict.VerdictAnswer.the-variants as verdict-answer
-use Rattle.validator.specs.declared.verdict.CountAnswer.the-variants as count-answer
-use Rattle.validator.specs.Answers.{shownVerdict, shownCount}
-use Rattle.validator.proofs.Few.{findings-few}
-use Rattle.finding_plan.specs.declared.FindingsAnswer.the-variants as findings-answer
-use Rattle.finding_plan.specs.Validated.{shownFindings, findingsWritten}
-use Rattle.finding_array.specs.Blank.{LONGEST, blankList}
-use Rattle.lines.specs.declared.line.LineAnswer.the-variants as line-answer
-use Rattle.lines.specs.Lines.{answerOf, shownLine}
+use Rattle.read_nth.proofs.Items.{many-nth}
+use Rattle.read_nth.proofs.Strings.{ConstantStands, constant-stands, name-stands}
+use Rattle.validate_rules.specs.declared.finding.Finding.{Finding}
+use Rattle.validate_rules.specs.declared.finding.Rule.the-variants.{Register}
+use Rattle.validate_rules.specs.Findings.{chunkFindings, verdict}
+use Rattle.validate_verdict.specs.declared.verdict.VerdictAnswer.the-variants as verdict-answer
+use Rattle.validate_verdict.specs.declared.verdict.CountAnswer.the-variants as count-answer
+use Rattle.validate_verdict.specs.Answers.{shownVerdict, shownCount}
+use Rattle.validate_verdict.proofs.Few.{findings-few}
+use Rattle.validate_plan.specs.declared.FindingsAnswer.the-variants as findings-answer
+use Rattle.validate_plan.specs.Validated.{shownFindings, findingsWritten}
+use Rattle.validate_findings.specs.Blank.{LONGEST, blankList}
+use Rattle.line_lookup.specs.declared.line.LineAnswer.the-variants as line-answer
+use Rattle.line_lookup.specs.Lines.{answerOf, shownLine}
 use Rattle.index.specs.Index.{index, shownIndex, indexWritten}
 use Rattle.index.specs.declared.IndexAnswer.the-variants as index-answer
 use Rattle.copy.specs.Copied.{shownLength, shownCopy, copyWritten}
@@ -53,8 +53,8 @@ use Rattle.copy.specs.declared.whole.CopyAnswer.the-variants as copy-answer
 use Rattle.show_chunk.specs.declared.summary.SummaryAnswer.the-variants as summary-answer
 use Rattle.show_chunk.specs.declared.fields.FieldsAnswer.the-variants as fields-answer
 use Rattle.show_local.specs.declared.LocalAnswer.the-variants as local-answer
-use Rattle.access.specs.Asked.{found, refused, orRefuse, functionOf, entryOf, entryIn}
-use Rattle.decode.specs.Decoded.{summaryOf}
+use Rattle.show_row.specs.Asked.{found, refused, orRefuse, functionOf, entryOf, entryIn}
+use Rattle.read_chunk.specs.Decoded.{summaryOf}
 use Rattle.show_chunk.specs.Summaries.{shownSummary, trailingOf}
 use Rattle.show_chunk.specs.Fields.{fieldsOf, shownFields}
 use Rattle.show_entry.specs.declared.WordAnswer.the-variants as word-answer
@@ -65,7 +65,7 @@ use Rattle.show_entry.specs.declared.AnchorAnswer.the-variants as anchor-answer
 use Rattle.show_entry.specs.declared.NameAnswer.the-variants as name-answer
 use Rattle.show_entry.specs.Entries.{shownWord, shownConstant, shownUpvalue, shownDelta, shownAnchor, shownName}
 use Rattle.show_local.specs.Locals.{shownLocal, nameWritten}
-use Rattle.access.proofs.Whole.{all-nth, whole}
+use Rattle.show_row.proofs.Whole.{all-nth, whole}
 
 -- ## What is shown of a function
 pub record ShowsFunction (L : ResourceLimits) (s : Bytes) (f : ℕ) (p : Prototype) : Type 0 where

@@ -19,13 +19,13 @@ use Rattle.format.specs.Form.{Bytes}
 use Rattle.format.specs.Reading.{Reading, Prototype}
 use Rattle.format.specs.ReadChunk.{read}
 use Rattle.format.specs.Copy.{copy}
-use Rattle.access.specs.Asked.{functionOf, entryOf}
-use Rattle.rules.specs.declared.finding.Finding.{Finding}
-use Rattle.rules.specs.Findings.{chunkFindings}
-use Rattle.validator.specs.Answers.{shownVerdict, shownCount}
-use Rattle.finding_plan.specs.Validated.{shownFindings, findingsWritten}
-use Rattle.finding_array.specs.Blank.{LONGEST, blankList}
-use Rattle.lines.specs.Lines.{shownLine}
+use Rattle.show_row.specs.Asked.{functionOf, entryOf}
+use Rattle.validate_rules.specs.declared.finding.Finding.{Finding}
+use Rattle.validate_rules.specs.Findings.{chunkFindings}
+use Rattle.validate_verdict.specs.Answers.{shownVerdict, shownCount}
+use Rattle.validate_plan.specs.Validated.{shownFindings, findingsWritten}
+use Rattle.validate_findings.specs.Blank.{LONGEST, blankList}
+use Rattle.line_lookup.specs.Lines.{shownLine}
 use Rattle.index.specs.Index.{index, shownIndex, indexWritten}
 use Rattle.copy.specs.Copied.{shownLength, shownCopy, copyWritten}
 use Rattle.show_local.specs.Locals.{shownLocal, nameWritten}

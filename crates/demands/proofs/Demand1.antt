@@ -2,7 +2,7 @@
 -- One theorem for each call: number and place of the refusal in its answer are those of the first of its conditions that holds (Refused.antt), in the order 21, 22, 1 to 20, 23, 24, 25, 26, for words 28, 27;
 -- where none holds there is none. Each call's contract says that its answer is the definition that stands here on the left (Demand2.antt).
 -- (That every call ends and that nothing wraps is proved with each function. `trailing_bytes` and `string_bytes` show bytes and hold no refusal: of a chunk that is refused there are no trailing bytes, `no-trailing`.
--- `finding_array::chunk_findings` has `findings` with a space of 10,001, which is always enough: `all-fit`.)
+-- `validate_findings::array::chunk_findings` has `findings` with a space of 10,001, which is always enough: `all-fit`.)
 --     places           a refusal's place is one of the file, or the file's end
 --     summary ..       the order of a call's refusals
 --     ..-kept          a call that refuses leaves lent memory as it was
@@ -32,33 +32,33 @@ use Rattle.format.specs.GrammarChunk.{Loaded}
 use Rattle.format.specs.Read.{Read, ok, refused}
 use Rattle.format.specs.ReadChunk.{Outcome, shown, refusal, main, outcome, read}
 use Rattle.format.specs.Copy.{copy}
-use Rattle.access.specs.Asked.{Asked, found, orRefuse, functionOf, entryIn, entryOf}
-use Rattle.access.specs.Asked as asked
+use Rattle.show_row.specs.Asked.{Asked, found, orRefuse, functionOf, entryIn, entryOf}
+use Rattle.show_row.specs.Asked as asked
 use Rattle.index.specs.Index.{index, shownIndex, indexWritten}
-use Rattle.lines.specs.declared.line.LineAnswer.the-variants as line-answer
-use Rattle.lines.specs.Lines.{large, shownLine}
+use Rattle.line_lookup.specs.declared.line.LineAnswer.the-variants as line-answer
+use Rattle.line_lookup.specs.Lines.{large, shownLine}
 use Rattle.copy.specs.Copied.{shownLength, shownCopy, copyWritten}
 use Rattle.show_chunk.specs.Summaries.{shownSummary, trailingOf}
 use Rattle.show_chunk.specs.Fields.{shownFields}
 use Rattle.show_entry.specs.Entries.{shownWord, shownConstant, shownUpvalue, shownDelta, shownAnchor, shownName}
 use Rattle.show_local.specs.Locals.{shownLocal, nameWritten}
-use Rattle.rules.specs.declared.finding.Finding.{Finding}
-use Rattle.rules.specs.Findings.{chunkFindings}
-use Rattle.validator.specs.Answers.{shownVerdict, shownCount}
-use Rattle.validator.proofs.Few.{findings-few}
-use Rattle.finding_plan.specs.Validated.{shownFindings, findingsWritten}
-use Rattle.opcodes.specs.declared.opcode.OpMode54.{OpMode54}
-use Rattle.opcodes.specs.declared.opcode.OpMode54.the-variants.{IABC, IABx, IAsBx, IAx, IsJ}
-use Rattle.opcodes.specs.declared.opcode.Opcode54.{Opcode54}
-use Rattle.opcodes.specs.declared.opcode.OptionOpcode54.{OptionOpcode54}
-use Rattle.opcodes.specs.declared.opcode.OptionOpcode54.the-variants as option
-use Rattle.opcodes.specs.Table.{modeOf}
-use Rattle.instructions.specs.declared.instruction.RawInstruction54.{RawInstruction54}
-use Rattle.instructions.specs.declared.instruction.Encoded.{Encoded}
-use Rattle.instructions.specs.declared.instruction.Encoded.the-variants as word
-use Rattle.instructions.specs.Word.{unbiased, withUnbiased, encodedIABx, encodedIAx, byMode, byOpcode, encoded}
-use Rattle.instructions.proofs.Ranges.{inRange, isWord, ranges}
-use Rattle.decode.proofs.Summaries.{input-ceiling}
+use Rattle.validate_rules.specs.declared.finding.Finding.{Finding}
+use Rattle.validate_rules.specs.Findings.{chunkFindings}
+use Rattle.validate_verdict.specs.Answers.{shownVerdict, shownCount}
+use Rattle.validate_verdict.proofs.Few.{findings-few}
+use Rattle.validate_plan.specs.Validated.{shownFindings, findingsWritten}
+use Rattle.word_opcodes.specs.declared.opcode.OpMode54.{OpMode54}
+use Rattle.word_opcodes.specs.declared.opcode.OpMode54.the-variants.{IABC, IABx, IAsBx, IAx, IsJ}
+use Rattle.word_opcodes.specs.declared.opcode.Opcode54.{Opcode54}
+use Rattle.word_opcodes.specs.declared.opcode.OptionOpcode54.{OptionOpcode54}
+use Rattle.word_opcodes.specs.declared.opcode.OptionOpcode54.the-variants as option
+use Rattle.word_opcodes.specs.Table.{modeOf}
+use Rattle.word_fields.specs.declared.instruction.RawInstruction54.{RawInstruction54}
+use Rattle.word_fields.specs.declared.instruction.Encoded.{Encoded}
+use Rattle.word_fields.specs.declared.instruction.Encoded.the-variants as word
+use Rattle.word_fields.specs.Word.{unbiased, withUnbiased, encodedIABx, encodedIAx, byMode, byOpcode, encoded}
+use Rattle.word_fields.proofs.Ranges.{inRange, isWord, ranges}
+use Rattle.read_chunk.proofs.Summaries.{input-ceiling}
 use Rattle.demands.proofs.InOrder.{Inside, inside-more}
 use Rattle.demands.proofs.Order.{in-byte-order}
 use Rattle.demands.proofs.Refused.{alone, nothing-later, unless, missing, first, byReader, ofChunk, andThen, noFunction, ofFunction, noEntry, largeLine, ofLocal, longName, tooLong, noOpcode, outOfRange}

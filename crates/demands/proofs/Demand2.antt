@@ -32,31 +32,31 @@ use Rattle.format.proofs.ReadChunkLaws.{read-sound}
 use Rattle.format_lua.proofs.LundumpBack.{Loadable, LoadedAs, read-is-loaded}
 use Rattle.format_lua.proofs.LdumpWhole.{sourceOf, AsLua, AsStripped, copy-as-dumped, copy-as-stripped}
 use Rattle.format_lua.proofs.LundumpChunk.{FunctionsWithin, loaded-is-read}
-use Rattle.access.specs.Asked.{functionOf, entryOf}
+use Rattle.show_row.specs.Asked.{functionOf, entryOf}
 use Rattle.index.specs.Index.{shownIndex, indexWritten}
-use Rattle.lines.specs.Lines.{shownLine}
+use Rattle.line_lookup.specs.Lines.{shownLine}
 use Rattle.show_chunk.specs.Summaries.{shownSummary, trailingOf}
 use Rattle.show_chunk.specs.Fields.{shownFields}
 use Rattle.show_entry.specs.Entries.{shownWord, shownConstant, shownUpvalue, shownDelta, shownAnchor, shownName}
 use Rattle.show_local.specs.Locals.{shownLocal, nameWritten}
 use Rattle.copy.specs.Copied.{shownLength, shownCopy, copyWritten}
-use Rattle.rules.specs.declared.finding.Finding.{Finding}
-use Rattle.rules.specs.Findings.{Listing, chunkFindings, verdict}
-use Rattle.rules.specs.Rust as rust
-use Rattle.validator.specs.declared.verdict.VerdictAnswer.the-variants as verdicts
-use Rattle.validator.specs.declared.verdict.CountAnswer.the-variants as counts
-use Rattle.validator.specs.Answers.{shownVerdict, shownCount}
-use Rattle.validator.proofs.Chunk.{findings-are}
-use Rattle.finding_plan.specs.declared.FindingsAnswer.the-variants as answers
-use Rattle.finding_plan.specs.Validated.{listingAnswer, shownFindings, findingsWritten}
-use Rattle.finding_array.specs.Blank.{LONGEST, blankList}
-use Rattle.instructions.specs.Word.{decoded, encoded}
-use Rattle.print.specs.Output.{waiting, puts}
-use Rattle.listing.specs.Listing as listings
+use Rattle.validate_rules.specs.declared.finding.Finding.{Finding}
+use Rattle.validate_rules.specs.Findings.{Listing, chunkFindings, verdict}
+use Rattle.validate_rules.specs.Rust as rust
+use Rattle.validate_verdict.specs.declared.verdict.VerdictAnswer.the-variants as verdicts
+use Rattle.validate_verdict.specs.declared.verdict.CountAnswer.the-variants as counts
+use Rattle.validate_verdict.specs.Answers.{shownVerdict, shownCount}
+use Rattle.validate_verdict.proofs.Chunk.{findings-are}
+use Rattle.validate_plan.specs.declared.FindingsAnswer.the-variants as answers
+use Rattle.validate_plan.specs.Validated.{listingAnswer, shownFindings, findingsWritten}
+use Rattle.validate_findings.specs.Blank.{LONGEST, blankList}
+use Rattle.word_fields.specs.Word.{decoded, encoded}
+use Rattle.text_print.specs.Output.{waiting, puts}
+use Rattle.chunklist_listing.specs.Listing as listings
 use Rattle.format.proofs.limits.ResourceLimits.ceilings as ceilings-call
 use Rattle.format.proofs.limits.ResourceLimits.within_ceilings as within-ceilings-call
-use Rattle.report.proofs.report_refusal as report-refusal-call
-use Rattle.report.proofs.report_warning as report-warning-call
+use Rattle.format_report.proofs.report_refusal as report-refusal-call
+use Rattle.format_report.proofs.report_warning as report-warning-call
 use Rattle.show_chunk.proofs.summary.chunk_summary as chunk-summary-call
 use Rattle.show_chunk.proofs.bytes.trailing_bytes as trailing-bytes-call
 use Rattle.show_chunk.proofs.bytes.string_bytes as string-bytes-call
@@ -69,19 +69,19 @@ use Rattle.show_entry.proofs.anchor as anchor-call
 use Rattle.show_entry.proofs.upvalue_name as upvalue-name-call
 use Rattle.show_local.proofs.local as local-call
 use Rattle.index.proofs.function_index as function-index-call
-use Rattle.lines.proofs.line.get_line_for_pc as get-line-for-pc-call
+use Rattle.line_lookup.proofs.line.get_line_for_pc as get-line-for-pc-call
 use Rattle.copy.proofs.copy_length as copy-length-call
 use Rattle.copy.proofs.encode_chunk_lua54 as encode-chunk-lua54-call
-use Rattle.validator.proofs.verdict.chunk_verdict as chunk-verdict-call
-use Rattle.validator.proofs.verdict.finding_count as finding-count-call
-use Rattle.findings.proofs.validate_chunk_lua54 as validate-chunk-lua54-call
-use Rattle.finding_array.proofs.chunk_findings as chunk-findings-call
-use Rattle.instructions.proofs.instruction.RawInstruction54.decode as decode-call
-use Rattle.instructions.proofs.instruction.RawInstruction54.encode as encode-call
-use Rattle.listing.proofs.listing as listing-call
+use Rattle.validate_verdict.proofs.verdict.chunk_verdict as chunk-verdict-call
+use Rattle.validate_verdict.proofs.verdict.finding_count as finding-count-call
+use Rattle.validate_findings.proofs.validate_chunk_lua54 as validate-chunk-lua54-call
+use Rattle.validate_findings.proofs.array.chunk_findings as chunk-findings-call
+use Rattle.word_fields.proofs.instruction.RawInstruction54.decode as decode-call
+use Rattle.word_fields.proofs.instruction.RawInstruction54.encode as encode-call
+use Rattle.chunklist_listing.proofs.listing as listing-call
 use Rattle.demands.proofs.Written.{Writes, written-is-copy}
 use Rattle.demands.proofs.Promise.{Promise, PromiseWhere}
-use Rattle.lent.specs.Over.{over}
+use Rattle.slice.specs.Over.{over}
 
 -- ## Chunks. Compared: 5,391 chunks, each with its summary, every field and entry, the index, the copy and the lines (crates/vectors); 150,000 more were asked once (docs/DIFFERENCES.md).
 pub chunk-summary : Promise chunk-summary-call.ended chunk-summary-call.Symbol.routine (λ _ chunk limits r.
@@ -224,7 +224,7 @@ pub listing : PromiseWhere listing-call.ended listing-call.Symbol.routine (λ _ 
     ∷ [])
 listing _ = listing-call.Met.met
 
--- ## The Rust's validator (crates/rules/specs/Rust.antt, after validator.rs: a list and a flag, tested before each function and each instruction)
+-- ## The Rust's validator (crates/validate_rules/specs/Rust.antt, after validator.rs: a list and a flag, tested before each function and each instruction)
 -- of every chunk that is read it gives what the calls go by
 pub as-the-rust : (L : ResourceLimits) (s : Bytes) (r : Reading) → read L s ≡ shown r → rust.validate r ≡ chunkFindings r
 as-the-rust = findings-are

@@ -1,6 +1,6 @@
 -- DEMAND 2, the calls behind C (crates/lafzimdo/src, include/lafzimdo.h): a theorem for each, which states its whole contract and is met by the code. How to read one is said in Demand2.antt; what it means, in Promise.antt.
 --     Answered r out out′ a     of the answer a: the number that is returned, 0 or the refusal, and what then stands in the array out that the caller lends: the answer's numbers, or on a refusal what stood there before
--- a is that of the Rattle call in Demand2.antt (`shown..`), in numbers (`of..`, crates/numbers/specs/Numbers.antt), or of a part at a place (crates/parts_at/specs/PartNumbers.antt).
+-- a is that of the Rattle call in Demand2.antt (`shown..`), in numbers (`of..`, crates/c_numbers/specs/Numbers.antt), or of a part at a place (crates/c_parts/specs/PartNumbers.antt).
 -- Compared: the static library with the kept answers (compare/kept.py) and with the Rust (compare/run).
 -- Assumes nothing.
 use mathlib.Core.Path.{_≡_}
@@ -10,22 +10,22 @@ use lib.ListN.{length}
 use denote.Ref.{RefT, now}
 use Rattle.format.specs.ReadChunk.{Outcome, read}
 use Rattle.format.specs.Form.{Bytes}
-use Rattle.access.specs.Asked.{functionOf, entryOf}
+use Rattle.show_row.specs.Asked.{functionOf, entryOf}
 use Rattle.index.specs.Index.{shownIndex, indexWritten}
-use Rattle.lines.specs.Lines.{shownLine}
+use Rattle.line_lookup.specs.Lines.{shownLine}
 use Rattle.show_chunk.specs.Summaries.{shownSummary}
 use Rattle.show_chunk.specs.Fields.{shownFields}
 use Rattle.show_entry.specs.Entries.{shownWord, shownConstant, shownUpvalue, shownDelta, shownAnchor, shownName}
 use Rattle.show_local.specs.Locals.{shownLocal, nameWritten}
 use Rattle.copy.specs.Copied.{shownLength, shownCopy, copyWritten}
-use Rattle.validator.specs.Answers.{shownVerdict, shownCount}
-use Rattle.finding_plan.specs.Validated.{shownFindings}
-use Rattle.instructions.specs.Word.{decoded, encoded}
-use Rattle.boundary.specs.Status.{Answer, limitsOf, status, written}
-use Rattle.numbers.specs.Numbers.{ofSummary, ofFields, ofWord, ofConstant, ofUpvalue, ofDelta, ofAnchor, ofName, ofLocal, ofIndex, ofLine, ofCopy, ofVerdict, ofCount}
-use Rattle.numbers.specs.Words.{wordNumbers, spelt, ofEncoded}
-use Rattle.finding_list.specs.FindingNumbers.{ofFindings, numbersWritten}
-use Rattle.parts_at.specs.PartNumbers.{headAt, tailAt, wordAt, constantAt, upvalueAt, deltaAt, anchorAt, localAt, stringAt}
+use Rattle.validate_verdict.specs.Answers.{shownVerdict, shownCount}
+use Rattle.validate_plan.specs.Validated.{shownFindings}
+use Rattle.word_fields.specs.Word.{decoded, encoded}
+use Rattle.c_boundary.specs.Status.{Answer, limitsOf, status, written}
+use Rattle.c_numbers.specs.Numbers.{ofSummary, ofFields, ofWord, ofConstant, ofUpvalue, ofDelta, ofAnchor, ofName, ofLocal, ofIndex, ofLine, ofCopy, ofVerdict, ofCount}
+use Rattle.c_numbers.specs.Words.{wordNumbers, spelt, ofEncoded}
+use Rattle.c_findings.specs.FindingNumbers.{ofFindings, numbersWritten}
+use Rattle.c_parts.specs.PartNumbers.{headAt, tailAt, wordAt, constantAt, upvalueAt, deltaAt, anchorAt, localAt, stringAt}
 use Rattle.lafzimdo.proofs.summary.lafzimdo_summary as summary-call
 use Rattle.lafzimdo.proofs.function.lafzimdo_function as function-call
 use Rattle.lafzimdo.proofs.entry.lafzimdo_instruction as instruction-call

@@ -43,8 +43,8 @@ use Rattle.format.proofs.WiderChunk.{main-wider, above, above-left, above-right
 use Rattle.format.proofs.CopyChunk.{copy-belongs, copy-same, copy-below}
 use Rattle.format.proofs.CopyChunk as copies
 use Rattle.format.proofs.ReadChunkLaws.{read-sound, read-within, read-complete, chunk-unique}
-use Rattle.boundary.specs.Status.{limitsOf}
-use Rattle.decode.specs.declared.summary.Summary.{Summary}
+use Rattle.c_boundary.specs.Status.{limitsOf}
+use Rattle.read_chunk.specs.declared.summary.Summary.{Summary}
 use Rattle.show_chunk.specs.declared.summary.SummaryAnswer.{SummaryAnswer}
 use Rattle.show_chunk.specs.declared.summary.SummaryAnswer.the-variants as summary-answer
 use Rattle.show_chunk.specs.Summaries.{shownSummary}

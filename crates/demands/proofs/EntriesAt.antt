@@ -16,7 +16,7 @@ use Rattle.format.proofs.Exact.{Exact, never}
 use Rattle.format.proofs.Left.{left}
 use Rattle.format.proofs.Located.{Found}
 use Rattle.format.proofs.Steps.{run-was, field-enough}
-use Rattle.boundary.specs.Status.{Answer, done, refuses}
+use Rattle.c_boundary.specs.Status.{Answer, done, refuses}
 
 -- ## Steps
 abbrev pub lastOf : List ℕ → ℕ

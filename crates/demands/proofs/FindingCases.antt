@@ -12,19 +12,19 @@ use Rattle.format.specs.Form.{Bytes}
 use Rattle.format.specs.Limits.{ceilings}
 use Rattle.format.specs.ReadChunk.{body, function, Outcome, read}
 use Rattle.format.proofs.Distinct.{header}
-use Rattle.instructions.specs.Word.{decoded}
-use Rattle.rules.specs.declared.finding.Finding.{Finding}
-use Rattle.rules.specs.declared.finding.Rule.{Rule}
-use Rattle.rules.specs.declared.finding.Rule.the-variants.{Opcode, Register, Upvalue}
-use Rattle.rules.specs.declared.finding.Verdict.the-variants.{Invalid}
-use Rattle.rules.specs.Rules.{instruction}
-use Rattle.rules.specs.Findings.{codeGroups, groups, limited, chunkFindings}
-use Rattle.validator.specs.declared.verdict.VerdictAnswer.the-variants as verdict
-use Rattle.validator.specs.declared.verdict.CountAnswer.the-variants as count
-use Rattle.validator.specs.Answers.{shownVerdict, shownCount}
-use Rattle.finding_plan.specs.declared.FindingsAnswer.{FindingsAnswer}
-use Rattle.finding_plan.specs.declared.FindingsAnswer.the-variants.{Ok, Err}
-use Rattle.finding_plan.specs.Validated.{shownFindings, findingsWritten}
+use Rattle.word_fields.specs.Word.{decoded}
+use Rattle.validate_rules.specs.declared.finding.Finding.{Finding}
+use Rattle.validate_rules.specs.declared.finding.Rule.{Rule}
+use Rattle.validate_rules.specs.declared.finding.Rule.the-variants.{Opcode, Register, Upvalue}
+use Rattle.validate_rules.specs.declared.finding.Verdict.the-variants.{Invalid}
+use Rattle.validate_rules.specs.Rules.{instruction}
+use Rattle.validate_rules.specs.Findings.{codeGroups, groups, limited, chunkFindings}
+use Rattle.validate_verdict.specs.declared.verdict.VerdictAnswer.the-variants as verdict
+use Rattle.validate_verdict.specs.declared.verdict.CountAnswer.the-variants as count
+use Rattle.validate_verdict.specs.Answers.{shownVerdict, shownCount}
+use Rattle.validate_plan.specs.declared.FindingsAnswer.{FindingsAnswer}
+use Rattle.validate_plan.specs.declared.FindingsAnswer.the-variants.{Ok, Err}
+use Rattle.validate_plan.specs.Validated.{shownFindings, findingsWritten}
 
 -- stack 2; MOVE to register 2, GETUPVAL of upvalue 0 to register 2; in it 00000053; format 3 and a trailing byte
 bytes : Bytes

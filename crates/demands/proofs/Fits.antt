@@ -26,7 +26,7 @@ use Rattle.format.proofs.ExactFields.{exact-field}
 use Rattle.format.proofs.ExactChunk.{exact-always, exact-constant}
 use Rattle.format.proofs.Steps.{run-was}
 use Rattle.format.proofs.Located.{AtPlace, any, at-give, at-refuse, at-then, Located}
-use Rattle.entries.proofs.Items.{many-nth}
+use Rattle.read_nth.proofs.Items.{many-nth}
 
 pub little-fits : (b : Bytes) → Below 256 b → little b < 256 ^ length b
 little-fits [] h = omega arith

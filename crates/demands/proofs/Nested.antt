@@ -27,17 +27,17 @@ use Rattle.format.proofs.ExactChunk.{exact-forest, exact-function}
 use Rattle.format.proofs.Located.{Found, AtPlace, any, at-give, at-refuse, at-here, at-then}
 use Rattle.format_lua.proofs.LdumpWhole.{sourceOf}
 use Rattle.format.proofs.ReadChunkLaws.{read-sound, main-complete}
-use Rattle.lists.specs.Readers.{protosCount}
-use Rattle.counted.proofs.Within.{exact-protosCount}
-use Rattle.prototype.specs.Parts.{Head, head, Tail, tail}
-use Rattle.prototype.specs.Inner.Whole.{prototypeOf, inside, parts}
-use Rattle.prototype.proofs.FrontAnswers.{exact-front}
-use Rattle.prototype.proofs.HeadAnswers.{exact-lists}
-use Rattle.skim.specs.Inner.Skim.{entered}
-use Rattle.skim.proofs.Entering.{exact-entered}
-use Rattle.skim.proofs.HeadTail.{exact-head, exact-tail}
-use Rattle.skim.proofs.OneFunction.{by-parts}
-use Rattle.functions.proofs.Fewer.{fewer-head}
+use Rattle.read_entry.specs.Readers.{protosCount}
+use Rattle.read_list.proofs.Within.{exact-protosCount}
+use Rattle.read_prototype.specs.Parts.{Head, head, Tail, tail}
+use Rattle.read_prototype.specs.Inner.Whole.{prototypeOf, inside, parts}
+use Rattle.read_prototype.proofs.FrontAnswers.{exact-front}
+use Rattle.read_prototype.proofs.HeadAnswers.{exact-lists}
+use Rattle.read_walk.specs.Inner.Skim.{entered}
+use Rattle.read_walk.proofs.Entering.{exact-entered}
+use Rattle.read_walk.proofs.HeadTail.{exact-head, exact-tail}
+use Rattle.read_walk.proofs.OneFunction.{by-parts}
+use Rattle.read_next.proofs.Fewer.{fewer-head}
 
 -- ## What the reading says
 abbrev pub lastEnd : ℕ → ℕ → List Prototype → ℕ

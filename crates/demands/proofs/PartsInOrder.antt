@@ -15,9 +15,9 @@ use Rattle.format.specs.ReadChunk as chunk
 use Rattle.format.proofs.Exact.{Exact, exact-give, exact-here, exact-then, exact-atMost, exact-run, exact-many}
 use Rattle.format.proofs.ExactFields.{exact-field, exact-number, exact-string}
 use Rattle.format.proofs.ExactChunk.{exact-counted, exact-countedUpTo, exact-constant, exact-upvalue, exact-anchor, exact-local}
-use Rattle.lists.specs.Readers.{rawLocal, protosCount, code}
-use Rattle.prototype.specs.Front.{front}
-use Rattle.prototype.specs.Parts.{head, tail}
+use Rattle.read_entry.specs.Readers.{rawLocal, protosCount, code}
+use Rattle.read_prototype.specs.Front.{front}
+use Rattle.read_prototype.specs.Parts.{head, tail}
 use Rattle.demands.proofs.InOrder.{
   Steady,
   tested,

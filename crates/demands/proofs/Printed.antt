@@ -15,9 +15,9 @@ use Rattle.format.specs.Form.{Bytes}
 use Rattle.format.specs.Ascii.{ascii}
 use Rattle.format.specs.Reading.{Reading}
 use Rattle.format.specs.ReadChunk.{Outcome, shown, refusal, read}
-use Rattle.rules.specs.Findings.{chunkFindings, verdict}
-use Rattle.listing_text.specs.Lines.{decimal, atPlace, firstLine, refusalLine}
-use Rattle.listing.specs.Listing.{listLimits, chunkLines, listed, listing}
+use Rattle.validate_rules.specs.Findings.{chunkFindings, verdict}
+use Rattle.chunklist_lines.specs.Lines.{decimal, atPlace, firstLine, refusalLine}
+use Rattle.chunklist_listing.specs.Listing.{listLimits, chunkLines, listed, listing}
 use Rattle.demands.proofs.Refused.{nothing-later, first, ofChunk, forChunk}
 use Rattle.demands.proofs.Demand1.{after, order}
 use Rattle.demands.proofs.Accepted.{Accepted, chunk-read}

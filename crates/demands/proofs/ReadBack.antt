@@ -30,17 +30,17 @@ use Rattle.format.specs.Reading as reading
 use Rattle.format.specs.Reading.{Reading, LocalVar}
 use Rattle.format.proofs.Every.{Every, any, every-then, every-is}
 use Rattle.format.proofs.Located.{StandsIf}
-use Rattle.reader.specs.declared.string.OptionString.{OptionString}
-use Rattle.reader.specs.declared.string.OptionString.the-variants as option
-use Rattle.reader.specs.Shown.{optionString}
-use Rattle.lists.specs.declared.constant.ConstantValue.{ConstantValue}
-use Rattle.lists.specs.declared.constant.ConstantValue.the-variants as constant
-use Rattle.lists.specs.Shown.{constantValue}
-use Rattle.header.specs.Shown.{firstWarning}
-use Rattle.decode.specs.Decoded.{shownWarnings}
-use Rattle.decode.specs.Inner.Decoded.{listOf}
-use Rattle.entries.proofs.Strings.{ConstantStands}
-use Rattle.access.specs.Asked.{Asked, found, refused, orRefuse}
+use Rattle.read_field.specs.declared.string.OptionString.{OptionString}
+use Rattle.read_field.specs.declared.string.OptionString.the-variants as option
+use Rattle.read_field.specs.Shown.{optionString}
+use Rattle.read_entry.specs.declared.constant.ConstantValue.{ConstantValue}
+use Rattle.read_entry.specs.declared.constant.ConstantValue.the-variants as constant
+use Rattle.read_entry.specs.Shown.{constantValue}
+use Rattle.read_header.specs.Shown.{firstWarning}
+use Rattle.read_chunk.specs.Decoded.{shownWarnings}
+use Rattle.read_chunk.specs.Inner.Decoded.{listOf}
+use Rattle.read_nth.proofs.Strings.{ConstantStands}
+use Rattle.show_row.specs.Asked.{Asked, found, refused, orRefuse}
 use Rattle.show_local.specs.declared.LocalAnswer.the-variants as local-answer
 use Rattle.show_local.specs.Locals.{shownLocal, nameWritten}
 use Rattle.demands.proofs.Calls.{shows}

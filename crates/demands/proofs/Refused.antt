@@ -19,18 +19,18 @@ use Rattle.format.specs.Limits.{withinCeilings}
 use Rattle.format.specs.Reading.{Reading, Prototype, LocalVar}
 use Rattle.format.specs.Read.{Read, ok, refused}
 use Rattle.format.specs.ReadChunk.{Outcome, shown, refusal, main, read}
-use Rattle.lines.specs.Lines.{large}
-use Rattle.opcodes.specs.declared.opcode.OptionOpcode54.{OptionOpcode54}
-use Rattle.opcodes.specs.declared.opcode.OptionOpcode54.the-variants as option
-use Rattle.opcodes.specs.Table.{modeOf}
-use Rattle.instructions.specs.declared.instruction.RawInstruction54.{RawInstruction54}
-use Rattle.instructions.proofs.Ranges.{inRange}
-use Rattle.instructions.specs.declared.instruction.Encoded.{Encoded}
-use Rattle.instructions.specs.declared.instruction.Encoded.the-variants as encoded
+use Rattle.line_lookup.specs.Lines.{large}
+use Rattle.word_opcodes.specs.declared.opcode.OptionOpcode54.{OptionOpcode54}
+use Rattle.word_opcodes.specs.declared.opcode.OptionOpcode54.the-variants as option
+use Rattle.word_opcodes.specs.Table.{modeOf}
+use Rattle.word_fields.specs.declared.instruction.RawInstruction54.{RawInstruction54}
+use Rattle.word_fields.proofs.Ranges.{inRange}
+use Rattle.word_fields.specs.declared.instruction.Encoded.{Encoded}
+use Rattle.word_fields.specs.declared.instruction.Encoded.the-variants as encoded
 use Rattle.index.specs.declared.IndexAnswer.{IndexAnswer}
 use Rattle.index.specs.declared.IndexAnswer.the-variants as index
-use Rattle.lines.specs.declared.line.LineAnswer.{LineAnswer}
-use Rattle.lines.specs.declared.line.LineAnswer.the-variants as line
+use Rattle.line_lookup.specs.declared.line.LineAnswer.{LineAnswer}
+use Rattle.line_lookup.specs.declared.line.LineAnswer.the-variants as line
 use Rattle.copy.specs.declared.whole.CopyAnswer.{CopyAnswer}
 use Rattle.copy.specs.declared.whole.CopyAnswer.the-variants as copy
 use Rattle.show_chunk.specs.declared.summary.SummaryAnswer.{SummaryAnswer}
@@ -51,12 +51,12 @@ use Rattle.show_entry.specs.declared.NameAnswer.{NameAnswer}
 use Rattle.show_entry.specs.declared.NameAnswer.the-variants as name
 use Rattle.show_local.specs.declared.LocalAnswer.{LocalAnswer}
 use Rattle.show_local.specs.declared.LocalAnswer.the-variants as local
-use Rattle.validator.specs.declared.verdict.VerdictAnswer.{VerdictAnswer}
-use Rattle.validator.specs.declared.verdict.VerdictAnswer.the-variants as verdict
-use Rattle.validator.specs.declared.verdict.CountAnswer.{CountAnswer}
-use Rattle.validator.specs.declared.verdict.CountAnswer.the-variants as count
-use Rattle.finding_plan.specs.declared.FindingsAnswer.{FindingsAnswer}
-use Rattle.finding_plan.specs.declared.FindingsAnswer.the-variants as findings
+use Rattle.validate_verdict.specs.declared.verdict.VerdictAnswer.{VerdictAnswer}
+use Rattle.validate_verdict.specs.declared.verdict.VerdictAnswer.the-variants as verdict
+use Rattle.validate_verdict.specs.declared.verdict.CountAnswer.{CountAnswer}
+use Rattle.validate_verdict.specs.declared.verdict.CountAnswer.the-variants as count
+use Rattle.validate_plan.specs.declared.FindingsAnswer.{FindingsAnswer}
+use Rattle.validate_plan.specs.declared.FindingsAnswer.the-variants as findings
 
 -- ## Conditions, in an order
 -- a refusal where a test fails, and where something is not there

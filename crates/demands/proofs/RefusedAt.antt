@@ -21,15 +21,15 @@ use Rattle.format.specs.Reading.{ConstantValue}
 use Rattle.format.specs.Read.{Read, ok, refused, Reader}
 use Rattle.format.specs.ReadFields as fields
 use Rattle.format.specs.ReadChunk as chunk
-use Rattle.reader.specs.Shown.{u8Result, u32Result, stringResult}
-use Rattle.lists.specs.Readers.{RawLocal, rawLocal}
-use Rattle.lists.specs.Shown.{constantResult, anchorResult, localResult}
-use Rattle.entries.specs.Shown.{upvalueResult}
-use Rattle.prototype.specs.Parts as parts
-use Rattle.prototype.specs.PartsShown.{headResult, tailResult}
-use Rattle.boundary.specs.Status.{limitsOf, Answer, refuses}
-use Rattle.parts_at.specs.PartNumbers.{ofHead, ofTail, ofWordAt, ofConstantAt, ofUpvalueAt, ofDeltaAt, ofAnchorAt, ofLocalAt, ofStringAt}
-use Rattle.parts_at.specs.PartNumbers.{headAt, tailAt, wordAt, constantAt, upvalueAt, deltaAt, anchorAt, localAt, stringAt}
+use Rattle.read_field.specs.Shown.{u8Result, u32Result, stringResult}
+use Rattle.read_entry.specs.Readers.{RawLocal, rawLocal}
+use Rattle.read_entry.specs.Shown.{constantResult, anchorResult, localResult}
+use Rattle.read_nth.specs.Shown.{upvalueResult}
+use Rattle.read_prototype.specs.Parts as parts
+use Rattle.read_prototype.specs.PartsShown.{headResult, tailResult}
+use Rattle.c_boundary.specs.Status.{limitsOf, Answer, refuses}
+use Rattle.c_parts.specs.PartNumbers.{ofHead, ofTail, ofWordAt, ofConstantAt, ofUpvalueAt, ofDeltaAt, ofAnchorAt, ofLocalAt, ofStringAt}
+use Rattle.c_parts.specs.PartNumbers.{headAt, tailAt, wordAt, constantAt, upvalueAt, deltaAt, anchorAt, localAt, stringAt}
 use Rattle.demands.proofs.Refused.{alone, unless, first, byReader}
 use Rattle.demands.proofs.ByC.{inAnswer, InC, law}
 

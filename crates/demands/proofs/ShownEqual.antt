@@ -11,12 +11,12 @@ use Rattle.format.specs.GrammarFields.{LuaString}
 use Rattle.format.specs.Reading as reading
 use Rattle.format.specs.Reading.{Reading, Prototype, LocalVar}
 use Rattle.format.proofs.Located.{StandsIf}
-use Rattle.reader.specs.Shown.{optionString}
-use Rattle.lists.specs.declared.constant.ConstantValue.{ConstantValue}
-use Rattle.lists.specs.Shown.{constantValue}
-use Rattle.entries.proofs.Strings.{ConstantStands}
-use Rattle.access.specs.Asked.{orRefuse}
-use Rattle.decode.specs.Decoded.{summaryOf}
+use Rattle.read_field.specs.Shown.{optionString}
+use Rattle.read_entry.specs.declared.constant.ConstantValue.{ConstantValue}
+use Rattle.read_entry.specs.Shown.{constantValue}
+use Rattle.read_nth.proofs.Strings.{ConstantStands}
+use Rattle.show_row.specs.Asked.{orRefuse}
+use Rattle.read_chunk.specs.Decoded.{summaryOf}
 use Rattle.show_chunk.specs.Fields.{fieldsOf}
 use Rattle.show_entry.specs.Entries.{shownConstant, shownName}
 use Rattle.show_local.specs.Locals.{shownLocal, nameWritten}

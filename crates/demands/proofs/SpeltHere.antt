@@ -18,10 +18,10 @@ use Rattle.format.specs.ReadFields.{number, content, string}
 use Rattle.format.proofs.Exact.{exact-give, exact-then, exact-atMost, exact-run}
 use Rattle.format.proofs.ExactFields.{exact-field, exact-number, exact-string}
 use Rattle.format.proofs.Located.{AtPlace, any, at-give, at-here, at-then}
-use Rattle.prototype.specs.Parts.{head}
-use Rattle.prototype.proofs.FrontAnswers.{exact-front}
-use Rattle.prototype.proofs.HeadAnswers.{exact-lists}
-use Rattle.counted.proofs.Within.{exact-protosCount}
+use Rattle.read_prototype.specs.Parts.{head}
+use Rattle.read_prototype.proofs.FrontAnswers.{exact-front}
+use Rattle.read_prototype.proofs.HeadAnswers.{exact-lists}
+use Rattle.read_list.proofs.Within.{exact-protosCount}
 
 abbrev pub Behind : ℕ → Option LuaString → Type 0
 Behind at none = Unit {0}

@@ -29,14 +29,14 @@ use Rattle.format.specs.Form.{Bytes, Below}
 use Rattle.format.specs.Reading.{Reading, Prototype}
 use Rattle.format.specs.ReadChunk.{shown, read}
 use Rattle.format.proofs.ReadChunkLaws.{read-sound}
-use Rattle.access.specs.Asked.{Asked, found, refused, orRefuse, functionOf, entryOf, entryIn}
+use Rattle.show_row.specs.Asked.{Asked, found, refused, orRefuse, functionOf, entryOf, entryIn}
 use Rattle.show_chunk.specs.declared.summary.SummaryAnswer.{SummaryAnswer}
 use Rattle.show_chunk.specs.declared.summary.SummaryAnswer.the-variants as summary-answer
 use Rattle.show_chunk.proofs.summary.chunk_summary as call
 use Rattle.show_chunk.proofs.summary.chunk_summary.Symbol as symbol
 use Rattle.show_chunk.proofs.summary.chunk_summary.Met as theorem
 use Rattle.show_chunk.specs.declared.fields.FieldsAnswer.the-variants as fields-answer
-use Rattle.decode.specs.Decoded.{summaryOf}
+use Rattle.read_chunk.specs.Decoded.{summaryOf}
 use Rattle.show_chunk.specs.Summaries.{shownSummary, trailingOf}
 use Rattle.show_chunk.specs.Fields.{fieldsOf, shownFields}
 use Rattle.show_entry.specs.Entries.{shownWord, shownConstant, shownUpvalue, shownDelta, shownAnchor, shownName}

@@ -22,14 +22,14 @@ use Rattle.format.specs.GrammarChunk.{outermost, Chunk}
 use Rattle.format.specs.ReadChunk.{function, main, Outcome, shown, read}
 use Rattle.format.proofs.ExactChunk.{exact-main}
 use Rattle.format.proofs.ReadChunkLaws.{read-sound, read-within}
-use Rattle.decode.specs.declared.summary.Summary.{Summary}
-use Rattle.decode.specs.declared.summary.JudgedResult.the-variants as judged
-use Rattle.decode.specs.Inner.Decoded.{judgedResult}
-use Rattle.decode.proofs.Summaries.{in-ceilings, input-ceiling}
-use Rattle.decode.proofs.MainAt.{WasShown, was-shown, was-refused, MainAt, main-at}
+use Rattle.read_chunk.specs.declared.summary.Summary.{Summary}
+use Rattle.read_chunk.specs.declared.summary.JudgedResult.the-variants as judged
+use Rattle.read_chunk.specs.Inner.Decoded.{judgedResult}
+use Rattle.read_chunk.proofs.Summaries.{in-ceilings, input-ceiling}
+use Rattle.read_chunk.proofs.MainAt.{WasShown, was-shown, was-refused, MainAt, main-at}
 use Rattle.index.specs.declared.IndexAnswer.the-variants as answer
 use Rattle.index.specs.Index.{index, shownIndex, indexWritten}
-use Rattle.lent.specs.Inner.Splice.{splice}
+use Rattle.slice.specs.Inner.Splice.{splice}
 use Rattle.index_row.specs.Inner.Stored.{COLUMNS, stored}
 use Rattle.index_walk.specs.Inner.Written.{Wrote}
 use Rattle.index.proofs.Small.{small-main, stored-index}

@@ -11,7 +11,7 @@ use lib.ListN.{length}
 use Rattle.format.specs.declared.refusal.Refusal.the-variants.{LentSpace}
 use Rattle.format.specs.Reading.{Prototype}
 use Rattle.format.specs.ReadChunk.{Outcome, shown, refusal}
-use Rattle.lent.specs.Over.{over}
+use Rattle.slice.specs.Over.{over}
 use Rattle.index.specs.declared.IndexAnswer.{IndexAnswer}
 use Rattle.index.specs.declared.IndexAnswer.the-variants as answer
 

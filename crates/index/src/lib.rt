@@ -3,15 +3,15 @@ ghost use mathlib.Core.Path.{_≡_};
 ghost use lib.ListN.{length};
 ghost use Rattle.format.specs.ReadChunk as format;
 ghost use Rattle.index.specs.Index.{shownIndex, indexWritten};
-use cursor::Cursor;
-use decode::MAIN_AT;
-use decode::summary::JudgedResult;
-use decode::summary::judge_chunk;
 use format::limits::ResourceLimits;
 use format::refusal::Refusal;
 use index_row::COLUMNS;
 use index_walk::write_function;
-use skim::walk::Skimmed;
+use read_chunk::MAIN_AT;
+use read_chunk::summary::JudgedResult;
+use read_chunk::summary::judge_chunk;
+use read_walk::walk::Skimmed;
+use slice::cursor::Cursor;
 
 // The number of functions, or why there is no index.
 pub enum IndexAnswer {

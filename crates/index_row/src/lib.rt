@@ -3,10 +3,10 @@ ghost use mathlib.Core.Path.{_≡_};
 ghost use mathlib.Core.List.{[], _∷_};
 ghost use Prim.Native.Nat.{_+_, _*_, _≤_};
 ghost use lib.ListN.{length};
-ghost use Rattle.lent.specs.Inner.Splice.{splice};
+ghost use Rattle.slice.specs.Inner.Splice.{splice};
 ghost use Rattle.index_row.specs.Inner.Stored.{COLUMNS, low, storedRow};
-use prototype::pass::HeadCounts;
-use prototype::pass::TailCounts;
+use read_prototype::pass::HeadCounts;
+use read_prototype::pass::TailCounts;
 
 // How many numbers an index has of each function.
 pub const COLUMNS: usize = 12;

@@ -16,21 +16,21 @@ use Rattle.format.specs.GrammarChunk.{Where}
 use Rattle.format.specs.Read.{Read, ok}
 use Rattle.format.specs.ReadChunk.{forest, function}
 use Rattle.format.proofs.Exact.{never}
-use Rattle.cursor.specs.declared.Cursor.{Cursor}
-use Rattle.prototype.specs.declared.pass.HeadCounts.{HeadCounts}
-use Rattle.prototype.specs.declared.pass.HeadCountsResult.the-variants as head-answer
-use Rattle.prototype.specs.declared.pass.TailCounts.{TailCounts}
-use Rattle.prototype.specs.declared.pass.TailCountsResult.the-variants as tail-answer
-use Rattle.prototype.specs.Inner.Counts.{headCountsResult, tailCountsResult}
-use Rattle.prototype.specs.Inner.Whole.{prototypeOf}
-use Rattle.skim.specs.declared.walk.Skimmed.{Skimmed}
-use Rattle.skim.specs.declared.walk.SkimResult.the-variants as skim
-use Rattle.skim.specs.Inner.Skim.{entered, on, skimResult}
-use Rattle.skim.proofs.OneFunction.{skim-err}
-use Rattle.skim.proofs.Passes.{begins, its-head, head-counts, first, inner, nested, ends, its-tail, tail-counted, function-read}
-use Rattle.skim.proofs.SoFar.{SoFar, starts, ended, goes-on, next-read}
-use Rattle.lent.specs.Inner.Splice.{splice}
-use Rattle.lent.proofs.Splices.{splice-none, splice-then, splice-before}
+use Rattle.slice.specs.declared.cursor.Cursor.{Cursor}
+use Rattle.read_prototype.specs.declared.pass.HeadCounts.{HeadCounts}
+use Rattle.read_prototype.specs.declared.pass.HeadCountsResult.the-variants as head-answer
+use Rattle.read_prototype.specs.declared.pass.TailCounts.{TailCounts}
+use Rattle.read_prototype.specs.declared.pass.TailCountsResult.the-variants as tail-answer
+use Rattle.read_prototype.specs.Inner.Counts.{headCountsResult, tailCountsResult}
+use Rattle.read_prototype.specs.Inner.Whole.{prototypeOf}
+use Rattle.read_walk.specs.declared.walk.Skimmed.{Skimmed}
+use Rattle.read_walk.specs.declared.walk.SkimResult.the-variants as skim
+use Rattle.read_walk.specs.Inner.Skim.{entered, on, skimResult}
+use Rattle.read_walk.proofs.OneFunction.{skim-err}
+use Rattle.read_walk.proofs.Passes.{begins, its-head, head-counts, first, inner, nested, ends, its-tail, tail-counted, function-read}
+use Rattle.read_walk.proofs.SoFar.{SoFar, starts, ended, goes-on, next-read}
+use Rattle.slice.specs.Inner.Splice.{splice}
+use Rattle.slice.proofs.Splices.{splice-none, splice-then, splice-before}
 use Rattle.index_row.specs.Inner.Stored.{COLUMNS, storedRow, storedFunction, stored}
 use Rattle.index_walk.specs.Inner.Written.{Wrote}
 

@@ -5,17 +5,17 @@ ghost use lib.ListN.{drop};
 ghost use Rattle.format.specs.Limits.{DEEPEST, MOST, Walkable};
 ghost use Rattle.format.specs.GrammarChunk as grammar;
 ghost use Rattle.format.specs.ReadChunk.{function};
-ghost use Rattle.skim.specs.Inner.Skim.{skimResult};
+ghost use Rattle.read_walk.specs.Inner.Skim.{skimResult};
 ghost use Rattle.index_walk.specs.Inner.Written.{Wrote};
 use format::limits::ResourceLimits;
 use format::refusal::Refusal;
 use index_row::put_row;
-use prototype::pass::HeadCountsResult;
-use prototype::pass::TailCountsResult;
-use prototype::pass::pass_head;
-use prototype::pass::pass_tail;
-use skim::walk::SkimResult;
-use skim::walk::Skimmed;
+use read_prototype::pass::HeadCountsResult;
+use read_prototype::pass::TailCountsResult;
+use read_prototype::pass::pass_head;
+use read_prototype::pass::pass_tail;
+use read_walk::walk::SkimResult;
+use read_walk::walk::Skimmed;
 
 // Passes over a function and all that nest in it, as `skim_function` does, and writes the row of each. Ruled out: rows in the order in which functions end, a row left out.
 pub fn write_function(

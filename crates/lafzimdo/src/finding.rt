@@ -1,12 +1,12 @@
-// The findings of a chunk in a lent list, as crate finding_list writes them.
+// The findings of a chunk in a lent list, as crate c_findings writes them.
 ghost use mathlib.Core.Path.{_≡_};
 ghost use Prim.Native.Nat.{_/_};
 ghost use lib.ListN.{length};
 ghost use Rattle.format.specs.ReadChunk.{read};
-ghost use Rattle.finding_plan.specs.Validated.{shownFindings};
-ghost use Rattle.boundary.specs.Status.{limitsOf, status, written};
-ghost use Rattle.finding_list.specs.FindingNumbers.{ofFindings, numbersWritten};
-use finding_list::list_findings;
+ghost use Rattle.validate_plan.specs.Validated.{shownFindings};
+ghost use Rattle.c_boundary.specs.Status.{limitsOf, status, written};
+ghost use Rattle.c_findings.specs.FindingNumbers.{ofFindings, numbersWritten};
+use c_findings::list_findings;
 
 // Validates a chunk: the verdict, the number of findings, and the findings in the lent list, four numbers each.
 // Ruled out: success that writes nothing, a refusal that writes, findings in another order.

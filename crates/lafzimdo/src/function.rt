@@ -1,17 +1,17 @@
 // A function's fields, and the line of an instruction.
 ghost use mathlib.Core.Path.{_≡_};
 ghost use Rattle.format.specs.ReadChunk.{read};
-ghost use Rattle.access.specs.Asked.{functionOf};
+ghost use Rattle.show_row.specs.Asked.{functionOf};
 ghost use Rattle.show_chunk.specs.Fields.{shownFields};
-ghost use Rattle.lines.specs.Lines.{shownLine};
-ghost use Rattle.boundary.specs.Status.{limitsOf, status, written};
-ghost use Rattle.numbers.specs.Numbers.{ofFields, ofLine};
-use boundary::limits_of;
-use boundary::one;
-use boundary::refused;
-use lines::line::LineAnswer;
-use lines::line::get_line_for_pc;
-use numbers::fields::fields_numbers;
+ghost use Rattle.line_lookup.specs.Lines.{shownLine};
+ghost use Rattle.c_boundary.specs.Status.{limitsOf, status, written};
+ghost use Rattle.c_numbers.specs.Numbers.{ofFields, ofLine};
+use c_boundary::limits_of;
+use c_boundary::one;
+use c_boundary::refused;
+use c_numbers::fields::fields_numbers;
+use line_lookup::line::LineAnswer;
+use line_lookup::line::get_line_for_pc;
 use show_chunk::fields::FieldsAnswer;
 use show_chunk::fields::function_fields;
 

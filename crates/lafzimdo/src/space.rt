@@ -2,20 +2,20 @@
 ghost use mathlib.Core.Path.{_≡_};
 ghost use lib.ListN.{length};
 ghost use Rattle.format.specs.ReadChunk.{read};
-ghost use Rattle.access.specs.Asked.{entryOf};
+ghost use Rattle.show_row.specs.Asked.{entryOf};
 ghost use Rattle.copy.specs.Copied.{shownCopy, copyWritten};
 ghost use Rattle.index.specs.Index.{shownIndex, indexWritten};
 ghost use Rattle.show_local.specs.Locals.{shownLocal, nameWritten};
-ghost use Rattle.boundary.specs.Status.{limitsOf, status, written};
-ghost use Rattle.numbers.specs.Numbers.{ofIndex, ofCopy, ofLocal};
-use boundary::limits_of;
-use boundary::one;
-use boundary::refused;
+ghost use Rattle.c_boundary.specs.Status.{limitsOf, status, written};
+ghost use Rattle.c_numbers.specs.Numbers.{ofIndex, ofCopy, ofLocal};
+use c_boundary::limits_of;
+use c_boundary::one;
+use c_boundary::refused;
+use c_numbers::entry::local_numbers;
 use copy::encode_chunk_lua54;
 use copy::whole::CopyAnswer;
 use index::IndexAnswer;
 use index::function_index;
-use numbers::entry::local_numbers;
 use show_local::LocalAnswer;
 use show_local::local;
 

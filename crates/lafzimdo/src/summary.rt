@@ -2,11 +2,11 @@
 ghost use mathlib.Core.Path.{_≡_};
 ghost use Rattle.format.specs.ReadChunk.{read};
 ghost use Rattle.show_chunk.specs.Summaries.{shownSummary};
-ghost use Rattle.boundary.specs.Status.{limitsOf, status, written};
-ghost use Rattle.numbers.specs.Numbers.{ofSummary};
-use boundary::limits_of;
-use boundary::refused;
-use numbers::summary::summary_numbers;
+ghost use Rattle.c_boundary.specs.Status.{limitsOf, status, written};
+ghost use Rattle.c_numbers.specs.Numbers.{ofSummary};
+use c_boundary::limits_of;
+use c_boundary::refused;
+use c_numbers::summary::summary_numbers;
 use show_chunk::summary::SummaryAnswer;
 use show_chunk::summary::chunk_summary;
 

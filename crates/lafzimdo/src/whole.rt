@@ -2,19 +2,19 @@
 ghost use mathlib.Core.Path.{_≡_};
 ghost use Rattle.format.specs.ReadChunk.{read};
 ghost use Rattle.copy.specs.Copied.{shownLength};
-ghost use Rattle.validator.specs.Answers.{shownVerdict, shownCount};
-ghost use Rattle.boundary.specs.Status.{limitsOf, status, written};
-ghost use Rattle.numbers.specs.Numbers.{ofCopy, ofVerdict, ofCount};
-use boundary::limits_of;
-use boundary::one;
-use boundary::refused;
+ghost use Rattle.validate_verdict.specs.Answers.{shownVerdict, shownCount};
+ghost use Rattle.c_boundary.specs.Status.{limitsOf, status, written};
+ghost use Rattle.c_numbers.specs.Numbers.{ofCopy, ofVerdict, ofCount};
+use c_boundary::limits_of;
+use c_boundary::one;
+use c_boundary::refused;
+use c_numbers::verdict_number;
 use copy::copy_length;
 use copy::whole::CopyAnswer;
-use numbers::verdict_number;
-use validator::verdict::CountAnswer;
-use validator::verdict::VerdictAnswer;
-use validator::verdict::chunk_verdict;
-use validator::verdict::finding_count;
+use validate_verdict::verdict::CountAnswer;
+use validate_verdict::verdict::VerdictAnswer;
+use validate_verdict::verdict::chunk_verdict;
+use validate_verdict::verdict::finding_count;
 
 // The length of the archive copy of a chunk. Ruled out: the length of the chunk itself, a length for a chunk that is refused.
 #[no_mangle]

@@ -1,14 +1,14 @@
 // Instruction words: their fields, and a word from its fields.
 ghost use mathlib.Core.Path.{_≡_};
-ghost use Rattle.instructions.specs.Word.{decoded, encoded};
-ghost use Rattle.boundary.specs.Status.{status, written};
-ghost use Rattle.numbers.specs.Words.{wordNumbers, spelt, ofEncoded};
-use boundary::one;
-use boundary::refused;
-use instructions::instruction::Encoded;
-use instructions::instruction::RawInstruction54;
-use numbers::word::word_numbers;
-use numbers::word::word_of;
+ghost use Rattle.word_fields.specs.Word.{decoded, encoded};
+ghost use Rattle.c_boundary.specs.Status.{status, written};
+ghost use Rattle.c_numbers.specs.Words.{wordNumbers, spelt, ofEncoded};
+use c_boundary::one;
+use c_boundary::refused;
+use c_numbers::word::word_numbers;
+use c_numbers::word::word_of;
+use word_fields::instruction::Encoded;
+use word_fields::instruction::RawInstruction54;
 
 // All fields of an instruction word, with its opcode and mode. Ruled out: B read where C stands, a mode for a number that is no opcode's.
 #[no_mangle]

@@ -14,9 +14,9 @@ use Rattle.format.specs.declared.header.Warning.the-variants.{NonStandardFormat
 use Rattle.format.specs.Limits.{ceilings}
 use Rattle.format.specs.ReadChunk.{body, function, Outcome, read}
 use Rattle.format.proofs.Distinct.{distinct}
-use Rattle.reader.specs.declared.string.OptionString.the-variants as string
-use Rattle.header.specs.declared.OptionWarning.the-variants as option
-use Rattle.access.specs.Asked.{functionOf}
+use Rattle.read_field.specs.declared.string.OptionString.the-variants as string
+use Rattle.read_header.specs.declared.OptionWarning.the-variants as option
+use Rattle.show_row.specs.Asked.{functionOf}
 use Rattle.show_chunk.specs.declared.fields.FieldsAnswer.{FieldsAnswer}
 use Rattle.show_chunk.specs.declared.fields.FieldsAnswer.the-variants as fields
 use Rattle.show_chunk.specs.declared.summary.SummaryAnswer.{SummaryAnswer}

@@ -5,11 +5,11 @@ use Prim.Native.Nat.{ℕ}
 use native.Mathlib.Omega.{arith}
 use Rattle.format.specs.declared.refusal.Refusal.{Refusal}
 use Rattle.format.specs.Reading.{Prototype}
-use Rattle.prototype.specs.declared.row.FunctionRow.{FunctionRow}
-use Rattle.prototype.specs.Inner.Row.{rowOf}
-use Rattle.access.specs.declared.row.RowAnswer.the-variants as row
-use Rattle.access.specs.Asked.{Asked, found, refused}
-use Rattle.access.specs.Inner.Places.{shownRowAnswer}
+use Rattle.read_prototype.specs.declared.row.FunctionRow.{FunctionRow}
+use Rattle.read_prototype.specs.Inner.Row.{rowOf}
+use Rattle.show_row.specs.declared.row.RowAnswer.the-variants as row
+use Rattle.show_row.specs.Asked.{Asked, found, refused}
+use Rattle.show_row.specs.Inner.Places.{shownRowAnswer}
 use Rattle.show_chunk.specs.declared.fields.FieldsAnswer.the-variants as fields
 use Rattle.show_chunk.specs.Fields.{shownFields}
 use Rattle.show_chunk.specs.Inner.Rows.{fieldsShown}

@@ -9,12 +9,12 @@ use Rattle.format.specs.declared.limits.ResourceLimits.{ResourceLimits}
 use Rattle.format.specs.declared.refusal.Refusal.{Refusal}
 use Rattle.format.specs.Form.{Bytes}
 use Rattle.format.specs.ReadChunk.{Outcome, shown, refusal, read}
-use Rattle.decode.specs.declared.summary.Summary.{Summary}
-use Rattle.decode.specs.declared.summary.JudgedResult.the-variants as judged
-use Rattle.decode.specs.Decoded.{summaryOf}
-use Rattle.decode.specs.Inner.Decoded.{judgedResult}
-use Rattle.decode.proofs.MainAt.{was-refused}
-use Rattle.access.proofs.Whole.{whole}
+use Rattle.read_chunk.specs.declared.summary.Summary.{Summary}
+use Rattle.read_chunk.specs.declared.summary.JudgedResult.the-variants as judged
+use Rattle.read_chunk.specs.Decoded.{summaryOf}
+use Rattle.read_chunk.specs.Inner.Decoded.{judgedResult}
+use Rattle.read_chunk.proofs.MainAt.{was-refused}
+use Rattle.show_row.proofs.Whole.{whole}
 use Rattle.show_chunk.specs.declared.summary.SummaryAnswer.the-variants as summary
 use Rattle.show_chunk.specs.Summaries.{shownSummary, trailingOf}
 

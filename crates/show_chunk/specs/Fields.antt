@@ -2,11 +2,11 @@
 use Prim.Native.Nat.{ℕ}
 use lib.ListN.{length}
 use Rattle.format.specs.Reading.{Prototype}
-use Rattle.reader.specs.Shown.{optionString}
+use Rattle.read_field.specs.Shown.{optionString}
 use Rattle.show_chunk.specs.declared.fields.FunctionFields.{FunctionFields}
 use Rattle.show_chunk.specs.declared.fields.FieldsAnswer.{FieldsAnswer}
 use Rattle.show_chunk.specs.declared.fields.FieldsAnswer.the-variants as fields
-use Rattle.access.specs.Asked.{Asked, found, refused}
+use Rattle.show_row.specs.Asked.{Asked, found, refused}
 
 abbrev pub fieldsOf : Prototype → FunctionFields
 fieldsOf p = record {

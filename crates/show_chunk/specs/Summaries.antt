@@ -2,7 +2,7 @@
 use mathlib.Core.List.{[]}
 use Rattle.format.specs.Form.{Bytes}
 use Rattle.format.specs.ReadChunk.{Outcome, shown, refusal}
-use Rattle.decode.specs.Decoded.{summaryOf}
+use Rattle.read_chunk.specs.Decoded.{summaryOf}
 use Rattle.show_chunk.specs.declared.summary.SummaryAnswer.{SummaryAnswer}
 use Rattle.show_chunk.specs.declared.summary.SummaryAnswer.the-variants as answer
 

@@ -3,11 +3,11 @@ ghost use mathlib.Core.Path.{_≡_};
 ghost use lib.ListN.{take, drop};
 ghost use Rattle.format.specs.ReadChunk.{read};
 ghost use Rattle.show_chunk.specs.Summaries.{trailingOf};
-use access::bytes::bytes_at;
-use access::bytes::bytes_from;
-use decode::summary::JudgedResult;
-use decode::summary::judge_chunk;
 use format::limits::ResourceLimits;
+use read_chunk::summary::JudgedResult;
+use read_chunk::summary::judge_chunk;
+use slice::bytes::bytes_at;
+use slice::bytes::bytes_from;
 
 // The bytes of a string by its place and length. Where the chunk does not reach so far they are those that are there: 01 leaves that answer free.
 // Ruled out: the string's size among its bytes, one byte too few.

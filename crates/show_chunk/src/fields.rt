@@ -1,15 +1,15 @@
 // A function's fields, by its number.
 ghost use mathlib.Core.Path.{_≡_};
 ghost use Rattle.format.specs.ReadChunk.{read};
-ghost use Rattle.access.specs.Asked.{functionOf};
+ghost use Rattle.show_row.specs.Asked.{functionOf};
 ghost use Rattle.show_chunk.specs.Fields.{shownFields};
 ghost use Rattle.show_chunk.specs.Inner.Rows.{fieldsShown};
-use access::row::RowAnswer;
-use access::row::function_row;
 use format::limits::ResourceLimits;
 use format::refusal::Refusal;
-use prototype::row::FunctionRow;
-use reader::string::OptionString;
+use read_field::string::OptionString;
+use read_prototype::row::FunctionRow;
+use show_row::row::RowAnswer;
+use show_row::row::function_row;
 
 // How many entries each list has, in the order of the file.
 pub struct Counts {

@@ -2,11 +2,11 @@
 ghost use mathlib.Core.Path.{_≡_};
 ghost use Rattle.format.specs.ReadChunk.{read};
 ghost use Rattle.show_chunk.specs.Summaries.{shownSummary};
-use decode::summary::JudgedResult;
-use decode::summary::Summary;
-use decode::summary::judge_chunk;
 use format::limits::ResourceLimits;
 use format::refusal::Refusal;
+use read_chunk::summary::JudgedResult;
+use read_chunk::summary::Summary;
+use read_chunk::summary::judge_chunk;
 
 pub enum SummaryAnswer {
     Ok(Summary),

@@ -13,10 +13,10 @@ use Rattle.format.specs.Limits.{ceilings}
 use Rattle.format.specs.Reading as reading
 use Rattle.format.specs.ReadChunk.{body, function, Outcome, read}
 use Rattle.format.proofs.Distinct.{distinct}
-use Rattle.reader.specs.declared.string.OptionString.the-variants as string
-use Rattle.lists.specs.declared.constant.ConstantValue.{ConstantValue}
-use Rattle.lists.specs.declared.constant.ConstantValue.the-variants as constant
-use Rattle.access.specs.Asked.{found, entryOf}
+use Rattle.read_field.specs.declared.string.OptionString.the-variants as string
+use Rattle.read_entry.specs.declared.constant.ConstantValue.{ConstantValue}
+use Rattle.read_entry.specs.declared.constant.ConstantValue.the-variants as constant
+use Rattle.show_row.specs.Asked.{found, entryOf}
 use Rattle.show_entry.specs.declared.WordAnswer.the-variants as word-answer
 use Rattle.show_entry.specs.declared.ConstantAnswer.the-variants as constant-answer
 use Rattle.show_entry.specs.declared.UpvalueAnswer.the-variants as upvalue-answer

@@ -7,8 +7,8 @@ use Rattle.format.specs.declared.entry.UpvalueDesc.{UpvalueDesc}
 use Rattle.format.specs.declared.entry.AbsLineInfo.{AbsLineInfo}
 use Rattle.format.specs.GrammarFields.{LuaString}
 use Rattle.format.specs.Reading as reading
-use Rattle.reader.specs.Shown.{optionString}
-use Rattle.lists.specs.Shown.{constantValue}
+use Rattle.read_field.specs.Shown.{optionString}
+use Rattle.read_entry.specs.Shown.{constantValue}
 use Rattle.show_entry.specs.declared.WordAnswer.{WordAnswer}
 use Rattle.show_entry.specs.declared.WordAnswer.the-variants as word-answer
 use Rattle.show_entry.specs.declared.ConstantAnswer.{ConstantAnswer}
@@ -21,7 +21,7 @@ use Rattle.show_entry.specs.declared.AnchorAnswer.{AnchorAnswer}
 use Rattle.show_entry.specs.declared.AnchorAnswer.the-variants as anchor-answer
 use Rattle.show_entry.specs.declared.NameAnswer.{NameAnswer}
 use Rattle.show_entry.specs.declared.NameAnswer.the-variants as name-answer
-use Rattle.access.specs.Asked.{Asked, found, refused}
+use Rattle.show_row.specs.Asked.{Asked, found, refused}
 
 abbrev pub shownWord : Asked ℕ → WordAnswer
 shownWord (found w) = word-answer.Ok w

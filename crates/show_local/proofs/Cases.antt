@@ -14,7 +14,7 @@ use Rattle.format.specs.Limits.{ceilings}
 use Rattle.format.specs.Reading.{LocalVar}
 use Rattle.format.specs.ReadChunk.{body, function, read}
 use Rattle.format.proofs.Distinct.{distinct}
-use Rattle.access.specs.Asked.{Asked, entryOf}
+use Rattle.show_row.specs.Asked.{Asked, entryOf}
 use Rattle.show_local.specs.declared.LocalAnswer.{LocalAnswer}
 use Rattle.show_local.specs.declared.LocalAnswer.the-variants.{Ok, Err}
 use Rattle.show_local.specs.Locals.{shownLocal, nameWritten}

@@ -19,29 +19,29 @@ use Rattle.format.specs.Reading.{LocalVar}
 use Rattle.format.specs.Read.{Read, ok}
 use Rattle.format.specs.ReadChunk.{read}
 use Rattle.format.proofs.Located.{StandsIf}
-use Rattle.cursor.specs.declared.Cursor.{Cursor}
-use Rattle.reader.specs.declared.string.OptionString.{OptionString}
-use Rattle.reader.specs.declared.string.OptionString.the-variants as string
-use Rattle.reader.specs.declared.string.StringAt.{StringAt}
-use Rattle.reader.specs.Shown.{optionString}
-use Rattle.lists.specs.declared.debug.LocalResult.the-variants as raw
-use Rattle.lists.specs.Readers.{RawLocal}
-use Rattle.lists.specs.Inner.Counts.{named}
-use Rattle.lists.specs.Shown as lists
-use Rattle.lent.specs.Inner.Splice.{splice}
-use Rattle.lent.proofs.Splices.{splice-front, splice-set}
-use Rattle.entries.specs.Inner.Nth.{localAt}
-use Rattle.entries.proofs.Items.{LocalFound, local-nth}
-use Rattle.entries.proofs.Strings.{local-stands}
+use Rattle.slice.specs.declared.cursor.Cursor.{Cursor}
+use Rattle.read_field.specs.declared.string.OptionString.{OptionString}
+use Rattle.read_field.specs.declared.string.OptionString.the-variants as string
+use Rattle.read_field.specs.declared.string.StringAt.{StringAt}
+use Rattle.read_field.specs.Shown.{optionString}
+use Rattle.read_entry.specs.declared.debug.LocalResult.the-variants as raw
+use Rattle.read_entry.specs.Readers.{RawLocal}
+use Rattle.read_entry.specs.Inner.Counts.{named}
+use Rattle.read_entry.specs.Shown as lists
+use Rattle.slice.specs.Inner.Splice.{splice}
+use Rattle.slice.proofs.Splices.{splice-front, splice-set}
+use Rattle.read_nth.specs.Inner.Nth.{localAt}
+use Rattle.read_nth.proofs.Items.{LocalFound, local-nth}
+use Rattle.read_nth.proofs.Strings.{local-stands}
 use Rattle.show_local.specs.declared.LocalAnswer.{LocalAnswer}
 use Rattle.show_local.specs.declared.LocalAnswer.the-variants as answer
-use Rattle.access.specs.declared.place.EntryKind.the-variants as kind
-use Rattle.access.specs.declared.place.PlaceAnswer.the-variants as place
-use Rattle.access.specs.Asked.{Asked, found, refused, functionOf, entryOf}
+use Rattle.show_row.specs.declared.place.EntryKind.the-variants as kind
+use Rattle.show_row.specs.declared.place.PlaceAnswer.the-variants as place
+use Rattle.show_row.specs.Asked.{Asked, found, refused, functionOf, entryOf}
 use Rattle.show_local.specs.Locals.{shownLocal, nameWritten}
 use Rattle.show_local.specs.Inner.Names.{nameLength, nameBytes, Stands}
-use Rattle.access.specs.Inner.Places.{shownPlace}
-use Rattle.access.proofs.Found.{entry-refused, entry-there}
+use Rattle.show_row.specs.Inner.Places.{shownPlace}
+use Rattle.show_row.proofs.Found.{entry-refused, entry-there}
 
 -- the name of a variable, as it is spelt and as it is shown
 record SameName (s : Bytes) (name : OptionString) (l : LocalVar) : Type 0 where

@@ -6,10 +6,10 @@ use lib.ListN.{length}
 use Rattle.format.specs.declared.refusal.Refusal.the-variants.{LentSpace}
 use Rattle.format.specs.Form.{Bytes}
 use Rattle.format.specs.Reading.{LocalVar}
-use Rattle.lent.specs.Over.{over}
+use Rattle.slice.specs.Over.{over}
 use Rattle.show_local.specs.declared.LocalAnswer.{LocalAnswer}
 use Rattle.show_local.specs.declared.LocalAnswer.the-variants as answer
-use Rattle.access.specs.Asked.{Asked, found, refused}
+use Rattle.show_row.specs.Asked.{Asked, found, refused}
 
 -- `space` is how much is lent
 abbrev pub shownLocal : ℕ → Asked LocalVar → LocalAnswer

@@ -4,18 +4,18 @@ ghost use mathlib.Core.List.{_++_};
 ghost use Prim.Native.Nat.{_≤_};
 ghost use lib.ListN.{length, drop};
 ghost use Rattle.format.specs.ReadChunk.{read};
-ghost use Rattle.access.specs.Asked.{entryOf};
+ghost use Rattle.show_row.specs.Asked.{entryOf};
 ghost use Rattle.show_local.specs.Locals.{shownLocal, nameWritten};
 ghost use Rattle.show_local.specs.Inner.Names.{nameLength, nameBytes, Stands};
-use access::place::EntryKind;
-use access::place::PlaceAnswer;
-use access::place::entry_list;
-use entries::debug::nth_local;
 use format::limits::ResourceLimits;
 use format::refusal::Refusal;
-use lent::copy_bytes;
-use lists::debug::LocalResult;
-use reader::string::OptionString;
+use read_entry::debug::LocalResult;
+use read_field::string::OptionString;
+use read_nth::debug::nth_local;
+use show_row::place::EntryKind;
+use show_row::place::PlaceAnswer;
+use show_row::place::entry_list;
+use slice::lent::copy_bytes;
 
 // The length of the name, which stands at the front of the lent space, and the instructions between which the variable lives.
 pub enum LocalAnswer {

@@ -10,8 +10,8 @@ use lafzimdo::summary::lafzimdo_summary;
 use lafzimdo::whole::lafzimdo_copy_length;
 use lafzimdo::whole::lafzimdo_finding_count;
 use lafzimdo::whole::lafzimdo_verdict;
-use text::list;
-use text::list::Numbers;
+use text_read::list;
+use text_read::list::Numbers;
 
 // What is returned, and where that is 0 the numbers behind it.
 pub fn one(got: &mut Numbers, at: usize, status: u64, a: u64) -> usize {

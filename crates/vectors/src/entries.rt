@@ -9,9 +9,9 @@ use lafzimdo::entry::lafzimdo_delta;
 use lafzimdo::entry::lafzimdo_instruction;
 use lafzimdo::entry::lafzimdo_upvalue;
 use lafzimdo::entry::lafzimdo_upvalue_name;
-use text::list;
-use text::list::Numbers;
-use text::spelt::BAD;
+use text_read::list;
+use text_read::list::Numbers;
+use text_read::spelt::BAD;
 
 fn instruction(
     chunk: &[u8],

@@ -6,8 +6,8 @@ use lafzimdo::finding::lafzimdo_findings;
 use lafzimdo::space::lafzimdo_copy;
 use lafzimdo::space::lafzimdo_index;
 use lafzimdo::space::lafzimdo_local;
-use text::list;
-use text::list::Numbers;
+use text_read::list;
+use text_read::list::Numbers;
 
 pub fn copy(
     chunk: &[u8],

@@ -1,7 +1,7 @@
 // Asks the exported calls what the lines on standard input ask, and compares the answers with those that the lines give (docs/PROTOCOL.md). A line of output for each difference, and last how
 // many agree and how many differ.
 ghost use lib.ListN.{length};
-ghost use Rattle.text.specs.Inner.Lines.{Within};
+ghost use Rattle.text_read.specs.Inner.Lines.{Within};
 
 mod calls;
 mod entries;
@@ -10,20 +10,20 @@ mod records;
 mod report;
 mod words;
 
-use compare_lists::Tally;
-use compare_lists::agrees;
-use compare_lists::counted;
-use compare_lists::differed;
-use text::hex;
-use text::hex::Length;
-use text::line as input;
-use text::line::Found;
-use text::line::LONGEST;
-use text::line::Lines;
-use text::line::Step;
-use text::list::Numbers;
-use text::spelt;
-use text::token;
+use text_read::hex;
+use text_read::hex::Length;
+use text_read::line as input;
+use text_read::line::Found;
+use text_read::line::LONGEST;
+use text_read::line::Lines;
+use text_read::line::Step;
+use text_read::list::Numbers;
+use text_read::spelt;
+use text_read::token;
+use vectors_compare::Tally;
+use vectors_compare::agrees;
+use vectors_compare::counted;
+use vectors_compare::differed;
 
 type Chunk = [u8; 65536];
 

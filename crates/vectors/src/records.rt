@@ -1,17 +1,17 @@
-// The findings as records, in the list that `findings::validate_chunk_lua54` fills: no call behind C, but the form that a caller in Rattle has.
-use boundary::limits_of;
-use boundary::refused;
-use boundary::signed::complement_of;
-use finding_array::chunk_findings;
-use finding_plan::FindingsAnswer;
-use numbers::verdict_number;
-use rules::finding::Finding;
-use rules::finding::Rule;
-use rules::finding::Severity;
-use rules::finding::Verdict;
-use text::list;
-use text::list::Numbers;
-use validator::tally::severity;
+// The findings as records, in the list that `validate_findings::validate_chunk_lua54` fills: no call behind C, but the form that a caller in Rattle has.
+use c_boundary::limits_of;
+use c_boundary::refused;
+use c_boundary::signed::complement_of;
+use c_numbers::verdict_number;
+use text_read::list;
+use text_read::list::Numbers;
+use validate_findings::array::chunk_findings;
+use validate_plan::FindingsAnswer;
+use validate_rules::finding::Finding;
+use validate_rules::finding::Rule;
+use validate_rules::finding::Severity;
+use validate_rules::finding::Verdict;
+use validate_verdict::tally::severity;
 
 type Records = [Finding; 10001];
 

@@ -1,10 +1,10 @@
 // What is printed: a line for each difference, and last how many answers agreed.
-ghost use Rattle.print.specs.Output.{Fits};
-use compare_lists::Tally;
-use compare_lists::first_difference;
-use print::Out;
-use print::ROOM;
-use text::list;
+ghost use Rattle.text_print.specs.Output.{Fits};
+use text_print::Out;
+use text_print::ROOM;
+use text_read::list;
+use vectors_compare::Tally;
+use vectors_compare::first_difference;
 
 // A number of a list behind its label, or that there is none.
 fn number(out: &mut Out, used: usize, label: &[u8], numbers: &[u64], at: usize) -> usize
@@ -12,27 +12,27 @@ fn number(out: &mut Out, used: usize, label: &[u8], numbers: &[u64], at: usize) 
     ensures { λ r. ⌜ Fits r ⌝ }
 {
     if at < numbers.len() {
-        return print::field(out, used, label, numbers[at]);
+        return text_print::field(out, used, label, numbers[at]);
     }
-    let used = print::text(out, used, label);
-    print::text(out, used, b"nothing")
+    let used = text_print::text(out, used, label);
+    text_print::text(out, used, b"nothing")
 }
 
 // The first number that differs: its place, and what it is in each list.
 fn first(out: &mut Out, line: u64, want: &[u64], got: &[u64]) {
     let at = first_difference(want, got);
-    let used = print::field(out, 0, b"line ", line);
-    let used = print::field(out, used, b", number ", at as u64);
+    let used = text_print::field(out, 0, b"line ", line);
+    let used = text_print::field(out, used, b", number ", at as u64);
     let used = number(out, used, b": expected ", want, at);
     let used = number(out, used, b", found ", got, at);
-    let used = print::text(out, used, b"\n");
-    print::flush(out, used);
+    let used = text_print::text(out, used, b"\n");
+    text_print::flush(out, used);
 }
 
 fn note(out: &mut Out, line: u64, why: &[u8]) {
-    let used = print::field(out, 0, b"line ", line);
-    let used = print::text(out, used, why);
-    print::flush(out, used);
+    let used = text_print::field(out, 0, b"line ", line);
+    let used = text_print::text(out, used, why);
+    text_print::flush(out, used);
 }
 
 pub fn no_request(line: u64) {
@@ -73,8 +73,8 @@ pub fn totals(t: Tally) {
 }
 
 fn sum(out: &mut Out, t: Tally) {
-    let used = print::decimal(out, 0, t.agree);
-    let used = print::field(out, used, b" agree, ", t.differ);
-    let used = print::text(out, used, b" differ\n");
-    print::flush(out, used);
+    let used = text_print::decimal(out, 0, t.agree);
+    let used = text_print::field(out, used, b" agree, ", t.differ);
+    let used = text_print::text(out, used, b" differ\n");
+    text_print::flush(out, used);
 }

@@ -2,8 +2,8 @@
 use crate::calls::one;
 use lafzimdo::word::lafzimdo_decode;
 use lafzimdo::word::lafzimdo_encode;
-use text::list;
-use text::list::Numbers;
+use text_read::list;
+use text_read::list::Numbers;
 
 // An argument, and its low bits.
 fn argument(f: &Numbers, i: usize) -> u64 {

@@ -12,8 +12,8 @@ use Rattle.format.specs.Reading.{Prototype, Reading}
 use Rattle.format.specs.Read.{Read, ok, refused}
 use Rattle.format.specs.ReadChunk.{Outcome, shown}
 use Rattle.format.specs.Copy.{fieldBytes, functionsBytes, headerBytes, upvaluesOfMain, copy}
-use Rattle.lent.specs.Inner.Splice.{splice}
-use Rattle.encode.specs.Inner.Put.{Put}
+use Rattle.slice.specs.Inner.Splice.{splice}
+use Rattle.copy_put.specs.Inner.Put.{Put}
 use Rattle.copy.specs.declared.whole.CopyAnswer.{CopyAnswer}
 use Rattle.copy.specs.declared.whole.CopyAnswer.the-variants as answer
 use Rattle.copy.specs.Copied.{shownLength}

@@ -5,12 +5,12 @@ use mathlib.Core.Path.{_≡_}
 use Prim.Native.Nat.{ℕ}
 use Rattle.format.specs.Form.{Bytes}
 use Rattle.format.specs.Read.{Read, ok, refused}
-use Rattle.cursor.specs.Shown.{cursorAt}
-use Rattle.skim.specs.declared.walk.Skimmed.{Skimmed}
-use Rattle.skim.specs.declared.walk.SkimResult.{SkimResult}
-use Rattle.skim.specs.declared.walk.SkimResult.the-variants as skim
-use Rattle.prototype.specs.Parts.{Tail}
-use Rattle.encode.specs.Inner.Put.{Put}
+use Rattle.slice.specs.Shown.{cursorAt}
+use Rattle.read_walk.specs.declared.walk.Skimmed.{Skimmed}
+use Rattle.read_walk.specs.declared.walk.SkimResult.{SkimResult}
+use Rattle.read_walk.specs.declared.walk.SkimResult.the-variants as skim
+use Rattle.read_prototype.specs.Parts.{Tail}
+use Rattle.copy_put.specs.Inner.Put.{Put}
 use Rattle.copy_parts.specs.Inner.Parts.{tailBytes}
 
 pub record PutsTail (o : Read Tail) (at : ℕ) (l : Bytes) (len : ℕ) (l′ : Bytes) : Type 0 where

@@ -11,9 +11,9 @@ use Rattle.format.specs.GrammarFields.{LuaString}
 use Rattle.format.specs.Reading.{Prototype}
 use Rattle.format.specs.Shortest.{shortest}
 use Rattle.format.specs.Copy.{fieldBytes, optionBytes, constantBytes, upvalueBytes, anchorBytes, localBytes, listBytes, behindSource, nest}
-use Rattle.prototype.specs.declared.front.Lines.{Lines}
-use Rattle.prototype.specs.declared.front.Sizes.{Sizes}
-use Rattle.prototype.specs.Parts.{HeadLists, Head, Tail}
+use Rattle.read_prototype.specs.declared.front.Lines.{Lines}
+use Rattle.read_prototype.specs.declared.front.Sizes.{Sizes}
+use Rattle.read_prototype.specs.Parts.{HeadLists, Head, Tail}
 
 abbrev pub sourceBytes : Bool → Option LuaString → Bytes
 sourceBytes named t = optionBytes (cond named t none)

@@ -9,17 +9,17 @@ use lib.ListN.{drop}
 use Rattle.format.specs.declared.limits.ResourceLimits.{ResourceLimits}
 use Rattle.format.specs.Form.{Bytes, Below}
 use Rattle.format.specs.Read.{Read, ok, Reader, many}
-use Rattle.cursor.specs.declared.Cursor.{Cursor}
-use Rattle.cursor.specs.declared.CursorResult.{CursorResult}
-use Rattle.cursor.specs.declared.CursorResult.the-variants as cursor
-use Rattle.counted.specs.declared.ListResult.{ListResult}
-use Rattle.counted.specs.declared.ListResult.the-variants as list
-use Rattle.prototype.specs.declared.parts.HeadLists as declared-lists
-use Rattle.prototype.specs.declared.parts.HeadListsResult.{HeadListsResult}
-use Rattle.prototype.specs.declared.parts.HeadListsResult.the-variants as lists-answer
-use Rattle.prototype.specs.Parts.{HeadLists, headLists, Head}
-use Rattle.prototype.specs.PartsShown.{listsOf}
-use Rattle.encode.specs.Inner.Put.{Put, PutsAll}
+use Rattle.slice.specs.declared.cursor.Cursor.{Cursor}
+use Rattle.slice.specs.declared.cursor.CursorResult.{CursorResult}
+use Rattle.slice.specs.declared.cursor.CursorResult.the-variants as cursor
+use Rattle.read_list.specs.declared.ListResult.{ListResult}
+use Rattle.read_list.specs.declared.ListResult.the-variants as list
+use Rattle.read_prototype.specs.declared.parts.HeadLists as declared-lists
+use Rattle.read_prototype.specs.declared.parts.HeadListsResult.{HeadListsResult}
+use Rattle.read_prototype.specs.declared.parts.HeadListsResult.the-variants as lists-answer
+use Rattle.read_prototype.specs.Parts.{HeadLists, headLists, Head}
+use Rattle.read_prototype.specs.PartsShown.{listsOf}
+use Rattle.copy_put.specs.Inner.Put.{Put, PutsAll}
 use Rattle.copy_parts.specs.Inner.Parts.{listsBytes, headBytes}
 
 abbrev pub nextOf : CursorResult → ℕ

@@ -6,8 +6,8 @@ use Prim.Native.Nat.{ℕ, suc, _-_, _≤_}
 use lib.ListN.{length, take, drop}
 use Rattle.format.specs.Form.{Bytes}
 use Rattle.format.specs.Shortest.{shortest}
-use Rattle.lists.specs.declared.constant.ConstantValue.{ConstantValue}
-use Rattle.lists.specs.declared.constant.ConstantValue.the-variants.{Nil, Boolean, Integer, Float, ShortString, LongString}
+use Rattle.read_entry.specs.declared.constant.ConstantValue.{ConstantValue}
+use Rattle.read_entry.specs.declared.constant.ConstantValue.the-variants.{Nil, Boolean, Integer, Float, ShortString, LongString}
 
 abbrev pub Stood : Bytes → ℕ → ℕ → ConstantValue → Type 0
 Stood s first end (ShortString t) = t .len ≤ length s - t .place

@@ -8,7 +8,7 @@ use Rattle.format.specs.Form.{Bytes}
 use Rattle.format.specs.Reading.{Prototype}
 use Rattle.format.specs.Read.{Read, ok}
 use Rattle.format.specs.Copy.{upvaluesOfMain}
-use Rattle.encode.specs.Inner.Put.{Put}
+use Rattle.copy_put.specs.Inner.Put.{Put}
 use Rattle.copy_parts.specs.Inner.Parts.{functionBytes}
 
 pub record PutsFunction (named : Bool) (o : Read (List Prototype)) (l : Bytes) (upvalues len : ℕ) (l′ : Bytes) : Type 0 where

@@ -2,7 +2,7 @@
 use native.Mathlib.Omega.{arith}
 use lib.ListN.{length-set}
 use borrow.Author.Needs.{needs}
-use Rattle.lent.proofs.Splices.{splice-four}
+use Rattle.slice.proofs.Splices.{splice-four}
 use Rattle.index_row.proofs.put_four.Statement.{statement}
 use Rattle.index_row.proofs.put_four.Tie as tie
 

@@ -2,7 +2,7 @@
 use Prim.Native.Nat.{_*_}
 use native.Mathlib.Omega.{arith}
 use borrow.Author.Needs.{needs}
-use Rattle.lent.proofs.Splices.{splice-three}
+use Rattle.slice.proofs.Splices.{splice-three}
 use Rattle.index_row.specs.Inner.Stored.{COLUMNS}
 use Rattle.index_row.proofs.put_row.Statement.{statement}
 use Rattle.index_row.proofs.put_row.Tie as tie

@@ -7,8 +7,8 @@ use mathlib.Core.List.{List, [], _∷_, _++_, map}
 use Prim.Native.Nat.{ℕ, _%_}
 use lib.ListN.{length}
 use Rattle.format.specs.Reading.{Prototype}
-use Rattle.prototype.specs.declared.pass.HeadCounts.{HeadCounts}
-use Rattle.prototype.specs.declared.pass.TailCounts.{TailCounts}
+use Rattle.read_prototype.specs.declared.pass.HeadCounts.{HeadCounts}
+use Rattle.read_prototype.specs.declared.pass.TailCounts.{TailCounts}
 
 abbrev pub COLUMNS : ℕ
 COLUMNS = 12

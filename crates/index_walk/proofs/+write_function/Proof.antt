@@ -12,23 +12,23 @@ use borrow.Fn.PlainCycle.{Measures, is, falls, and}
 use Rattle.format.specs.GrammarChunk.{Where}
 use Rattle.format.specs.ReadChunk.{function}
 use Rattle.format.specs.declared.refusal.Refusal.{Refusal}
-use Rattle.cursor.specs.declared.Cursor.{Cursor}
-use Rattle.prototype.specs.declared.pass.HeadCounts.{HeadCounts}
-use Rattle.prototype.specs.declared.pass.HeadCountsResult.the-variants as head-answer
-use Rattle.prototype.specs.Parts as parts
-use Rattle.prototype.specs.Inner.Counts.{headCountsResult}
-use Rattle.skim.specs.declared.walk.Skimmed.{Skimmed}
-use Rattle.skim.specs.declared.walk.SkimResult.the-variants as skim
-use Rattle.skim.specs.Inner.Skim.{on, skimResult}
-use Rattle.skim.proofs.HeadTail.{counts-total}
-use Rattle.skim.proofs.Passes as passes
-use Rattle.skim.proofs.SoFar as so-far
+use Rattle.slice.specs.declared.cursor.Cursor.{Cursor}
+use Rattle.read_prototype.specs.declared.pass.HeadCounts.{HeadCounts}
+use Rattle.read_prototype.specs.declared.pass.HeadCountsResult.the-variants as head-answer
+use Rattle.read_prototype.specs.Parts as parts
+use Rattle.read_prototype.specs.Inner.Counts.{headCountsResult}
+use Rattle.read_walk.specs.declared.walk.Skimmed.{Skimmed}
+use Rattle.read_walk.specs.declared.walk.SkimResult.the-variants as skim
+use Rattle.read_walk.specs.Inner.Skim.{on, skimResult}
+use Rattle.read_walk.proofs.HeadTail.{counts-total}
+use Rattle.read_walk.proofs.Passes as passes
+use Rattle.read_walk.proofs.SoFar as so-far
 use Rattle.index_walk.proofs.Rows.{refuses, function-wrote, Behind, starts-behind, ends-behind, on-behind}
 use Rattle.index_walk.proofs.write_function.Reads as write-function
 use Rattle.index_walk.proofs.write_function.Kinds as write-function-kinds
 use Rattle.index_walk.proofs.+write_function.Lts-write_function as write-function-lts
-use Rattle.prototype.proofs.pass.pass_head.Reads as pass-head-reads
-use Rattle.prototype.proofs.pass.pass_tail.Reads as pass-tail-reads
+use Rattle.read_prototype.proofs.pass.pass_head.Reads as pass-head-reads
+use Rattle.read_prototype.proofs.pass.pass_tail.Reads as pass-tail-reads
 use Rattle.index_row.proofs.put_row.Reads as put-row-reads
 use Rattle.index_walk.proofs.+write_function.{statement}
 use Rattle.index_walk.proofs.+write_function.Tie.{close}

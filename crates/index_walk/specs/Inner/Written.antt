@@ -8,7 +8,7 @@ use Rattle.format.specs.Form.{Bytes}
 use Rattle.format.specs.Reading.{Prototype}
 use Rattle.format.specs.GrammarChunk as grammar
 use Rattle.format.specs.Read.{Read, ok}
-use Rattle.lent.specs.Inner.Splice.{splice}
+use Rattle.slice.specs.Inner.Splice.{splice}
 use Rattle.index_row.specs.Inner.Stored.{COLUMNS, stored}
 
 pub record Wrote (w : grammar.Where) (o : Read (List Prototype)) (l l′ : List ℕ) : Type 0 where

@@ -1,5 +1,5 @@
 -- A function's fields, of its row.
-use Rattle.prototype.specs.declared.row.FunctionRow.{FunctionRow}
+use Rattle.read_prototype.specs.declared.row.FunctionRow.{FunctionRow}
 use Rattle.show_chunk.specs.declared.fields.FunctionFields.{FunctionFields}
 
 abbrev pub fieldsShown : FunctionRow → FunctionFields

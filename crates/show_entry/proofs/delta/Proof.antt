@@ -3,13 +3,13 @@ use mathlib.Core.Path.{refl, sym, _∙_, ap}
 use borrow.Author.Needs.{needs}
 use lib.ListN.{length}
 use Rattle.format.specs.ReadChunk.{read}
-use Rattle.reader.specs.Shown.{u8Result}
-use Rattle.entries.specs.Inner.Nth.{byteAt}
-use Rattle.entries.proofs.Items.{run-nth}
-use Rattle.access.specs.declared.place.EntryKind.the-variants as kind
+use Rattle.read_field.specs.Shown.{u8Result}
+use Rattle.read_nth.specs.Inner.Nth.{byteAt}
+use Rattle.read_nth.proofs.Items.{run-nth}
+use Rattle.show_row.specs.declared.place.EntryKind.the-variants as kind
 use Rattle.show_entry.specs.Entries.{shownDelta}
 use Rattle.show_entry.specs.Inner.Results.{deltaOf}
-use Rattle.access.proofs.Found.{entry-refused, entry-shown}
+use Rattle.show_row.proofs.Found.{entry-refused, entry-shown}
 use Rattle.show_entry.proofs.delta.Statement.{statement}
 use Rattle.show_entry.proofs.delta.Tie as tie
 

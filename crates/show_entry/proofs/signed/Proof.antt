@@ -2,7 +2,7 @@
 use native.Mathlib.Omega.{arith}
 use borrow.Author.Needs.{needs}
 use mir.Syntax.{w8}
-use Rattle.lists.proofs.Signed.{negative-fits, negative-is}
+use Rattle.read_entry.proofs.Signed.{negative-fits, negative-is}
 use Rattle.show_entry.proofs.signed.Statement.{statement}
 use Rattle.show_entry.proofs.signed.Tie as tie
 

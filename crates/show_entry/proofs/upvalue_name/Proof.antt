@@ -4,13 +4,13 @@ use borrow.Author.Needs.{needs}
 use lib.ListN.{length}
 use Rattle.format.specs.ReadFields.{string}
 use Rattle.format.specs.ReadChunk.{read}
-use Rattle.reader.specs.Shown.{stringResult}
-use Rattle.entries.specs.Inner.Nth.{entryAt}
-use Rattle.entries.proofs.Items.{many-nth}
-use Rattle.access.specs.declared.place.EntryKind.the-variants as kind
+use Rattle.read_field.specs.Shown.{stringResult}
+use Rattle.read_nth.specs.Inner.Nth.{entryAt}
+use Rattle.read_nth.proofs.Items.{many-nth}
+use Rattle.show_row.specs.declared.place.EntryKind.the-variants as kind
 use Rattle.show_entry.specs.Entries.{shownName}
 use Rattle.show_entry.specs.Inner.Results.{nameOf}
-use Rattle.access.proofs.Found.{entry-refused, entry-shown}
+use Rattle.show_row.proofs.Found.{entry-refused, entry-shown}
 use Rattle.show_entry.proofs.upvalue_name.Statement.{statement}
 use Rattle.show_entry.proofs.upvalue_name.Tie as tie
 

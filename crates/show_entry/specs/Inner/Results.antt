@@ -1,18 +1,18 @@
 -- What is shown of an entry, of what was read.
 use mir.Syntax.{w8}
 use mir.Val.{toZ}
-use Rattle.reader.specs.declared.field.U8Result.{U8Result}
-use Rattle.reader.specs.declared.field.U8Result.the-variants as u8
-use Rattle.reader.specs.declared.field.U32Result.{U32Result}
-use Rattle.reader.specs.declared.field.U32Result.the-variants as u32
-use Rattle.reader.specs.declared.string.StringResult.{StringResult}
-use Rattle.reader.specs.declared.string.StringResult.the-variants as string
-use Rattle.lists.specs.declared.constant.ConstantResult.{ConstantResult}
-use Rattle.lists.specs.declared.constant.ConstantResult.the-variants as constant
-use Rattle.lists.specs.declared.debug.AnchorResult.{AnchorResult}
-use Rattle.lists.specs.declared.debug.AnchorResult.the-variants as anchor
-use Rattle.entries.specs.declared.code.UpvalueResult.{UpvalueResult}
-use Rattle.entries.specs.declared.code.UpvalueResult.the-variants as upvalue
+use Rattle.read_field.specs.declared.field.U8Result.{U8Result}
+use Rattle.read_field.specs.declared.field.U8Result.the-variants as u8
+use Rattle.read_field.specs.declared.field.U32Result.{U32Result}
+use Rattle.read_field.specs.declared.field.U32Result.the-variants as u32
+use Rattle.read_field.specs.declared.string.StringResult.{StringResult}
+use Rattle.read_field.specs.declared.string.StringResult.the-variants as string
+use Rattle.read_entry.specs.declared.constant.ConstantResult.{ConstantResult}
+use Rattle.read_entry.specs.declared.constant.ConstantResult.the-variants as constant
+use Rattle.read_entry.specs.declared.debug.AnchorResult.{AnchorResult}
+use Rattle.read_entry.specs.declared.debug.AnchorResult.the-variants as anchor
+use Rattle.read_nth.specs.declared.code.UpvalueResult.{UpvalueResult}
+use Rattle.read_nth.specs.declared.code.UpvalueResult.the-variants as upvalue
 use Rattle.show_entry.specs.declared.WordAnswer.{WordAnswer}
 use Rattle.show_entry.specs.declared.WordAnswer.the-variants as word-answer
 use Rattle.show_entry.specs.declared.ConstantAnswer.{ConstantAnswer}

@@ -3,8 +3,8 @@ use mathlib.Core.List.{[], _∷_}
 use Prim.Native.Nat.{ℕ, _-_, _≤_}
 use lib.ListN.{take, drop}
 use Rattle.format.specs.Form.{Bytes}
-use Rattle.reader.specs.declared.string.OptionString.{OptionString}
-use Rattle.reader.specs.declared.string.OptionString.the-variants as string
+use Rattle.read_field.specs.declared.string.OptionString.{OptionString}
+use Rattle.read_field.specs.declared.string.OptionString.the-variants as string
 
 abbrev pub nameLength : OptionString → ℕ
 nameLength (string.Some t) = t .len

@@ -3,8 +3,8 @@ use borrow.Author.Needs.{needs}
 use mathlib.Core.Path.{sym, _∙_}
 use native.Mathlib.Omega.{arith}
 use Rattle.format.specs.ReadChunk.{read}
-use Rattle.decode.proofs.Summaries.{in-ceilings, input-ceiling}
-use Rattle.decode.proofs.BeforeMain.{not-opened, known}
+use Rattle.read_chunk.proofs.Summaries.{in-ceilings, input-ceiling}
+use Rattle.read_chunk.proofs.BeforeMain.{not-opened, known}
 use Rattle.copy.proofs.Outcomes.{stopped, chunk-copied, all-bytes}
 use Rattle.copy.proofs.whole.copy_chunk.Statement.{statement}
 use Rattle.copy.proofs.whole.copy_chunk.Tie as tie

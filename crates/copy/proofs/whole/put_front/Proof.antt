@@ -1,7 +1,7 @@
 -- `copy::whole::put_front` meets its contract. Assumes nothing.
 use borrow.Author.Needs.{needs}
 use lib.Dec.{lit≤}
-use Rattle.encode.proofs.Writes.{put-then}
+use Rattle.copy_put.proofs.Writes.{put-then}
 use Rattle.copy.proofs.whole.put_front.Statement.{statement}
 use Rattle.copy.proofs.whole.put_front.Tie as tie
 

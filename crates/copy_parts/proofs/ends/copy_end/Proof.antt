@@ -2,7 +2,7 @@
 use borrow.Author.Needs.{needs}
 use mathlib.Core.Path.{refl, sym, _∙_}
 use lib.ListN.{drop}
-use Rattle.prototype.specs.Parts.{tail}
+use Rattle.read_prototype.specs.Parts.{tail}
 use Rattle.copy_parts.proofs.EndsPut.{end-stops, end-read}
 use Rattle.copy_parts.proofs.ends.copy_end.Statement.{statement}
 use Rattle.copy_parts.proofs.ends.copy_end.Tie as tie

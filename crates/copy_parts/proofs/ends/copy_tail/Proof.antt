@@ -1,7 +1,7 @@
 -- `copy_parts::ends::copy_tail` meets its contract: at each return the calls say which case of the reader holds (`HeadAnswers.antt` of prototype), and what is put (`EndsPut.antt`). Assumes nothing.
 use borrow.Author.Needs.{needs}
 use mathlib.Core.Path.{sym, _∙_}
-use Rattle.prototype.proofs.HeadAnswers.{deltas-refused, anchors-refused, locals-refused, names-refused, whole-tail}
+use Rattle.read_prototype.proofs.HeadAnswers.{deltas-refused, anchors-refused, locals-refused, names-refused, whole-tail}
 use Rattle.copy_parts.proofs.PutParts.{tail-put}
 use Rattle.copy_parts.proofs.EndsPut.{tail-stops, tail-copied}
 use Rattle.copy_parts.proofs.ends.copy_tail.Statement.{statement}

@@ -6,9 +6,9 @@ use Rattle.format.specs.Form.{Below}
 use Rattle.format.specs.ReadChunk.{constant}
 use Rattle.format.specs.Copy.{constantBytes}
 use Rattle.format.proofs.ExactChunk.{exact-constant}
-use Rattle.reader.proofs.Shows.{cursor-err, cursor-ok}
-use Rattle.lists.proofs.Turns.{Rest}
-use Rattle.lists.proofs.Turns as passing
+use Rattle.read_field.proofs.Shows.{cursor-err, cursor-ok}
+use Rattle.read_entry.proofs.Turns.{Rest}
+use Rattle.read_entry.proofs.Turns as passing
 use Rattle.copy_parts.proofs.Lists.{Goes, starts, turns, ends}
 use Rattle.copy_parts.proofs.Judged.{all-not, puts-to}
 use Rattle.copy_parts.proofs.list.copy_constants.Statement.{statement}

@@ -5,9 +5,9 @@ use borrow.Author.Needs.{needs}
 use Rattle.format.specs.ReadFields.{string}
 use Rattle.format.specs.Copy.{optionBytes}
 use Rattle.format.proofs.ExactFields.{exact-string}
-use Rattle.reader.proofs.Shows.{cursor-err, cursor-ok}
-use Rattle.lists.proofs.Turns.{Rest}
-use Rattle.lists.proofs.Turns as passing
+use Rattle.read_field.proofs.Shows.{cursor-err, cursor-ok}
+use Rattle.read_entry.proofs.Turns.{Rest}
+use Rattle.read_entry.proofs.Turns as passing
 use Rattle.copy_parts.proofs.Lists.{Goes, starts, turns, ends}
 use Rattle.copy_parts.proofs.Judged.{all-not, puts-to}
 use Rattle.copy_parts.proofs.list.copy_names.Statement.{statement}

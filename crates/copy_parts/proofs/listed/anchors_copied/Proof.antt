@@ -2,7 +2,7 @@
 use borrow.Author.Needs.{needs}
 use Rattle.format.proofs.ExactFields.{exact-number}
 use Rattle.format.proofs.ExactChunk.{exact-anchor}
-use Rattle.counted.proofs.Listing.{many-sized, count-refused, count-read}
+use Rattle.read_list.proofs.Listing.{many-sized, count-refused, count-read}
 use Rattle.copy_parts.proofs.Judged.{list-not, list-put}
 use Rattle.copy_parts.proofs.listed.anchors_copied.Statement.{statement}
 use Rattle.copy_parts.proofs.listed.anchors_copied.Tie as tie

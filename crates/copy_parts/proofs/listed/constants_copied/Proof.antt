@@ -2,7 +2,7 @@
 use borrow.Author.Needs.{needs}
 use Rattle.format.specs.declared.refusal.Refusal.the-variants.{Constants}
 use Rattle.format.proofs.ExactChunk.{exact-constant}
-use Rattle.counted.proofs.Listing.{up-to-refused, up-to-read}
+use Rattle.read_list.proofs.Listing.{up-to-refused, up-to-read}
 use Rattle.copy_parts.proofs.Judged.{list-not, list-put}
 use Rattle.copy_parts.proofs.listed.constants_copied.Statement.{statement}
 use Rattle.copy_parts.proofs.listed.constants_copied.Tie as tie

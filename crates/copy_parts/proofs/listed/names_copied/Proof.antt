@@ -1,7 +1,7 @@
 -- `copy_parts::listed::names_copied` meets its contract: by whether the count is read (`Listing.antt` of counted), and by what the entries put (`Judged.antt`). Assumes nothing.
 use borrow.Author.Needs.{needs}
 use Rattle.format.proofs.ExactFields.{exact-number, exact-string}
-use Rattle.counted.proofs.Listing.{many-sized, count-refused, count-read}
+use Rattle.read_list.proofs.Listing.{many-sized, count-refused, count-read}
 use Rattle.copy_parts.proofs.Judged.{list-not, list-put}
 use Rattle.copy_parts.proofs.listed.names_copied.Statement.{statement}
 use Rattle.copy_parts.proofs.listed.names_copied.Tie as tie

@@ -1,7 +1,7 @@
 -- `copy_parts::parts::copy_head` meets its contract: at each return the calls say which case of the reader holds (`HeadAnswers.antt` of prototype), and what is put (`Judged.antt`). Assumes nothing.
 use borrow.Author.Needs.{needs}
 use mathlib.Core.Path.{sym, _∙_}
-use Rattle.prototype.proofs.HeadAnswers.{front-refused, lists-refused, protos-refused, whole-head}
+use Rattle.read_prototype.proofs.HeadAnswers.{front-refused, lists-refused, protos-refused, whole-head}
 use Rattle.copy_parts.proofs.Judged.{head-not, head-copied}
 use Rattle.copy_parts.proofs.parts.copy_head.Statement.{statement}
 use Rattle.copy_parts.proofs.parts.copy_head.Tie as tie

@@ -1,7 +1,7 @@
 -- `copy_parts::parts::copy_lists` meets its contract: at each return the calls say which case of the reader holds (`HeadAnswers.antt` of prototype), and what is put (`Judged.antt`). Assumes nothing.
 use borrow.Author.Needs.{needs}
 use mathlib.Core.Path.{sym, _∙_}
-use Rattle.prototype.proofs.HeadAnswers.{code-refused, constants-refused, upvalues-refused, all-lists}
+use Rattle.read_prototype.proofs.HeadAnswers.{code-refused, constants-refused, upvalues-refused, all-lists}
 use Rattle.copy_parts.proofs.Judged.{lists-not, lists-copied}
 use Rattle.copy_parts.proofs.parts.copy_lists.Statement.{statement}
 use Rattle.copy_parts.proofs.parts.copy_lists.Tie as tie

@@ -1,6 +1,6 @@
 -- `copy_parts::parts::put_lines` meets its contract. Assumes nothing.
 use borrow.Author.Needs.{needs}
-use Rattle.encode.proofs.Writes.{put-then}
+use Rattle.copy_put.proofs.Writes.{put-then}
 use Rattle.copy_parts.proofs.parts.put_lines.Statement.{statement}
 use Rattle.copy_parts.proofs.parts.put_lines.Tie as tie
 

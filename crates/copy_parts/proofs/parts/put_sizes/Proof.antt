@@ -1,6 +1,6 @@
 -- `copy_parts::parts::put_sizes` meets its contract. Assumes nothing.
 use borrow.Author.Needs.{needs}
-use Rattle.encode.proofs.Writes.{put-then}
+use Rattle.copy_put.proofs.Writes.{put-then}
 use Rattle.copy_parts.proofs.parts.put_sizes.Statement.{statement}
 use Rattle.copy_parts.proofs.parts.put_sizes.Tie as tie
 

@@ -12,16 +12,16 @@ use borrow.Fn.PlainCycle.{Measures, is, falls, and}
 use Rattle.format.specs.GrammarChunk.{Where}
 use Rattle.format.specs.ReadChunk.{forest, function}
 use Rattle.format.specs.declared.refusal.Refusal.{Refusal}
-use Rattle.cursor.specs.declared.Cursor.{Cursor}
-use Rattle.prototype.specs.declared.parts.Head as declared-head
-use Rattle.prototype.specs.declared.parts.HeadResult.the-variants as head-answer
-use Rattle.prototype.specs.Parts as parts
-use Rattle.prototype.specs.PartsShown.{headResult}
-use Rattle.skim.specs.declared.walk.Skimmed.{Skimmed}
-use Rattle.skim.specs.declared.walk.SkimResult.the-variants as skim
-use Rattle.skim.specs.Inner.Skim.{entered, on, skimResult}
-use Rattle.skim.proofs.HeadTail.{in-total}
-use Rattle.skim.proofs.SoFar as so-far
+use Rattle.slice.specs.declared.cursor.Cursor.{Cursor}
+use Rattle.read_prototype.specs.declared.parts.Head as declared-head
+use Rattle.read_prototype.specs.declared.parts.HeadResult.the-variants as head-answer
+use Rattle.read_prototype.specs.Parts as parts
+use Rattle.read_prototype.specs.PartsShown.{headResult}
+use Rattle.read_walk.specs.declared.walk.Skimmed.{Skimmed}
+use Rattle.read_walk.specs.declared.walk.SkimResult.the-variants as skim
+use Rattle.read_walk.specs.Inner.Skim.{entered, on, skimResult}
+use Rattle.read_walk.proofs.HeadTail.{in-total}
+use Rattle.read_walk.proofs.SoFar as so-far
 use Rattle.copy_parts.specs.Inner.Parts.{functionBytes}
 use Rattle.copy_walk.proofs.Tails.{tail-inside, part-kept, put-part}
 use Rattle.copy_walk.proofs.Loops.{Copies, copies-none, copies-one, copies-all}
@@ -34,7 +34,7 @@ use Rattle.copy_parts.proofs.parts.copy_head.Reads as copy-head-reads
 use Rattle.copy_parts.proofs.ends.copy_end.Reads as copy-end-reads
 use Rattle.copy_parts.proofs.ends.stopped.Reads as stopped-reads
 use Rattle.copy_walk.proofs.walk.within.Reads as within-reads
-use Rattle.encode.proofs.raw.plus.Reads as plus-reads
+use Rattle.copy_put.proofs.raw.plus.Reads as plus-reads
 use Rattle.copy_walk.proofs.walk.+copy_function.{statement}
 use Rattle.copy_walk.proofs.walk.+copy_function.Tie.{close}
 

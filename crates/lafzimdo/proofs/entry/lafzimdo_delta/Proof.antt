@@ -6,11 +6,11 @@ use mir.Syntax.{w8}
 use mir.Val.{SFits}
 use mir.Facts.{toZ-ofZ}
 use Rattle.format.specs.ReadChunk.{read}
-use Rattle.access.specs.Asked.{entryOf}
+use Rattle.show_row.specs.Asked.{entryOf}
 use Rattle.show_entry.specs.Entries.{shownDelta}
-use Rattle.boundary.specs.Status.{complement}
-use Rattle.boundary.proofs.Calls.{call-refuses, call-answers}
-use Rattle.numbers.specs.Numbers.{ofDelta}
+use Rattle.c_boundary.specs.Status.{complement}
+use Rattle.c_boundary.proofs.Calls.{call-refuses, call-answers}
+use Rattle.c_numbers.specs.Numbers.{ofDelta}
 use Rattle.lafzimdo.proofs.entry.lafzimdo_delta.Statement.{statement}
 use Rattle.lafzimdo.proofs.entry.lafzimdo_delta.Tie as tie
 

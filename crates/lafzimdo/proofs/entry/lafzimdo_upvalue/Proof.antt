@@ -2,10 +2,10 @@
 use mathlib.Core.Path.{refl}
 use borrow.Author.Needs.{needs}
 use Rattle.format.specs.ReadChunk.{read}
-use Rattle.access.specs.Asked.{entryOf}
+use Rattle.show_row.specs.Asked.{entryOf}
 use Rattle.show_entry.specs.Entries.{shownUpvalue}
-use Rattle.boundary.proofs.Calls.{call-refuses, call-answers}
-use Rattle.numbers.specs.Numbers.{ofUpvalue}
+use Rattle.c_boundary.proofs.Calls.{call-refuses, call-answers}
+use Rattle.c_numbers.specs.Numbers.{ofUpvalue}
 use Rattle.lafzimdo.proofs.entry.lafzimdo_upvalue.Statement.{statement}
 use Rattle.lafzimdo.proofs.entry.lafzimdo_upvalue.Tie as tie
 

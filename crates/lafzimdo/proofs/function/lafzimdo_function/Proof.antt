@@ -2,10 +2,10 @@
 use mathlib.Core.Path.{refl}
 use borrow.Author.Needs.{needs}
 use Rattle.format.specs.ReadChunk.{read}
-use Rattle.access.specs.Asked.{functionOf}
+use Rattle.show_row.specs.Asked.{functionOf}
 use Rattle.show_chunk.specs.Fields.{shownFields}
-use Rattle.boundary.proofs.Calls.{call-refuses, call-answers}
-use Rattle.numbers.specs.Numbers.{ofFields}
+use Rattle.c_boundary.proofs.Calls.{call-refuses, call-answers}
+use Rattle.c_numbers.specs.Numbers.{ofFields}
 use Rattle.lafzimdo.proofs.function.lafzimdo_function.Statement.{statement}
 use Rattle.lafzimdo.proofs.function.lafzimdo_function.Tie as tie
 

@@ -2,10 +2,10 @@
 use mathlib.Core.Path.{refl}
 use borrow.Author.Needs.{needs}
 use Rattle.format.specs.ReadChunk.{read}
-use Rattle.access.specs.Asked.{functionOf}
-use Rattle.lines.specs.Lines.{shownLine}
-use Rattle.boundary.proofs.Calls.{call-refuses, call-answers}
-use Rattle.numbers.specs.Numbers.{ofLine}
+use Rattle.show_row.specs.Asked.{functionOf}
+use Rattle.line_lookup.specs.Lines.{shownLine}
+use Rattle.c_boundary.proofs.Calls.{call-refuses, call-answers}
+use Rattle.c_numbers.specs.Numbers.{ofLine}
 use Rattle.lafzimdo.proofs.function.lafzimdo_line.Statement.{statement}
 use Rattle.lafzimdo.proofs.function.lafzimdo_line.Tie as tie
 

@@ -4,8 +4,8 @@ use lib.ListN.{length}
 use borrow.Author.Needs.{needs}
 use Rattle.format.specs.ReadChunk.{read}
 use Rattle.copy.specs.Copied.{shownCopy, copyWritten}
-use Rattle.boundary.proofs.Calls.{call-refuses, call-answers}
-use Rattle.numbers.specs.Numbers.{ofCopy}
+use Rattle.c_boundary.proofs.Calls.{call-refuses, call-answers}
+use Rattle.c_numbers.specs.Numbers.{ofCopy}
 use Rattle.lafzimdo.proofs.space.lafzimdo_copy.Statement.{statement}
 use Rattle.lafzimdo.proofs.space.lafzimdo_copy.Tie as tie
 

@@ -3,10 +3,10 @@ use mathlib.Core.Path.{refl, _∙_, ap}
 use lib.ListN.{length}
 use borrow.Author.Needs.{needs}
 use Rattle.format.specs.ReadChunk.{read}
-use Rattle.access.specs.Asked.{entryOf}
+use Rattle.show_row.specs.Asked.{entryOf}
 use Rattle.show_local.specs.Locals.{shownLocal, nameWritten}
-use Rattle.boundary.proofs.Calls.{call-refuses, call-answers}
-use Rattle.numbers.specs.Numbers.{ofLocal}
+use Rattle.c_boundary.proofs.Calls.{call-refuses, call-answers}
+use Rattle.c_numbers.specs.Numbers.{ofLocal}
 use Rattle.lafzimdo.proofs.space.lafzimdo_local.Statement.{statement}
 use Rattle.lafzimdo.proofs.space.lafzimdo_local.Tie as tie
 

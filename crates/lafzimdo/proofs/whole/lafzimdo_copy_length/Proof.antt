@@ -3,8 +3,8 @@ use mathlib.Core.Path.{refl}
 use borrow.Author.Needs.{needs}
 use Rattle.format.specs.ReadChunk.{read}
 use Rattle.copy.specs.Copied.{shownLength}
-use Rattle.boundary.proofs.Calls.{call-refuses, call-answers}
-use Rattle.numbers.specs.Numbers.{ofCopy}
+use Rattle.c_boundary.proofs.Calls.{call-refuses, call-answers}
+use Rattle.c_numbers.specs.Numbers.{ofCopy}
 use Rattle.lafzimdo.proofs.whole.lafzimdo_copy_length.Statement.{statement}
 use Rattle.lafzimdo.proofs.whole.lafzimdo_copy_length.Tie as tie
 

@@ -2,9 +2,9 @@
 use mathlib.Core.Path.{refl}
 use borrow.Author.Needs.{needs}
 use Rattle.format.specs.ReadChunk.{read}
-use Rattle.validator.specs.Answers.{shownCount}
-use Rattle.boundary.proofs.Calls.{call-refuses, call-answers}
-use Rattle.numbers.specs.Numbers.{ofCount}
+use Rattle.validate_verdict.specs.Answers.{shownCount}
+use Rattle.c_boundary.proofs.Calls.{call-refuses, call-answers}
+use Rattle.c_numbers.specs.Numbers.{ofCount}
 use Rattle.lafzimdo.proofs.whole.lafzimdo_finding_count.Statement.{statement}
 use Rattle.lafzimdo.proofs.whole.lafzimdo_finding_count.Tie as tie
 

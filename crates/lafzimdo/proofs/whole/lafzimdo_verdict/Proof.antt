@@ -3,9 +3,9 @@ use mathlib.Core.Path.{refl, _∙_, ap}
 use mathlib.Core.List.{[], _∷_}
 use borrow.Author.Needs.{needs}
 use Rattle.format.specs.ReadChunk.{read}
-use Rattle.validator.specs.Answers.{shownVerdict}
-use Rattle.boundary.proofs.Calls.{call-refuses, call-answers}
-use Rattle.numbers.specs.Numbers.{ofVerdict}
+use Rattle.validate_verdict.specs.Answers.{shownVerdict}
+use Rattle.c_boundary.proofs.Calls.{call-refuses, call-answers}
+use Rattle.c_numbers.specs.Numbers.{ofVerdict}
 use Rattle.lafzimdo.proofs.whole.lafzimdo_verdict.Statement.{statement}
 use Rattle.lafzimdo.proofs.whole.lafzimdo_verdict.Tie as tie
 

@@ -4,9 +4,9 @@ use borrow.Author.Needs.{needs}
 use mir.Syntax.{w32}
 use mir.Val.{toZ, ofZ}
 use mir.Facts.{toZ-ofZ}
-use Rattle.instructions.specs.Word.{encoded}
-use Rattle.boundary.proofs.Calls.{call-refuses, call-answers}
-use Rattle.numbers.specs.Words.{spelt, ofEncoded}
+use Rattle.word_fields.specs.Word.{encoded}
+use Rattle.c_boundary.proofs.Calls.{call-refuses, call-answers}
+use Rattle.c_numbers.specs.Words.{spelt, ofEncoded}
 use Rattle.lafzimdo.proofs.word.lafzimdo_encode.Statement.{statement}
 use Rattle.lafzimdo.proofs.word.lafzimdo_encode.Tie as tie
 

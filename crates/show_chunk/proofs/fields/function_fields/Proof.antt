@@ -2,7 +2,7 @@
 use mathlib.Core.Path.{sym, _∙_}
 use borrow.Author.Needs.{needs}
 use Rattle.format.specs.ReadChunk.{read}
-use Rattle.access.specs.Asked.{functionOf}
+use Rattle.show_row.specs.Asked.{functionOf}
 use Rattle.show_chunk.proofs.FieldLaws.{fields-refused, fields-shown}
 use Rattle.show_chunk.proofs.fields.function_fields.Statement.{statement}
 use Rattle.show_chunk.proofs.fields.function_fields.Tie as tie

@@ -1,7 +1,0 @@
--- `anchors::still_taking` meets its contract: by the test. Assumes nothing.
-use borrow.Author.Needs.{needs}
-use Rattle.anchors.proofs.still_taking.Statement.{statement}
-use Rattle.anchors.proofs.still_taking.Tie as tie
-
-pub still-taking-spec : {M : Type 1} → statement M
-still-taking-spec = tie.close (tie.spec (λ c. rw (c .before .if1 .taken)) (λ c. search needs))

@@ -1,0 +1,19 @@
+-- `copy_put::text::put_name` meets its contract. Assumes nothing.
+use borrow.Author.Needs.{needs}
+use Rattle.copy_put.proofs.Writes.{put-then}
+use Rattle.copy_put.proofs.text.put_name.Statement.{statement}
+use Rattle.copy_put.proofs.text.put_name.Tie as tie
+
+pub put-name-spec : {M : Type 1} → statement M
+put-name-spec =
+    tie.close
+    (tie.spec
+    (λ c. search needs)
+    (λ c κs. search needs)
+    (λ c κs. search needs)
+    (λ c. search needs)
+    (λ c κs. search needs)
+    (λ c. search needs)
+    (λ c. λ h. rw (c .before .before .before .before .before .before .before .before .enum-told .given .1) (put-then (c .before .before .before .before .before .before .put-varint .ensures) (c .before .before .put-byte .ensures)))
+    (λ c. search needs)
+    (λ c. λ h. rw (c .before .before .before .before .before .name .given .1) (c .before .before .put-present .ensures (rw (c .before .before .before .before .before .name .given .1) at h))))

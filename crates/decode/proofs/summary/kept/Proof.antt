@@ -1,7 +1,0 @@
--- `decode::summary::kept` meets its contract: by whether there is room. Assumes nothing.
-use borrow.Author.Tests.{lt-ltb, le-ltb}
-use Rattle.decode.proofs.summary.kept.Statement.{statement}
-use Rattle.decode.proofs.summary.kept.Tie as tie
-
-pub kept-spec : {M : Type 1} → statement M
-kept-spec = tie.close (tie.spec (λ c. rw (lt-ltb _ _ (c .if1 .taken))) (λ c. rw (le-ltb _ _ (c .if1 .left))))

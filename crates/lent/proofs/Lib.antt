@@ -1,2 +1,0 @@
-pub mod Splices
-pub mod Tails

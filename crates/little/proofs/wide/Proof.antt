@@ -1,8 +1,0 @@
--- `little::wide` meets its contract: a byte is below 256. Assumes nothing.
-use mathlib.Core.Path.{refl}
-use borrow.Author.Needs.{needs}
-use Rattle.little.proofs.wide.Statement.{statement}
-use Rattle.little.proofs.wide.Tie as tie
-
-pub wide-spec : {M : Type 1} → statement M
-wide-spec = tie.close (tie.spec (λ c. (refl, search needs)))

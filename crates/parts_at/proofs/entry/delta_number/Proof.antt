@@ -1,8 +1,0 @@
--- `parts_at::entry::delta_number` meets its contract. Assumes nothing.
-use borrow.Author.Needs.{needs}
-use Rattle.parts_at.proofs.Arrays.{delta-up, delta-down}
-use Rattle.parts_at.proofs.entry.delta_number.Statement.{statement}
-use Rattle.parts_at.proofs.entry.delta_number.Tie as tie
-
-pub delta-number-spec : {M : Type 1} → statement M
-delta-number-spec = tie.close (tie.spec (λ c. delta-up (c .before .args .byte) (c .if1 .taken)) (λ c. search needs) (λ c. delta-down (c .before .args .byte) (c .if1 .left) (c .before .fits .byte .fits)))

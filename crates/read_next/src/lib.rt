@@ -1,0 +1,134 @@
+// The functions of a chunk in the order in which their bytes begin, without recursion: a level for each function that is open, and in
+// `left` how many functions of that level are still to come.
+use format::limits::DEEPEST;
+use format::limits::ResourceLimits;
+use read_prototype::front::Lines;
+use read_prototype::front::Sizes;
+use read_prototype::parts::Head;
+use read_prototype::parts::HeadResult;
+use read_prototype::parts::TailResult;
+use read_prototype::parts::read_head;
+use read_prototype::parts::read_tail;
+use read_prototype::row::ListAt;
+use slice::cursor::Cursor;
+ghost use mathlib.Core.Path.{_≡_};
+ghost use Prim.Native.Nat.{_+_, _<_, _≤_};
+ghost use lib.ListN.{length, getD};
+ghost use Rattle.format.specs.Limits.{MOST};
+ghost use Rattle.read_next.specs.Inner.Rows.{LEVELS, rowShown, rowsFrom, met, entered, upTo, Within, Ready};
+
+// Levels of functions, main's included.
+const LEVELS: usize = DEEPEST + 1;
+// One more: the functions in one of the last level have a count too.
+pub const COUNTS: usize = LEVELS + 1;
+// How many functions are still to come, level by level.
+pub type Levels = [usize; COUNTS];
+
+// A function's level, main's being 0, and what stands before its nested functions, without its source.
+pub struct Row {
+    pub depth: usize,
+    pub lines: Lines,
+    pub sizes: Sizes,
+    pub instructions: ListAt,
+    pub constants: ListAt,
+    pub upvalues: ListAt,
+    pub protos: ListAt,
+}
+
+fn row_of(depth: usize, head: Head) -> Row
+    ensures { λ r. ⌜ r ≡ rowShown depth head ⌝ }
+{
+    let lines = head.front.lines;
+    let sizes = head.front.sizes;
+    let instructions = head.lists.instructions;
+    let constants = head.lists.constants;
+    let upvalues = head.lists.upvalues;
+    let protos = head.protos;
+    Row {
+        depth: depth,
+        lines: lines,
+        sizes: sizes,
+        instructions: instructions,
+        constants: constants,
+        upvalues: upvalues,
+        protos: protos,
+    }
+}
+
+fn left_at(left: &Levels, d: usize) -> usize
+    requires { ⌜ length (now left) ≡ LEVELS + 1 ⌝ }
+    ensures { λ r. ⌜ r ≡ getD (now (left .entry)) d 0 ⌝ }
+{
+    if d < COUNTS {
+        return left[d];
+    }
+    0
+}
+
+// Where the next function begins, and its level.
+enum Up {
+    At(usize, Cursor),
+    End,
+}
+
+// From a place in a function whose nested functions are at the level `depth`: the tails of the functions that have no more in them, up to
+// one that has.
+fn go_up(s: &[u8], limits: ResourceLimits, left: &Levels, depth: usize, cursor: Cursor) -> Up
+    requires { ⌜ length (now left) ≡ LEVELS + 1 ⌝ }
+    ensures { λ r. ⌜ (rowsFrom limits (now (s .entry)) (now (left .entry)) depth (cursor .at) ≡ upTo limits (now (s .entry)) (now (left .entry)) r) × Ready (now (left .entry)) r ⌝ }
+{
+    let mut d = depth;
+    let mut i = cursor;
+    loop {
+        if 0 < left_at(left, d) {
+            if LEVELS <= d {
+                return Up::End;
+            }
+            return Up::At(d, i);
+        }
+        if d == 0 {
+            return Up::End;
+        }
+        let TailResult::Ok { tail: _, next } = read_tail(s, limits.max_string_bytes, i) else {
+            return Up::End;
+        };
+        i = next;
+        d -= 1;
+    }
+}
+
+pub enum Met {
+    // The function's row, its level, and the place behind its head.
+    Function(Row, usize, Cursor),
+    End,
+}
+
+// The next function.
+pub fn next_function(
+    s: &[u8],
+    limits: ResourceLimits,
+    left: &Levels,
+    depth: usize,
+    cursor: Cursor,
+) -> Met
+    requires { ⌜ (length (now left) ≡ LEVELS + 1) × (limits .«max_total_instructions» ≤ MOST) ⌝ }
+    ensures { λ r. ⌜ (rowsFrom limits (now (s .entry)) (now (left .entry)) depth (cursor .at) ≡ met limits (now (s .entry)) (now (left .entry)) r) × Within (now (left .entry)) r ⌝ }
+{
+    let Up::At(d, place) = go_up(s, limits, left, depth, cursor) else {
+        return Met::End;
+    };
+    let HeadResult::Ok { head, next } = read_head(s, limits, 0, place) else {
+        return Met::End;
+    };
+    let row = row_of(d, head);
+    Met::Function(row, d, next)
+}
+
+// Goes on into a function of level d in which n nest: one fewer is still to come at its level, and n at the one below.
+pub fn go_down(left: &mut Levels, d: usize, n: usize)
+    requires { ⌜ (length (now left) ≡ LEVELS + 1) × (d < LEVELS) × (0 < getD (now left) d 0) ⌝ }
+    ensures { λ _. ⌜ now (left .exit) ≡ entered (now (left .entry)) d n ⌝ }
+{
+    left[d] = left[d] - 1;
+    left[d + 1] = n;
+}
