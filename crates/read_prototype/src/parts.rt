@@ -41,7 +41,7 @@ fn passed(count: usize, place: usize, next: Cursor) -> ListEnd
     }
 }
 
-enum HeadListsResult {
+pub enum HeadListsResult {
     Ok { lists: HeadLists, next: Cursor },
     Err(Refusal),
 }

@@ -8,10 +8,10 @@ use Rattle.read_walk.proofs.walk.skim_main.Statement.{statement}
 use Rattle.read_walk.proofs.walk.skim_main.Tie as tie
 
 add-skim-functions : tie.Need-add-skim-functions
-add-skim-functions c = omega (arith, c .before .pre .2)
+add-skim-functions c = omega (arith, c .before .pre .1)
 
 skim-functions-requires : tie.Need-skim-functions-requires
-skim-functions-requires c κs = let p = c .before .pre in (p .0, p .1)
+skim-functions-requires c κs = c .before .pre .0
 
 returns : tie.Need-returns
 returns c w none number instructions =
