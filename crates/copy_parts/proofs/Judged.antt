@@ -4,9 +4,9 @@
 --     list-not, list-put       a list behind its count
 --     lists-.., head-..        a function before the functions that nest in it
 -- Assumes nothing.
-use mathlib.Core.Path.{_≡_, refl, sym, subst, _∙_, ap}
-use mathlib.Core.Bool.{Bool, cond}
-use mathlib.Core.List.{List, [], _∷_, _++_}
+use mathlib.Core.Path.{_≡_, sym, subst, _∙_, ap}
+use mathlib.Core.Bool.{Bool}
+use mathlib.Core.List.{List, _++_}
 use Prim.Native.Nat.{ℕ, _-_, _*_, _≤_}
 use native.Mathlib.Omega.{arith}
 use lib.ListN.{length, take, drop}
@@ -48,8 +48,8 @@ use Rattle.read_prototype.specs.Parts.{HeadLists, headLists, Head, head}
 use Rattle.read_prototype.specs.PartsShown.{listsOf, headOf, headResult}
 use Rattle.read_walk.proofs.HeadTail.{head-err}
 use Rattle.copy_put.specs.Inner.Put.{Put, Puts, PutsAll}
-use Rattle.copy_put.specs.Inner.Text.{There, spelt}
-use Rattle.copy_parts.specs.Inner.Parts.{linesBytes, listsBytes}
+use Rattle.copy_parts.specs.Inner.Parts.{listsBytes}
+use Rattle.copy_parts.specs.Inner.Fronts.{FrontPut}
 use Rattle.copy_parts.specs.Inner.Passed.{nextOf, PutsListed, PutsLists, PutsHead}
 use Rattle.copy_parts.proofs.PutParts.{lists-put, head-put}
 
@@ -130,16 +130,14 @@ pub head-not : {named : Bool} {o : Read Head} {q : Refusal} {l l′ : Bytes} {le
 head-not {o} {q} e = record { put = λ h to rest f. absurd (never (sym (head-err o q e) ∙ f)) }
 
 module _ (s : Bytes) (L : ResourceLimits) (before at : ℕ) (named : Bool) {head′ : declared-head.Head} {c : Cursor} (shown : head-answer.Ok head′ c ≡ headResult (head L before at (drop at s))) where
-  pub head-copied : {w₁ w₂ w₃ w₄ b : ℕ} {k k₁ k₂ k₃ k₄ k′ : Bytes}
-      → (There s (head′ .front .source) → Put (cond named (spelt s (head′ .front .source)) (shortest 0)) 0 k w₁ k₁)
-      → Put (linesBytes (head′ .front .lines)) w₁ k₁ w₂ k₂
-      → Put (head′ .front .sizes .numparams ∷ head′ .front .sizes .«is_vararg» ∷ head′ .front .sizes .maxstacksize ∷ []) w₂ k₂ w₃ k₃
+  pub head-copied : {w₃ w₄ b : ℕ} {k k₃ k₄ k′ : Bytes}
+      → FrontPut s named (head′ .front) k w₃ k₃
       → ((before from to : ℕ) (h : HeadLists) (rest : Bytes) → Below 256 s → headLists L before from (drop from s) ≡ ok h to rest → head′ .lists ≡ listsOf h → Put (listsBytes h) w₃ k₃ w₄ k₄)
       → Put (shortest (head′ .protos .count)) w₄ k₄ b k′
       → Below 256 s → PutsHead named (head L before at (drop at s)) k b k′
-  head-copied p q r u v bytes = record {
+  head-copied z u v bytes = record {
     put = λ h to rest e.
         let both : head-answer.Ok head′ c ≡ head-answer.Ok (headOf h) (cursorAt to) = shown ∙ ap headResult e in
         let same : head′ ≡ headOf h = cc in
-        head-put s L named head′ p q r u v before at to h rest bytes e same;
+        head-put s L named head′ (z .source) (z .lines) (z .sizes) u v before at to h rest bytes e same;
   }

@@ -5,5 +5,6 @@ pub mod Lists
 pub mod Lengths
 pub mod PartsAt
 pub mod PutParts
+pub mod FrontPut
 pub mod Judged
 pub mod EndsPut

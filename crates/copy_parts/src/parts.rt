@@ -1,62 +1,26 @@
 // A function before the functions that nest in it: read, and put into the copy in the same pass.
 ghost use mathlib.Core.Path.{_≡_};
-ghost use mathlib.Core.Bool.{cond};
-ghost use mathlib.Core.List.{[], _∷_};
 ghost use lib.ListN.{drop};
 ghost use Rattle.format.specs.Form.{Below};
-ghost use Rattle.format.specs.Shortest.{shortest};
 ghost use Rattle.read_prototype.specs.Parts as parts;
 ghost use Rattle.read_prototype.specs.PartsShown.{headListsResult, headResult};
-ghost use Rattle.copy_put.specs.Inner.Put.{Put};
-ghost use Rattle.copy_put.specs.Inner.Text.{There, spelt};
-ghost use Rattle.copy_parts.specs.Inner.Parts.{linesBytes};
 ghost use Rattle.copy_parts.specs.Inner.Passed.{PutsLists, PutsHead};
+use crate::front::copy_front;
 use crate::listed::constants_copied;
 use copy_put::number::put_varint;
-use copy_put::raw::put_byte;
 use copy_put::raw::put_run;
-use copy_put::text::put_string;
 use format::limits::ResourceLimits;
-use read_field::string::OptionString;
 use read_list::ListResult;
 use read_list::instructions_list;
 use read_list::protos_count;
 use read_list::upvalues_list;
 use read_prototype::front::FrontResult;
-use read_prototype::front::Lines;
-use read_prototype::front::Sizes;
-use read_prototype::front::read_front;
 use read_prototype::parts::Head;
 use read_prototype::parts::HeadLists;
 use read_prototype::parts::HeadListsResult;
 use read_prototype::parts::HeadResult;
 use read_prototype::row::ListAt;
 use slice::cursor::Cursor;
-
-// Main's source; a nested function's is written as absent.
-fn put_source(s: &[u8], named: bool, source: OptionString, out: &mut [u8]) -> usize
-    ensures { λ r. ⌜ (There (now (s .entry)) source → Put (cond named (spelt (now (s .entry)) source) (shortest 0)) 0 (now (out .entry)) r (now (out .exit))) ⌝ }
-{
-    if named {
-        return put_string(s, source, out, 0);
-    }
-    put_varint(out, 0, 0)
-}
-
-fn put_lines(lines: Lines, out: &mut [u8], at: usize) -> usize
-    ensures { λ r. ⌜ Put (linesBytes lines) at (now (out .entry)) r (now (out .exit)) ⌝ }
-{
-    let first = put_varint(out, at, lines.line_defined as u64);
-    put_varint(out, first, lines.last_line_defined as u64)
-}
-
-fn put_sizes(sizes: Sizes, out: &mut [u8], at: usize) -> usize
-    ensures { λ r. ⌜ Put (sizes .numparams ∷ sizes .«is_vararg» ∷ sizes .maxstacksize ∷ []) at (now (out .entry)) r (now (out .exit)) ⌝ }
-{
-    let first = put_byte(out, at, sizes.numparams);
-    let second = put_byte(out, first, sizes.is_vararg);
-    put_byte(out, second, sizes.maxstacksize)
-}
 
 // What the lists before the nested functions show, and the place behind them in the copy.
 struct ListsCopied {
@@ -167,7 +131,8 @@ pub fn copy_head(
     ensures { λ r. ⌜ r .begins ≡ headResult (parts.head limits before (cursor .at) (drop (cursor .at) (now (s .entry)))) ⌝ }
     ensures { λ r. ⌜ (Below 256 (now (s .entry)) → PutsHead named (parts.head limits before (cursor .at) (drop (cursor .at) (now (s .entry)))) (now (out .entry)) (r .len) (now (out .exit))) ⌝ }
 {
-    let begins = read_front(s, cursor, limits.max_string_bytes);
+    let first = copy_front(s, named, limits.max_string_bytes, cursor, out);
+    let begins = first.front;
     match begins {
         FrontResult::Err(refusal) => HeadCopied {
             begins: HeadResult::Err(refusal),
@@ -177,13 +142,7 @@ pub fn copy_head(
             front: front,
             next: behind,
         } => {
-            let source = front.source;
-            let lines = front.lines;
-            let sizes = front.sizes;
-            let sourced = put_source(s, named, source, out);
-            let lined = put_lines(lines, out, sourced);
-            let sized = put_sizes(sizes, out, lined);
-            let middle = copy_lists(s, limits, before, behind, out, sized);
+            let middle = copy_lists(s, limits, before, behind, out, first.behind);
             let between = middle.lists;
             match between {
                 HeadListsResult::Err(refusal) => HeadCopied {

@@ -19,7 +19,7 @@ pub struct Lines {
     pub last_line_defined: usize,
 }
 
-enum LinesResult {
+pub enum LinesResult {
     Ok { lines: Lines, next: Cursor },
     Err(Refusal),
 }
@@ -56,7 +56,7 @@ pub struct Sizes {
     pub maxstacksize: u8,
 }
 
-enum SizesResult {
+pub enum SizesResult {
     Ok { sizes: Sizes, next: Cursor },
     Err(Refusal),
 }

@@ -1,8 +1,8 @@
--- `copy_parts::parts::put_sizes` meets its contract. Assumes nothing.
+-- `copy_parts::front::put_sizes` meets its contract. Assumes nothing.
 use borrow.Author.Needs.{needs}
 use Rattle.copy_put.proofs.Writes.{put-then}
-use Rattle.copy_parts.proofs.parts.put_sizes.Statement.{statement}
-use Rattle.copy_parts.proofs.parts.put_sizes.Tie as tie
+use Rattle.copy_parts.proofs.front.put_sizes.Statement.{statement}
+use Rattle.copy_parts.proofs.front.put_sizes.Tie as tie
 
 pub put-sizes-spec : {M : Type 1} → statement M
 put-sizes-spec =

@@ -1,7 +1,7 @@
--- `copy_parts::parts::put_source` meets its contract. Assumes nothing.
+-- `copy_parts::front::put_source` meets its contract. Assumes nothing.
 use borrow.Author.Needs.{needs}
-use Rattle.copy_parts.proofs.parts.put_source.Statement.{statement}
-use Rattle.copy_parts.proofs.parts.put_source.Tie as tie
+use Rattle.copy_parts.proofs.front.put_source.Statement.{statement}
+use Rattle.copy_parts.proofs.front.put_source.Tie as tie
 
 pub put-source-spec : {M : Type 1} → statement M
 put-source-spec =

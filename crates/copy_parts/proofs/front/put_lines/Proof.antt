@@ -1,8 +1,8 @@
--- `copy_parts::parts::put_lines` meets its contract. Assumes nothing.
+-- `copy_parts::front::put_lines` meets its contract. Assumes nothing.
 use borrow.Author.Needs.{needs}
 use Rattle.copy_put.proofs.Writes.{put-then}
-use Rattle.copy_parts.proofs.parts.put_lines.Statement.{statement}
-use Rattle.copy_parts.proofs.parts.put_lines.Tie as tie
+use Rattle.copy_parts.proofs.front.put_lines.Statement.{statement}
+use Rattle.copy_parts.proofs.front.put_lines.Tie as tie
 
 pub put-lines-spec : {M : Type 1} → statement M
 put-lines-spec =

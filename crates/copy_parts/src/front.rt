@@ -1,0 +1,222 @@
+// The front of a function, field by field: read as `read_front` of prototype reads it, and put into the copy in the same pass.
+// It has its own readers: a second caller of `read_front` would cost every walk, which has it inlined.
+ghost use mathlib.Core.Path.{_≡_};
+ghost use mathlib.Core.Bool.{cond};
+ghost use mathlib.Core.List.{[], _∷_};
+ghost use lib.ListN.{drop};
+ghost use Rattle.format.specs.Shortest.{shortest};
+ghost use Rattle.read_prototype.specs.Front as spec;
+ghost use Rattle.read_prototype.specs.Inner.Results.{linesResult, sizesResult, frontResult};
+ghost use Rattle.copy_put.specs.Inner.Put.{Put};
+ghost use Rattle.copy_put.specs.Inner.Text.{There, spelt};
+ghost use Rattle.copy_parts.specs.Inner.Parts.{linesBytes};
+ghost use Rattle.copy_parts.specs.Inner.Fronts.{PutsLines, PutsSizes, PutsFront};
+use copy_put::number::put_varint;
+use copy_put::raw::put_byte;
+use copy_put::text::put_string;
+use read_field::field::U8Result;
+use read_field::field::U64Result;
+use read_field::field::read_u8;
+use read_field::string::OptionString;
+use read_field::string::StringResult;
+use read_field::string::read_string_lua54;
+use read_field::varint::read_varint_lua54;
+use read_prototype::front::Front;
+use read_prototype::front::FrontResult;
+use read_prototype::front::Lines;
+use read_prototype::front::LinesResult;
+use read_prototype::front::Sizes;
+use read_prototype::front::SizesResult;
+use slice::cursor::Cursor;
+
+// Main's source; a nested function's is written as absent.
+fn put_source(s: &[u8], named: bool, source: OptionString, out: &mut [u8]) -> usize
+    ensures { λ r. ⌜ (There (now (s .entry)) source → Put (cond named (spelt (now (s .entry)) source) (shortest 0)) 0 (now (out .entry)) r (now (out .exit))) ⌝ }
+{
+    if named {
+        return put_string(s, source, out, 0);
+    }
+    put_varint(out, 0, 0)
+}
+
+fn put_lines(lines: Lines, out: &mut [u8], at: usize) -> usize
+    ensures { λ r. ⌜ Put (linesBytes lines) at (now (out .entry)) r (now (out .exit)) ⌝ }
+{
+    let first = put_varint(out, at, lines.line_defined as u64);
+    put_varint(out, first, lines.last_line_defined as u64)
+}
+
+// What the lines show, and the place behind them in the copy.
+struct LinesCopied {
+    lines: LinesResult,
+    behind: usize,
+}
+
+fn copy_lines(s: &[u8], cursor: Cursor, out: &mut [u8], at: usize) -> LinesCopied
+    ensures { λ r. ⌜ r .lines ≡ linesResult (spec.lines (cursor .at) (drop (cursor .at) (now (s .entry)))) ⌝ }
+    ensures { λ r. ⌜ PutsLines (r .lines) at (now (out .entry)) (r .behind) (now (out .exit)) ⌝ }
+{
+    let first = read_varint_lua54(s, cursor);
+    match first {
+        U64Result::Err(refusal) => LinesCopied {
+            lines: LinesResult::Err(refusal),
+            behind: at,
+        },
+        U64Result::Ok {
+            value: line_defined,
+            next: further,
+        } => {
+            let last = read_varint_lua54(s, further);
+            match last {
+                U64Result::Err(refusal) => LinesCopied {
+                    lines: LinesResult::Err(refusal),
+                    behind: at,
+                },
+                U64Result::Ok { value, next } => {
+                    let lines = Lines {
+                        line_defined: line_defined as usize,
+                        last_line_defined: value as usize,
+                    };
+                    let behind = put_lines(lines, out, at);
+                    LinesCopied {
+                        lines: LinesResult::Ok {
+                            lines: lines,
+                            next: next,
+                        },
+                        behind: behind,
+                    }
+                }
+            }
+        }
+    }
+}
+
+fn put_sizes(sizes: Sizes, out: &mut [u8], at: usize) -> usize
+    ensures { λ r. ⌜ Put (sizes .numparams ∷ sizes .«is_vararg» ∷ sizes .maxstacksize ∷ []) at (now (out .entry)) r (now (out .exit)) ⌝ }
+{
+    let first = put_byte(out, at, sizes.numparams);
+    let second = put_byte(out, first, sizes.is_vararg);
+    put_byte(out, second, sizes.maxstacksize)
+}
+
+// What the three bytes show, and the place behind them in the copy.
+struct SizesCopied {
+    sizes: SizesResult,
+    behind: usize,
+}
+
+fn copy_sizes(s: &[u8], cursor: Cursor, out: &mut [u8], at: usize) -> SizesCopied
+    ensures { λ r. ⌜ r .sizes ≡ sizesResult (spec.sizes (cursor .at) (drop (cursor .at) (now (s .entry)))) ⌝ }
+    ensures { λ r. ⌜ PutsSizes (r .sizes) at (now (out .entry)) (r .behind) (now (out .exit)) ⌝ }
+{
+    let first = read_u8(s, cursor);
+    match first {
+        U8Result::Err(refusal) => SizesCopied {
+            sizes: SizesResult::Err(refusal),
+            behind: at,
+        },
+        U8Result::Ok {
+            value: numparams,
+            next: next1,
+        } => {
+            let second = read_u8(s, next1);
+            match second {
+                U8Result::Err(refusal) => SizesCopied {
+                    sizes: SizesResult::Err(refusal),
+                    behind: at,
+                },
+                U8Result::Ok {
+                    value: is_vararg,
+                    next: next2,
+                } => {
+                    let third = read_u8(s, next2);
+                    match third {
+                        U8Result::Err(refusal) => SizesCopied {
+                            sizes: SizesResult::Err(refusal),
+                            behind: at,
+                        },
+                        U8Result::Ok { value, next } => {
+                            let sizes = Sizes {
+                                numparams: numparams,
+                                is_vararg: is_vararg,
+                                maxstacksize: value,
+                            };
+                            let behind = put_sizes(sizes, out, at);
+                            SizesCopied {
+                                sizes: SizesResult::Ok {
+                                    sizes: sizes,
+                                    next: next,
+                                },
+                                behind: behind,
+                            }
+                        }
+                    }
+                }
+            }
+        }
+    }
+}
+
+// What the front shows, and the place behind it in the copy.
+pub struct FrontCopied {
+    pub front: FrontResult,
+    pub behind: usize,
+}
+
+// From the source to the three bytes, at the start of the lent memory. Ruled out: a nested function's source kept, the lines exchanged.
+pub fn copy_front(
+    s: &[u8],
+    named: bool,
+    max_string_bytes: usize,
+    cursor: Cursor,
+    out: &mut [u8],
+) -> FrontCopied
+    ensures { λ r. ⌜ r .front ≡ frontResult (spec.front «max_string_bytes» (cursor .at) (drop (cursor .at) (now (s .entry)))) ⌝ }
+    ensures { λ r. ⌜ PutsFront (now (s .entry)) named (r .front) (now (out .entry)) (r .behind) (now (out .exit)) ⌝ }
+{
+    let name = read_string_lua54(s, cursor, max_string_bytes);
+    match name {
+        StringResult::Err(refusal) => FrontCopied {
+            front: FrontResult::Err(refusal),
+            behind: 0,
+        },
+        StringResult::Ok {
+            string: source,
+            next: next1,
+        } => {
+            let sourced = put_source(s, named, source, out);
+            let between = copy_lines(s, next1, out, sourced);
+            let lined = between.lines;
+            match lined {
+                LinesResult::Err(refusal) => FrontCopied {
+                    front: FrontResult::Err(refusal),
+                    behind: 0,
+                },
+                LinesResult::Ok {
+                    lines: lines,
+                    next: next2,
+                } => {
+                    let three = copy_sizes(s, next2, out, between.behind);
+                    let sized = three.sizes;
+                    match sized {
+                        SizesResult::Err(refusal) => FrontCopied {
+                            front: FrontResult::Err(refusal),
+                            behind: 0,
+                        },
+                        SizesResult::Ok { sizes, next } => FrontCopied {
+                            front: FrontResult::Ok {
+                                front: Front {
+                                    source: source,
+                                    lines: lines,
+                                    sizes: sizes,
+                                },
+                                next: next,
+                            },
+                            behind: three.behind,
+                        },
+                    }
+                }
+            }
+        }
+    }
+}
