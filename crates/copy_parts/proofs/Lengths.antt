@@ -28,8 +28,8 @@ use Rattle.format.proofs.ExactChunk.{exact-always}
 use Rattle.format.proofs.ShortestLaws.{shortest-least, length-zero}
 use Rattle.format.proofs.Located.{Found, AtPlace, at-give, at-here, at-then, at-refuse}
 use Rattle.read_list.proofs.Listing.{many-sized}
-use Rattle.copy_parts.proofs.Entries.{Raw, at-run, raw-field}
-use Rattle.copy_parts.proofs.Values.{at-pick}
+use Rattle.copy_entry.proofs.Entries.{Raw, at-run, raw-field}
+use Rattle.copy_entry.proofs.Values.{at-pick}
 
 pub record Short (b : Bytes) (at to : ℕ) : Type 0 where
   pub on : at ≤ to

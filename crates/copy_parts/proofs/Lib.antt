@@ -1,10 +1,6 @@
-pub mod Entries
-pub mod Values
-pub mod Items
-pub mod Lists
 pub mod Lengths
 pub mod PartsAt
 pub mod PutParts
 pub mod FrontPut
-pub mod Judged
+pub mod HeadPut
 pub mod EndsPut

@@ -31,7 +31,7 @@ use Rattle.read_prototype.specs.Parts.{HeadLists, headLists, Head, head, Tail, 
 use Rattle.read_prototype.proofs.FrontAnswers.{exact-front}
 use Rattle.read_prototype.proofs.HeadAnswers.{exact-lists}
 use Rattle.copy_put.proofs.Stores.{size-pos}
-use Rattle.copy_parts.proofs.Entries.{Raw, at-run, raw-field, raw-upvalue, below-part}
+use Rattle.copy_entry.proofs.Entries.{Raw, at-run, raw-field, raw-upvalue, below-part}
 use Rattle.copy_parts.specs.Inner.Parts.{sourceBytes, linesBytes, sizesBytes, listsBytes, headBytes, tailBytes}
 use Rattle.copy_parts.proofs.Lengths.{Short, short-then, short-number, raw-short, stays, short-string, short-anchor, short-local, short-constant, Listing, listed, counted-at, upTo-at}
 

@@ -32,8 +32,8 @@ use Rattle.read_field.specs.Shown.{optionString}
 use Rattle.copy_put.specs.Inner.Put.{Put, PutsAll}
 use Rattle.copy_put.specs.Inner.Text.{There, spelt}
 use Rattle.copy_put.proofs.Writes.{put-then}
-use Rattle.copy_parts.proofs.Items.{string-put}
-use Rattle.copy_parts.proofs.Entries.{Raw, at-run, raw-field, raw-upvalue, raw-many, there-is, spelt-is}
+use Rattle.copy_entry.proofs.Items.{string-put}
+use Rattle.copy_entry.proofs.Entries.{Raw, at-run, raw-field, raw-upvalue, raw-many, there-is, spelt-is}
 use Rattle.copy_parts.specs.Inner.Parts.{sourceBytes, linesBytes, sizesBytes, listsBytes, headBytes, tailBytes}
 use Rattle.copy_parts.proofs.PartsAt.{TailAt, tail-at, ListsAt, lists-at, HeadAt, head-at}
 

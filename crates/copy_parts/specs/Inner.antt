@@ -1,5 +1,4 @@
 pub mod Ends
 pub mod Fronts
+pub mod Heads
 pub mod Parts
-pub mod Passed
-pub mod Value

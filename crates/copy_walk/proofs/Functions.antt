@@ -35,7 +35,7 @@ use Rattle.copy_put.specs.Inner.Put.{Put}
 use Rattle.copy_put.proofs.Writes.{put-then}
 use Rattle.copy_parts.specs.Inner.Parts.{functionBytes}
 use Rattle.copy_parts.specs.Inner.Ends.{PutsTail, endShown}
-use Rattle.copy_parts.specs.Inner.Passed.{PutsHead}
+use Rattle.copy_parts.specs.Inner.Heads.{PutsHead}
 use Rattle.copy_walk.specs.Inner.Walk.{PutsFunction}
 use Rattle.copy_parts.proofs.PutParts.{put-as}
 use Rattle.copy_walk.proofs.Nests.{made}

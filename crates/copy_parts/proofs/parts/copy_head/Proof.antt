@@ -2,7 +2,7 @@
 use borrow.Author.Needs.{needs}
 use mathlib.Core.Path.{sym, _∙_}
 use Rattle.read_prototype.proofs.HeadAnswers.{front-refused, lists-refused, protos-refused, whole-head}
-use Rattle.copy_parts.proofs.Judged.{head-not, head-copied}
+use Rattle.copy_parts.proofs.HeadPut.{head-not, head-copied}
 use Rattle.copy_parts.proofs.parts.copy_head.Statement.{statement}
 use Rattle.copy_parts.proofs.parts.copy_head.Tie as tie
 

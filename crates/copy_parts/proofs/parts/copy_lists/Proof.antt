@@ -2,7 +2,7 @@
 use borrow.Author.Needs.{needs}
 use mathlib.Core.Path.{sym, _∙_}
 use Rattle.read_prototype.proofs.HeadAnswers.{code-refused, constants-refused, upvalues-refused, all-lists}
-use Rattle.copy_parts.proofs.Judged.{lists-not, lists-copied}
+use Rattle.copy_parts.proofs.HeadPut.{lists-not, lists-copied}
 use Rattle.copy_parts.proofs.parts.copy_lists.Statement.{statement}
 use Rattle.copy_parts.proofs.parts.copy_lists.Tie as tie
 

@@ -1,0 +1,5 @@
+pub mod Entries
+pub mod Values
+pub mod Items
+pub mod Lists
+pub mod Judged
