@@ -1,4 +1,4 @@
-// The lists that have entries of any length, each with its count: judged as `counted` judges them, and copied in the same pass.
+// The lists that have entries of any length, each with its count: judged as `read_list` judges them, and copied in the same pass.
 ghost use mathlib.Core.Path.{_≡_};
 ghost use lib.ListN.{drop};
 ghost use Rattle.format.specs.declared.refusal.Refusal.the-variants.{Constants};

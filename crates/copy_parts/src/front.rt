@@ -1,4 +1,4 @@
-// The front of a function, field by field: read as `read_front` of prototype reads it, and put into the copy in the same pass.
+// The front of a function, field by field: read as `read_front` of read_prototype reads it, and put into the copy in the same pass.
 // It has its own readers: a second caller of `read_front` would cost every walk, which has it inlined.
 ghost use mathlib.Core.Path.{_≡_};
 ghost use mathlib.Core.Bool.{cond};

@@ -1,4 +1,4 @@
--- A function copied, in the code's terms: by what the calls showed and put (skim's `OneFunction.antt` says what they show).
+-- A function copied, in the code's terms: by what the calls showed and put (read_walk's `OneFunction.antt` says what they show).
 --     not-read         a walk that refuses may have put anything
 --     its-head, first  the head that was read, and where the first function stands that nests in it
 --     end-shows, whole-put     behind the end of a function: what is shown, and what was put

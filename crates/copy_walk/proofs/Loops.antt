@@ -1,6 +1,6 @@
 -- The loop of `copy_function` over the nested functions: those passed so far, and their copy.
 --     Copied           the copy of functions one after the other stands at a place, whatever is nested behind them
---     Copies           in the loop: those passed are read (skim's `SoFar.antt`) and copied
+--     Copies           in the loop: those passed are read (read_walk's `SoFar.antt`) and copied
 --     copies-none, copies-one, copies-all      before the first; behind one more; where none is left
 -- Assumes nothing.
 use mathlib.Core.Path.{_≡_, refl, sym, _∙_, ap}

@@ -1,4 +1,4 @@
--- What the walk has written: at each return of `write_function`, and at each turn of the loop of `write_functions`.
+-- What the walk has written: at each return of `write_function`, and at each turn of its loop.
 --     refuses          a walk that refuses may have written anything
 --     function-wrote   a function's row, behind the rows of those that nest in it
 --     Behind           in the loop: the rows of the functions passed stand there, and those left are read from here on

@@ -1,6 +1,6 @@
 -- What a walk has found: at each return of `find_function`, and at each turn of the loop of `find_functions`.
 --     refuses              a walk that refuses may have left anything
---     nested-refused, tail-refused, function-shown     what a walk over a function shows, as skim's Passes.antt has it, from the place of a source
+--     nested-refused, tail-refused, function-shown     what a walk over a function shows, as read_walk's Passes.antt has it, from the place of a source
 --     function-found       behind a function: its own row, where it is the one wanted, else what was found in it
 --     Behind               in the loop: what was found among the functions passed
 -- Assumes nothing.

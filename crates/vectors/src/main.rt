@@ -231,7 +231,7 @@ fn run(
     report::totals(tally);
 }
 
-// The buffer of the input has room for two of the longest requests (line.rt of crate text says why).
+// The buffer of the input has room for two of the longest requests (line.rt of crate text_read says why).
 fn main() {
     let mut buf = [0u8; 2097152];
     let mut chunk = [0u8; 65536];

@@ -1,5 +1,5 @@
 -- The proof of `write_function`, which calls itself for the functions that nest in it: the levels left fall. The loop's measure is the functions left.
--- What each return shows is in skim's Passes.antt and SoFar.antt, what it has written in Rows.antt.
+-- What each return shows is in read_walk's Passes.antt and SoFar.antt, what it has written in Rows.antt.
 -- Assumes nothing.
 use Prim.Native.Nat.{ℕ, _<_, _*_, _+_, _-_}
 use mathlib.Core.Path.{_≡_, refl, sym, _∙_}

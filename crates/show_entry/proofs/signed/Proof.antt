@@ -1,4 +1,4 @@
--- `show_entry::signed` meets its contract: `Signed.antt` of lists. Assumes nothing.
+-- `show_entry::signed` meets its contract: `Signed.antt` of read_entry. Assumes nothing.
 use native.Mathlib.Omega.{arith}
 use borrow.Author.Needs.{needs}
 use mir.Syntax.{w8}

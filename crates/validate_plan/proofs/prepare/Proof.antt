@@ -1,4 +1,4 @@
--- `validate_plan::prepare` meets its contract: by what the first pass showed (`Chunk.antt` of validator). Assumes nothing.
+-- `validate_plan::prepare` meets its contract: by what the first pass showed (`Chunk.antt` of validate_verdict). Assumes nothing.
 use mathlib.Core.Path.{sym, ap, subst, _∙_}
 use borrow.Author.Needs.{needs}
 use Rattle.format.specs.ReadChunk.{read}

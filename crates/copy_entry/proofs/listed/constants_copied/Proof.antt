@@ -1,4 +1,4 @@
--- `copy_entry::listed::constants_copied` meets its contract: by whether the count is read (`Listing.antt` of counted), and by what the entries put (`Judged.antt`). Assumes nothing.
+-- `copy_entry::listed::constants_copied` meets its contract: by whether the count is read (`Listing.antt` of read_list), and by what the entries put (`Judged.antt`). Assumes nothing.
 use borrow.Author.Needs.{needs}
 use Rattle.format.specs.declared.refusal.Refusal.the-variants.{Constants}
 use Rattle.format.proofs.ExactChunk.{exact-constant}

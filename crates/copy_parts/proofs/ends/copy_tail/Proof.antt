@@ -1,4 +1,4 @@
--- `copy_parts::ends::copy_tail` meets its contract: at each return the calls say which case of the reader holds (`HeadAnswers.antt` of prototype), and what is put (`EndsPut.antt`). Assumes nothing.
+-- `copy_parts::ends::copy_tail` meets its contract: at each return the calls say which case of the reader holds (`HeadAnswers.antt` of read_prototype), and what is put (`EndsPut.antt`). Assumes nothing.
 use borrow.Author.Needs.{needs}
 use mathlib.Core.Path.{sym, _∙_}
 use Rattle.read_prototype.proofs.HeadAnswers.{deltas-refused, anchors-refused, locals-refused, names-refused, whole-tail}

@@ -1,4 +1,4 @@
--- `copy_parts::front::copy_front` meets its contract: at each return the calls say which case of the reader holds (`FrontAnswers.antt` of prototype), and what is put (`FrontPut.antt`). Assumes nothing.
+-- `copy_parts::front::copy_front` meets its contract: at each return the calls say which case of the reader holds (`FrontAnswers.antt` of read_prototype), and what is put (`FrontPut.antt`). Assumes nothing.
 use borrow.Author.Needs.{needs}
 use mathlib.Core.Path.{sym, _∙_}
 use Rattle.read_prototype.proofs.FrontAnswers.{source-refused, lines-refused, sizes-refused, whole-front}

@@ -1,4 +1,4 @@
--- `copy_parts::front::copy_sizes` meets its contract: three bytes, one after the other (`ThreeBytes.antt` of reader), and what is put (`FrontPut.antt`). Assumes nothing.
+-- `copy_parts::front::copy_sizes` meets its contract: three bytes, one after the other (`ThreeBytes.antt` of read_field), and what is put (`FrontPut.antt`). Assumes nothing.
 use borrow.Author.Needs.{needs}
 use mathlib.Core.Path.{sym, _∙_}
 use Rattle.read_field.proofs.ThreeBytes.{first-refused, second-refused, third-refused, three-read}

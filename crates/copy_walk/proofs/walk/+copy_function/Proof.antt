@@ -1,5 +1,5 @@
 -- The proof of `copy_function`, which calls itself for the functions that nest in it: the levels left fall. The loop's measure is the functions left.
--- What each return shows is in skim's SoFar.antt and in Functions.antt, what it has put in Loops.antt and Functions.antt.
+-- What each return shows is in read_walk's SoFar.antt and in Functions.antt, what it has put in Loops.antt and Functions.antt.
 -- Assumes nothing.
 use Prim.Native.Nat.{ℕ, _<_, _+_}
 use mathlib.Core.Path.{_≡_, refl, sym, _∙_}

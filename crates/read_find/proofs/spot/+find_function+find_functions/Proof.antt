@@ -1,5 +1,5 @@
--- The proof of the cycle of calls {find_function, find_functions}: as that of skim's walk. A function at n levels calls `find_functions` at n levels, and that calls
--- `find_function` at n - 1: the measure is 2n + 1 for the one and 2n for the other. What each return shows is in skim's laws, what it has found in Finds.antt.
+-- The proof of the cycle of calls {find_function, find_functions}: as that of read_walk's walk. A function at n levels calls `find_functions` at n levels, and that calls
+-- `find_function` at n - 1: the measure is 2n + 1 for the one and 2n for the other. What each return shows is in read_walk's laws, what it has found in Finds.antt.
 -- Assumes nothing.
 use Prim.Native.Nat.{ℕ, _<_, _≤_, _*_, _+_}
 use mathlib.Core.Path.{_≡_, refl, sym, _∙_}
