@@ -43,7 +43,7 @@ fn up_to_three(n: [u64; 3], to: usize) -> [u64; 4]
     [n[0], n[1], n[2], to as u64]
 }
 
-// The word. Ruled out: high byte first, the place of the word itself given as the one behind.
+// The instruction word at a place, and the place behind it. Ruled out: high byte first, the place of the word itself given as the one behind.
 pub fn word_at(chunk: &[u8], limits: &[u64; 9], place: usize, out: &mut [u64; 2]) -> u64
     ensures { λ r. ⌜ r ≡ status (wordAt (now (limits .entry)) place (now (chunk .entry))) ⌝ }
     ensures { λ _. ⌜ now (out .exit) ≡ written (wordAt (now (limits .entry)) place (now (chunk .entry))) (now (out .entry)) ⌝ }
@@ -162,7 +162,7 @@ fn local_numbers_at(name: OptionString, startpc: usize, endpc: usize, to: usize)
     ]
 }
 
-// With its name as it is spelt. Ruled out: an absent name shown as an empty one, startpc and endpc exchanged.
+// The local variable that begins at a place, with its name as it is spelt, and the place behind it. Ruled out: an absent name shown as an empty one, startpc and endpc exchanged.
 pub fn local_at(chunk: &[u8], limits: &[u64; 9], place: usize, out: &mut [u64; 6]) -> u64
     ensures { λ r. ⌜ r ≡ status (localAt (now (limits .entry)) place (now (chunk .entry))) ⌝ }
     ensures { λ _. ⌜ now (out .exit) ≡ written (localAt (now (limits .entry)) place (now (chunk .entry))) (now (out .entry)) ⌝ }

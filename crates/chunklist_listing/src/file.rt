@@ -15,7 +15,7 @@ fn list_into(fd: i32, buf: &mut [u8], out: &mut Out)
     text_print::flush(out, used);
 }
 
-// The buffer has one byte more than the longest file that is read: where it is filled, the file is too long.
+// Lists the file that a descriptor reads, on standard output. The buffer has one byte more than the longest file that is read: where it is filled, the file is too long.
 pub fn list_file(fd: i32) {
     let mut buf = [0u8; LONGEST + 1];
     let mut out = [0u8; text_print::ROOM];

@@ -23,7 +23,7 @@ fn store_groups(out: &mut [u8], at: usize, n: usize, v: u64)
     }
 }
 
-// A number. Ruled out: low group first, a number below 128 in two bytes.
+// Writes a number in its shortest spelling at a place, where there is room, and gives the place behind it. Ruled out: low group first, a number below 128 in two bytes.
 pub fn put_varint(out: &mut [u8], at: usize, v: u64) -> usize
     ensures { λ r. ⌜ Put (shortest v) at (now (out .entry)) r (now (out .exit)) ⌝ }
 {

@@ -23,7 +23,7 @@ pub fn plus(at: usize, n: usize) -> usize
     at + n
 }
 
-// One byte. Ruled out: a byte in the place before, a place behind that is the place itself.
+// Writes one byte at a place, where there is room, and gives the place behind it. Ruled out: a byte in the place before, a place behind that is the place itself.
 pub fn put_byte(out: &mut [u8], at: usize, byte: u8) -> usize
     ensures { λ r. ⌜ Put (byte ∷ []) at (now (out .entry)) r (now (out .exit)) ⌝ }
 {

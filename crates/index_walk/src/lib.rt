@@ -17,7 +17,7 @@ use read_prototype::pass::pass_tail;
 use read_walk::walk::SkimResult;
 use read_walk::walk::Skimmed;
 
-// Passes over a function and all that nest in it, as `skim_function` does, and writes the row of each. Ruled out: rows in the order in which functions end, a row left out.
+// Passes over a function and all that nest in it, as the judge does (read_walk), and writes the row of each. Ruled out: rows in the order in which functions end, a row left out.
 pub fn write_function(
     s: &[u8],
     limits: ResourceLimits,

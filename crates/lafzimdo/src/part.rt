@@ -110,7 +110,7 @@ pub extern "C" fn lafzimdo_anchor_at(
     anchor_at(chunk, limits, place, out)
 }
 
-// With its name as it is spelt. Ruled out: an absent name shown as an empty one, startpc and endpc exchanged.
+// The local variable that begins at a place, with its name as it is spelt, and the place behind it. Ruled out: an absent name shown as an empty one, startpc and endpc exchanged.
 #[no_mangle]
 pub extern "C" fn lafzimdo_local_at(
     chunk: &[u8],

@@ -64,7 +64,7 @@ fn line_in_row(s: &[u8], row: FunctionRow, pc: usize) -> LineAnswer
     }
 }
 
-// The Rust's `Prototype::get_line_for_pc`. Ruled out: the delta at the anchor skipped, lines always 0.
+// The line of an instruction of a function, as the Rust's `Prototype::get_line_for_pc` finds it. Ruled out: the delta at the anchor skipped, lines always 0.
 pub fn get_line_for_pc(s: &[u8], limits: ResourceLimits, function: usize, pc: usize) -> LineAnswer
     ensures { λ r. ⌜ r ≡ shownLine pc (functionOf function (read limits (now (s .entry)))) ⌝ }
 {

@@ -1,4 +1,4 @@
-// Prints how many functions the chunk on standard input has; 0 where it is refused.
+// Prints how many functions the chunk on standard input has, of at most 65,536 bytes; 0 where it is refused.
 use lua54::ResourceLimits;
 use lua54::SummaryAnswer;
 use lua54::chunk_summary;

@@ -151,7 +151,7 @@ pub fn judge_chunk(s: &[u8], limits: ResourceLimits) -> JudgedResult
     }
 }
 
-// The same, and the row of the function that is wanted. Ruled out: a count of functions without main.
+// Judges a whole chunk: its summary and the row of the function that is wanted, or the refusal. Ruled out: a count of functions without main.
 pub fn decode_chunk_lua54(s: &[u8], limits: ResourceLimits, wanted: usize) -> DecodedResult
     ensures { λ r. ⌜ r ≡ decodedResult wanted (format.read limits (now (s .entry))) ⌝ }
 {

@@ -97,7 +97,7 @@ pub fn upvalues_list(s: &[u8], cursor: Cursor, max_upvalues: usize) -> ListResul
     }
 }
 
-// The deltas. Ruled out: place plus size that wraps, the refusal at the place of the count.
+// Passes over the line deltas of a function: their count, and a byte each. Ruled out: place plus size that wraps, the refusal at the place of the count.
 pub fn line_info_list(s: &[u8], cursor: Cursor) -> ListResult
     ensures { λ r. ⌜ r ≡ listResult (lineInfo (cursor .at) (drop (cursor .at) (now (s .entry)))) ⌝ }
 {
@@ -144,7 +144,7 @@ pub fn locals_list(s: &[u8], cursor: Cursor, max_string_bytes: usize) -> ListRes
     }
 }
 
-// The upvalue names. Ruled out: absent names not counted, more names than upvalues refused.
+// Passes over the upvalue names of a function: their count, and each of them. Ruled out: absent names not counted, more names than upvalues refused.
 pub fn names_list(s: &[u8], cursor: Cursor, max_string_bytes: usize) -> ListResult
     ensures { λ r. ⌜ r ≡ listResult (spec.counted (string «max_string_bytes») (cursor .at) (drop (cursor .at) (now (s .entry)))) ⌝ }
 {

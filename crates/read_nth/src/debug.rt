@@ -21,7 +21,7 @@ use slice::cursor::Cursor;
 use slice::cursor::CursorResult;
 use slice::cursor::read_exact;
 
-// The byte of a delta. Ruled out: the first delta whatever the number, one delta too far.
+// The delta with a number, from 0, of those that begin at the cursor, as a byte. Ruled out: the first delta whatever the number, one delta too far.
 pub fn nth_delta(s: &[u8], cursor: Cursor, entry: usize) -> U8Result
     ensures { λ r. ⌜ r ≡ u8Result (byteAt entry (cursor .at) (drop (cursor .at) (now (s .entry)))) ⌝ }
 {
@@ -43,7 +43,7 @@ pub fn nth_anchor(s: &[u8], cursor: Cursor, entry: usize) -> AnchorResult
     }
 }
 
-// With its name as it is spelt. Ruled out: the name of the local before, an absent name given as `?`.
+// The local variable with a number, from 0, of those that begin at the cursor, with its name as it is spelt. Ruled out: the name of the local before, an absent name given as `?`.
 pub fn nth_local(s: &[u8], cursor: Cursor, entry: usize, max_string_bytes: usize) -> LocalResult
     ensures { λ r. ⌜ r ≡ localResult (localAt entry «max_string_bytes» (cursor .at) (drop (cursor .at) (now (s .entry)))) ⌝ }
 {
@@ -54,7 +54,7 @@ pub fn nth_local(s: &[u8], cursor: Cursor, entry: usize, max_string_bytes: usize
     }
 }
 
-// An upvalue's name. Ruled out: absent names not counted, an absent name given as an empty one.
+// The upvalue name with a number, from 0, of those that begin at the cursor. Ruled out: absent names not counted, an absent name given as an empty one.
 pub fn nth_name(s: &[u8], cursor: Cursor, entry: usize, max_string_bytes: usize) -> StringResult
     ensures { λ r. ⌜ r ≡ stringResult (entryAt entry (string «max_string_bytes») (cursor .at) (drop (cursor .at) (now (s .entry)))) ⌝ }
 {

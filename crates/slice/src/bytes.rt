@@ -2,7 +2,7 @@
 ghost use mathlib.Core.Path.{_≡_};
 ghost use lib.ListN.{take, drop};
 
-// From a place on. Ruled out: one byte too few, the front of the slice.
+// The bytes of a slice from a place on; none where the place is behind its end. Ruled out: one byte too few, the front of the slice.
 pub fn bytes_from(s: &[u8], place: usize) -> &[u8]
     ensures { λ r. ⌜ now r ≡ drop place (now (s .entry)) ⌝ }
 {
@@ -13,7 +13,7 @@ pub fn bytes_from(s: &[u8], place: usize) -> &[u8]
     &s[end..end]
 }
 
-// At most so many from a place on. Ruled out: all of them, one byte too few.
+// The bytes of a slice from a place on, at most `len` of them. Ruled out: all of them, one byte too few.
 pub fn bytes_at(s: &[u8], place: usize, len: usize) -> &[u8]
     ensures { λ r. ⌜ now r ≡ take len (drop place (now (s .entry))) ⌝ }
 {

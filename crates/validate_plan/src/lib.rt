@@ -69,7 +69,7 @@ fn decide(s: &[u8], limits: ResourceLimits, room: usize, place: Cursor, kept: u6
     }
 }
 
-// The first pass judges, the second counts; the writer's is the third.
+// Judges a chunk, counts its findings and decides what their writer answers and writes into so much room. The first pass judges, the second counts; the writer's is the third.
 pub fn prepare(s: &[u8], limits: ResourceLimits, room: usize) -> Plan
     ensures { λ r. ⌜ Planned limits (now (s .entry)) room r ⌝ }
 {
