@@ -1,9 +1,10 @@
 // Lists of numbers, put together from numbers and from parts of memory. A list that is full takes no more, and nothing is asked of a caller.
 // Memory is lent with 165 in every place, so that it shows what a call wrote.
 
+// How many numbers a list has room for.
 pub const ROOM: usize = 65536;
 
-pub type Numbers = [u64; 65536];
+pub type Numbers = [u64; ROOM];
 
 // One number more: how many there are then.
 pub fn push(list: &mut Numbers, at: usize, x: u64) -> usize {

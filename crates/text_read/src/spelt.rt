@@ -13,7 +13,7 @@ pub struct Spelt {
 }
 
 // No list is so long.
-pub const BAD: usize = 65537;
+pub const BAD: usize = list::ROOM + 1;
 
 pub fn numbers(line: &[u8], start: usize, want: &mut Numbers) -> Spelt {
     let mut s = Spelt {

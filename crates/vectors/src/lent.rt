@@ -17,7 +17,7 @@ pub fn copy(
     count: usize,
     got: &mut Numbers,
 ) -> usize {
-    let mut memory = [165u8; 65536];
+    let mut memory = [165u8; list::ROOM];
     let at = copy_in(chunk, limits, &mut memory, lent, got);
     let at = list::bytes(got, at, &memory, from, count);
     list::push(got, at, list::written_bytes(&memory, lent))
@@ -46,7 +46,7 @@ pub fn index(
     count: usize,
     got: &mut Numbers,
 ) -> usize {
-    let mut memory = [165u32; 65536];
+    let mut memory = [165u32; list::ROOM];
     let at = index_in(chunk, limits, &mut memory, lent, got);
     let at = list::words(got, at, &memory, from, count);
     list::push(got, at, list::written_words(&memory, lent))
@@ -75,7 +75,7 @@ pub fn findings(
     count: usize,
     got: &mut Numbers,
 ) -> usize {
-    let mut memory = [165u64; 65536];
+    let mut memory = [165u64; list::ROOM];
     let at = findings_in(chunk, limits, &mut memory, lent, got);
     let at = list::longs(got, at, &memory, from, count);
     list::push(got, at, list::written_longs(&memory, lent))
@@ -105,7 +105,7 @@ fn local(
     got: &mut Numbers,
     at: usize,
 ) -> usize {
-    let mut memory = [165u8; 65536];
+    let mut memory = [165u8; list::ROOM];
     let at = local_in(chunk, limits, f, e, &mut memory, lent, got, at);
     list::push(got, at, list::written_bytes(&memory, lent))
 }
