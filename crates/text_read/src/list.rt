@@ -31,6 +31,7 @@ pub fn longs(list: &mut Numbers, at: usize, memory: &[u64], from: usize, count: 
     at
 }
 
+// The same of memory of 32-bit numbers.
 pub fn words(list: &mut Numbers, at: usize, memory: &[u32], from: usize, count: usize) -> usize {
     let mut at = at;
     let mut i = from;
@@ -46,6 +47,7 @@ pub fn words(list: &mut Numbers, at: usize, memory: &[u32], from: usize, count: 
     at
 }
 
+// The same of bytes.
 pub fn bytes(list: &mut Numbers, at: usize, memory: &[u8], from: usize, count: usize) -> usize {
     let mut at = at;
     let mut i = from;
@@ -93,6 +95,7 @@ pub fn written_bytes(memory: &[u8], lent: usize) -> u64 {
     n
 }
 
+// The same of memory of 32-bit numbers.
 pub fn written_words(memory: &[u32], lent: usize) -> u64 {
     let end = behind(lent);
     let mut n = 0;
@@ -109,6 +112,7 @@ pub fn written_words(memory: &[u32], lent: usize) -> u64 {
     n
 }
 
+// The same of memory of 64-bit numbers.
 pub fn written_longs(memory: &[u64], lent: usize) -> u64 {
     let end = behind(lent);
     let mut n = 0;
@@ -125,6 +129,7 @@ pub fn written_longs(memory: &[u64], lent: usize) -> u64 {
     n
 }
 
+// A byte as a number of a list.
 pub fn wide(x: u8) -> u64 {
     x as u64
 }

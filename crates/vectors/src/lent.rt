@@ -9,6 +9,7 @@ use lafzimdo::space::lafzimdo_local;
 use text_read::list;
 use text_read::list::Numbers;
 
+// The archive copy, written into `lent` bytes; then `count` places from `from` on, and how many were written.
 pub fn copy(
     chunk: &[u8],
     limits: &[u64; 9],
@@ -38,6 +39,7 @@ fn copy_in(
     one(got, 0, status, out[0])
 }
 
+// The index, in the same way, written into `lent` numbers of 32 bits.
 pub fn index(
     chunk: &[u8],
     limits: &[u64; 9],
@@ -67,6 +69,7 @@ fn index_in(
     one(got, 0, status, out[0])
 }
 
+// The findings, in the same way, written into `lent` numbers of 64 bits.
 pub fn findings(
     chunk: &[u8],
     limits: &[u64; 9],

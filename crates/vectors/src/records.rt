@@ -19,6 +19,7 @@ const LONGEST: usize = MAX_DIAGNOSTICS as usize + 1;
 
 type Records = [Finding; LONGEST];
 
+// The verdict, the number of findings, and of each finding five numbers.
 pub fn findings(chunk: &[u8], limits: &[u64; 9], got: &mut Numbers) -> usize {
     let found = chunk_findings(chunk, limits_of(limits));
     let answer = found.answer;

@@ -73,7 +73,7 @@ fn more(n: u64) -> u64
     n
 }
 
-// One more that agrees, one more that differs.
+// One more that agrees.
 fn agreed(t: Tally) -> Tally
     ensures { λ r. ⌜ r .differ ≡ t .differ ⌝ }
     ensures { λ r. ⌜ (t .agree < 18446744073709551615 → r .agree ≡ t .agree + 1) ⌝ }
@@ -85,6 +85,7 @@ fn agreed(t: Tally) -> Tally
     }
 }
 
+// One more that differs.
 pub fn differed(t: Tally) -> Tally
     ensures { λ r. ⌜ r .agree ≡ t .agree ⌝ }
     ensures { λ r. ⌜ (t .differ < 18446744073709551615 → r .differ ≡ t .differ + 1) ⌝ }
