@@ -33,6 +33,7 @@ pub fn flush(out: &[u8], used: usize)
     io::write_all(STDOUT_FILENO, &out[..used]);
 }
 
+// Puts bytes behind what waits.
 pub fn text(out: &mut Out, used: usize, s: &[u8]) -> usize
     requires { ⌜ Fits used ⌝ }
     ensures { λ r. ⌜ Fits r ⌝ }
@@ -47,6 +48,7 @@ pub fn text(out: &mut Out, used: usize, s: &[u8]) -> usize
     at
 }
 
+// Puts a number, in decimal, behind what waits.
 pub fn decimal(out: &mut Out, used: usize, n: u64) -> usize
     requires { ⌜ Fits used ⌝ }
     ensures { λ r. ⌜ Fits r ⌝ }

@@ -2,6 +2,6 @@
 pub mod hex;
 pub mod line;
 pub mod list;
-pub mod number;
+mod number;
 pub mod spelt;
 pub mod token;

@@ -38,6 +38,7 @@ pub struct Step {
 }
 
 impl Lines {
+    // Nothing read so far.
     pub fn new() -> Lines
         ensures { λ r. ⌜ Held r 0 ⌝ }
     {

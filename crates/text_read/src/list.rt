@@ -1,9 +1,10 @@
 // Lists of numbers, put together from numbers and from parts of memory. A list that is full takes no more, and nothing is asked of a caller.
 // Memory is lent with 165 in every place, so that it shows what a call wrote.
 
+// How many numbers a list has room for.
 pub const ROOM: usize = 65536;
 
-pub type Numbers = [u64; 65536];
+pub type Numbers = [u64; ROOM];
 
 // One number more: how many there are then.
 pub fn push(list: &mut Numbers, at: usize, x: u64) -> usize {
@@ -30,6 +31,7 @@ pub fn longs(list: &mut Numbers, at: usize, memory: &[u64], from: usize, count: 
     at
 }
 
+// The same of memory of 32-bit numbers.
 pub fn words(list: &mut Numbers, at: usize, memory: &[u32], from: usize, count: usize) -> usize {
     let mut at = at;
     let mut i = from;
@@ -45,6 +47,7 @@ pub fn words(list: &mut Numbers, at: usize, memory: &[u32], from: usize, count: 
     at
 }
 
+// The same of bytes.
 pub fn bytes(list: &mut Numbers, at: usize, memory: &[u8], from: usize, count: usize) -> usize {
     let mut at = at;
     let mut i = from;
@@ -92,6 +95,7 @@ pub fn written_bytes(memory: &[u8], lent: usize) -> u64 {
     n
 }
 
+// The same of memory of 32-bit numbers.
 pub fn written_words(memory: &[u32], lent: usize) -> u64 {
     let end = behind(lent);
     let mut n = 0;
@@ -108,6 +112,7 @@ pub fn written_words(memory: &[u32], lent: usize) -> u64 {
     n
 }
 
+// The same of memory of 64-bit numbers.
 pub fn written_longs(memory: &[u64], lent: usize) -> u64 {
     let end = behind(lent);
     let mut n = 0;
@@ -124,6 +129,7 @@ pub fn written_longs(memory: &[u64], lent: usize) -> u64 {
     n
 }
 
+// A byte as a number of a list.
 pub fn wide(x: u8) -> u64 {
     x as u64
 }

@@ -13,8 +13,9 @@ pub struct Spelt {
 }
 
 // No list is so long.
-pub const BAD: usize = 65537;
+pub const BAD: usize = list::ROOM + 1;
 
+// Reads the numbers of a line, from `start` on, into `want`: in each turn a word or a space.
 pub fn numbers(line: &[u8], start: usize, want: &mut Numbers) -> Spelt {
     let mut s = Spelt {
         at: start,

@@ -13,7 +13,7 @@ use lafzimdo::whole::lafzimdo_verdict;
 use text_read::list;
 use text_read::list::Numbers;
 
-// What is returned, and where that is 0 the numbers behind it.
+// What is returned, and where that is 0 the number behind it.
 pub fn one(got: &mut Numbers, at: usize, status: u64, a: u64) -> usize {
     let at = list::push(got, at, status);
     if status == 0 {
@@ -22,6 +22,7 @@ pub fn one(got: &mut Numbers, at: usize, status: u64, a: u64) -> usize {
     at
 }
 
+// The same with two numbers.
 pub fn two(got: &mut Numbers, at: usize, status: u64, a: u64, b: u64) -> usize {
     let at = one(got, at, status, a);
     if status == 0 {
@@ -30,6 +31,7 @@ pub fn two(got: &mut Numbers, at: usize, status: u64, a: u64, b: u64) -> usize {
     at
 }
 
+// The same with three numbers.
 pub fn three(got: &mut Numbers, at: usize, status: u64, a: u64, b: u64, c: u64) -> usize {
     let at = two(got, at, status, a, b);
     if status == 0 {
@@ -38,6 +40,7 @@ pub fn three(got: &mut Numbers, at: usize, status: u64, a: u64, b: u64, c: u64) 
     at
 }
 
+// A string: its length, then its bytes, which are taken from the chunk.
 pub fn string(got: &mut Numbers, at: usize, chunk: &[u8], place: u64, len: u64) -> usize {
     let at = list::push(got, at, len);
     list::bytes(got, at, chunk, place as usize, len as usize)

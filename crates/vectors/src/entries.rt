@@ -123,6 +123,7 @@ fn entry(
     }
 }
 
+// Every entry of the list that a letter means, and the refusal behind the last.
 pub fn entries(kind: u8, chunk: &[u8], limits: &[u64; 9], f: usize, got: &mut Numbers) -> usize {
     let mut at = 0;
     let mut e = 0;

@@ -9,6 +9,7 @@ use lafzimdo::space::lafzimdo_local;
 use text_read::list;
 use text_read::list::Numbers;
 
+// The archive copy, written into `lent` bytes; then `count` places from `from` on, and how many were written.
 pub fn copy(
     chunk: &[u8],
     limits: &[u64; 9],
@@ -17,7 +18,7 @@ pub fn copy(
     count: usize,
     got: &mut Numbers,
 ) -> usize {
-    let mut memory = [165u8; 65536];
+    let mut memory = [165u8; list::ROOM];
     let at = copy_in(chunk, limits, &mut memory, lent, got);
     let at = list::bytes(got, at, &memory, from, count);
     list::push(got, at, list::written_bytes(&memory, lent))
@@ -38,6 +39,7 @@ fn copy_in(
     one(got, 0, status, out[0])
 }
 
+// The index, in the same way, written into `lent` numbers of 32 bits.
 pub fn index(
     chunk: &[u8],
     limits: &[u64; 9],
@@ -46,7 +48,7 @@ pub fn index(
     count: usize,
     got: &mut Numbers,
 ) -> usize {
-    let mut memory = [165u32; 65536];
+    let mut memory = [165u32; list::ROOM];
     let at = index_in(chunk, limits, &mut memory, lent, got);
     let at = list::words(got, at, &memory, from, count);
     list::push(got, at, list::written_words(&memory, lent))
@@ -67,6 +69,7 @@ fn index_in(
     one(got, 0, status, out[0])
 }
 
+// The findings, in the same way, written into `lent` numbers of 64 bits.
 pub fn findings(
     chunk: &[u8],
     limits: &[u64; 9],
@@ -75,7 +78,7 @@ pub fn findings(
     count: usize,
     got: &mut Numbers,
 ) -> usize {
-    let mut memory = [165u64; 65536];
+    let mut memory = [165u64; list::ROOM];
     let at = findings_in(chunk, limits, &mut memory, lent, got);
     let at = list::longs(got, at, &memory, from, count);
     list::push(got, at, list::written_longs(&memory, lent))
@@ -105,7 +108,7 @@ fn local(
     got: &mut Numbers,
     at: usize,
 ) -> usize {
-    let mut memory = [165u8; 65536];
+    let mut memory = [165u8; list::ROOM];
     let at = local_in(chunk, limits, f, e, &mut memory, lent, got, at);
     list::push(got, at, list::written_bytes(&memory, lent))
 }

@@ -18,6 +18,7 @@ use text_read::line::LONGEST;
 use text_read::line::Lines;
 use text_read::line::Step;
 use text_read::list::Numbers;
+use text_read::list::ROOM;
 use text_read::spelt;
 use text_read::token;
 use vectors_compare::Tally;
@@ -25,7 +26,10 @@ use vectors_compare::agrees;
 use vectors_compare::counted;
 use vectors_compare::differed;
 
-type Chunk = [u8; 65536];
+// The longest chunk.
+const LONGEST_CHUNK: usize = 65536;
+
+type Chunk = [u8; LONGEST_CHUNK];
 
 // The length of the chunk that is asked about; how many lines were read; how many answers agreed and how many differed.
 struct State {
@@ -233,10 +237,10 @@ fn run(
 
 // The buffer of the input has room for two of the longest requests (line.rt of crate text_read says why).
 fn main() {
-    let mut buf = [0u8; 2097152];
-    let mut chunk = [0u8; 65536];
+    let mut buf = [0u8; 2 * LONGEST];
+    let mut chunk = [0u8; LONGEST_CHUNK];
     let mut limits = [0u64; 9];
-    let mut want = [0u64; 65536];
-    let mut got = [0u64; 65536];
+    let mut want = [0u64; ROOM];
+    let mut got = [0u64; ROOM];
     run(&mut buf, &mut chunk, &mut limits, &mut want, &mut got);
 }

@@ -8,13 +8,18 @@ use text_read::list::Numbers;
 use validate_findings::array::chunk_findings;
 use validate_plan::FindingsAnswer;
 use validate_rules::finding::Finding;
+use validate_rules::finding::MAX_DIAGNOSTICS;
 use validate_rules::finding::Rule;
 use validate_rules::finding::Severity;
 use validate_rules::finding::Verdict;
 use validate_verdict::tally::severity;
 
-type Records = [Finding; 10001];
+// As many findings as there can be: the last instruction may add two.
+const LONGEST: usize = MAX_DIAGNOSTICS as usize + 1;
 
+type Records = [Finding; LONGEST];
+
+// The verdict, the number of findings, and of each finding five numbers.
 pub fn findings(chunk: &[u8], limits: &[u64; 9], got: &mut Numbers) -> usize {
     let found = chunk_findings(chunk, limits_of(limits));
     let answer = found.answer;
@@ -37,7 +42,7 @@ fn totals(got: &mut Numbers, verdict: Verdict, count: usize) -> usize {
 fn all_of(got: &mut Numbers, at: usize, records: Records, count: usize) -> usize {
     let mut at = at;
     let mut k = 0;
-    while k < 10001 {
+    while k < LONGEST {
         if count <= k {
             return at;
         }

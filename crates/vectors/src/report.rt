@@ -35,11 +35,13 @@ fn note(out: &mut Out, line: u64, why: &[u8]) {
     text_print::flush(out, used);
 }
 
+// Prints that a line is no request.
 pub fn no_request(line: u64) {
     let mut out = [0u8; ROOM];
     note(&mut out, line, b" is no request\n");
 }
 
+// Prints that a line is too long.
 pub fn too_long(line: u64) {
     let mut out = [0u8; ROOM];
     note(&mut out, line, b" is too long\n");
@@ -67,6 +69,7 @@ pub fn difference(line: u64, want: &[u64], from: usize, to: usize, got: &[u64], 
     reported(line, &want[from..to], &got[..n]);
 }
 
+// Prints how many answers agreed, and how many differed.
 pub fn totals(t: Tally) {
     let mut out = [0u8; ROOM];
     sum(&mut out, t);

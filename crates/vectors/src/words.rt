@@ -33,6 +33,7 @@ fn signed(x: u64) -> i32 {
     -1 - (4294967295 - n) as i32
 }
 
+// The fields of a word.
 pub fn decode(f: &Numbers, got: &mut Numbers) -> usize {
     let mut out = [0u64; 12];
     let status = lafzimdo_decode(low(f, 0), &mut out);
@@ -40,6 +41,7 @@ pub fn decode(f: &Numbers, got: &mut Numbers) -> usize {
     list::longs(got, at, &out, 0, 12)
 }
 
+// The word that fields make.
 pub fn encode(f: &Numbers, got: &mut Numbers) -> usize {
     let mut out = [0u64; 1];
     let status = lafzimdo_encode(

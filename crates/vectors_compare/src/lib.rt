@@ -27,7 +27,7 @@ pub fn first_difference(a: &[u64], b: &[u64]) -> usize
 
 // Whether two lists are the same.
 // Ruled out: a comparison that cannot fail, one that stops before the end, lengths that are not compared.
-pub fn same(a: &[u64], b: &[u64]) -> bool
+fn same(a: &[u64], b: &[u64]) -> bool
     ensures { λ r. ⌜ (r ≡ true → now (a .entry) ≡ now (b .entry)) × (now (a .entry) ≡ now (b .entry) → r ≡ true) ⌝ }
 {
     if a.len() != b.len() {
@@ -43,7 +43,7 @@ pub fn same(a: &[u64], b: &[u64]) -> bool
 // Whether the first n numbers that came are those that are wanted, from one place to another. A list that is full may have been cut, and agrees with none.
 // Ruled out: an answer that is not compared, or only as far as it goes.
 pub fn agrees(want: &[u64], from: usize, to: usize, got: &[u64], n: usize) -> bool
-    ensures { λ r. ⌜ (r ≡ true → Alike (now (want .entry)) from to (now (got .entry)) n) ⌝ }
+    ensures { λ r. ⌜ (r ≡ true → Fitting (now (want .entry)) from to (now (got .entry)) n × Alike (now (want .entry)) from to (now (got .entry)) n) ⌝ }
     ensures { λ r. ⌜ (Fitting (now (want .entry)) from to (now (got .entry)) n → Alike (now (want .entry)) from to (now (got .entry)) n → r ≡ true) ⌝ }
 {
     if to < from {
@@ -73,7 +73,7 @@ fn more(n: u64) -> u64
     n
 }
 
-// One more that agrees, one more that differs.
+// One more that agrees.
 fn agreed(t: Tally) -> Tally
     ensures { λ r. ⌜ r .differ ≡ t .differ ⌝ }
     ensures { λ r. ⌜ (t .agree < 18446744073709551615 → r .agree ≡ t .agree + 1) ⌝ }
@@ -85,6 +85,7 @@ fn agreed(t: Tally) -> Tally
     }
 }
 
+// One more that differs.
 pub fn differed(t: Tally) -> Tally
     ensures { λ r. ⌜ r .agree ≡ t .agree ⌝ }
     ensures { λ r. ⌜ (t .differ < 18446744073709551615 → r .differ ≡ t .differ + 1) ⌝ }
@@ -99,8 +100,8 @@ pub fn differed(t: Tally) -> Tally
 // Counts an answer of n numbers, held against those that are wanted.
 // Ruled out: an answer that differs and is not counted so, one that agrees and is counted as a difference.
 pub fn counted(t: Tally, want: &[u64], from: usize, to: usize, got: &[u64], n: usize) -> Tally
-    ensures { λ r. ⌜ ((Alike (now (want .entry)) from to (now (got .entry)) n → ⊥) → r .agree ≡ t .agree) ⌝ }
-    ensures { λ r. ⌜ ((Alike (now (want .entry)) from to (now (got .entry)) n → ⊥) → t .differ < 18446744073709551615 → r .differ ≡ t .differ + 1) ⌝ }
+    ensures { λ r. ⌜ ((Fitting (now (want .entry)) from to (now (got .entry)) n × Alike (now (want .entry)) from to (now (got .entry)) n → ⊥) → r .agree ≡ t .agree) ⌝ }
+    ensures { λ r. ⌜ ((Fitting (now (want .entry)) from to (now (got .entry)) n × Alike (now (want .entry)) from to (now (got .entry)) n → ⊥) → t .differ < 18446744073709551615 → r .differ ≡ t .differ + 1) ⌝ }
     ensures { λ r. ⌜ (Fitting (now (want .entry)) from to (now (got .entry)) n → Alike (now (want .entry)) from to (now (got .entry)) n → r .differ ≡ t .differ) ⌝ }
     ensures { λ r. ⌜ (Fitting (now (want .entry)) from to (now (got .entry)) n → Alike (now (want .entry)) from to (now (got .entry)) n → t .agree < 18446744073709551615 → r .agree ≡ t .agree + 1) ⌝ }
 {

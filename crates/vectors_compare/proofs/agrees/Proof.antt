@@ -23,4 +23,4 @@ agrees-spec =
     (λ c. search needs)
     (λ c. sym (length-take-le _ _ (search needs)))
     (λ c κs. search needs)
-    (λ c. search needs))
+    (λ c. ((λ e. (search needs, c .same .ensures .0 e)), (λ h e. c .same .ensures .1 e))))
