@@ -6,9 +6,9 @@ ghost use Rattle.read_walk.specs.declared.walk.SkimResult.the-variants as walk;
 ghost use Rattle.read_prototype.specs.Parts as parts;
 ghost use Rattle.copy_parts.specs.Inner.Ends.{PutsTail, endShown};
 use copy_entry::entry::Passed;
-use copy_entry::listed::anchors_copied;
-use copy_entry::listed::locals_copied;
-use copy_entry::listed::names_copied;
+use copy_entry::listed::copy_anchors_list;
+use copy_entry::listed::copy_locals_list;
+use copy_entry::listed::copy_names_list;
 use copy_put::raw::put_run;
 use format::limits::ResourceLimits;
 use format::refusal::Refusal;
@@ -54,7 +54,7 @@ fn copy_tail(s: &[u8], max_string_bytes: usize, cursor: Cursor, out: &mut [u8], 
             next: next1,
         } => {
             let first = put_run(s, place1, count1, 1, out, at);
-            let second = anchors_copied(s, next1, out, first);
+            let second = copy_anchors_list(s, next1, out, first);
             let anchors = second.list;
             match anchors {
                 ListResult::Err(refusal) => Passed {
@@ -66,7 +66,7 @@ fn copy_tail(s: &[u8], max_string_bytes: usize, cursor: Cursor, out: &mut [u8], 
                     place: _,
                     next: next2,
                 } => {
-                    let third = locals_copied(s, next2, max_string_bytes, out, second.behind);
+                    let third = copy_locals_list(s, next2, max_string_bytes, out, second.behind);
                     let locals = third.list;
                     match locals {
                         ListResult::Err(refusal) => Passed {
@@ -78,7 +78,13 @@ fn copy_tail(s: &[u8], max_string_bytes: usize, cursor: Cursor, out: &mut [u8], 
                             place: _,
                             next: next3,
                         } => {
-                            let last = names_copied(s, next3, max_string_bytes, out, third.behind);
+                            let last = copy_names_list(
+                                s,
+                                next3,
+                                max_string_bytes,
+                                out,
+                                third.behind,
+                            );
                             let names = last.list;
                             match names {
                                 ListResult::Err(refusal) => Passed {

@@ -15,24 +15,24 @@ returns c =
 returns-2 : tie.Need-returns-2
 returns-2 c =
     let a = c .before .before .before .before .before .before .before .before .before .before .before .before .before .before .before .before .before .args in
-    tail-stops _ _ (anchors-refused (a .s .now) (a .max-string-bytes) (a .cursor .at) (c .before .before .before .before .before .before .before .before .before .before .before .before .deltas2 .given .0 .0) (c .before .before .before .before .before .before .before .before .before .before .before .before .deltas2 .given .0 .1 .0) (c .before .before .before .before .before .before .before .before .before .before .before .before .deltas2 .given .0 .1 .1 .0) (sym (c .before .before .before .before .before .before .before .before .before .before .before .before .deltas2 .given .1) ∙ c .before .before .before .before .before .before .before .before .before .before .before .before .before .before .line-info-list .ensures) _ (sym (c .before .anchors .given .1) ∙ c .before .before .before .before .before .anchors-copied .ensures .0))
+    tail-stops _ _ (anchors-refused (a .s .now) (a .max-string-bytes) (a .cursor .at) (c .before .before .before .before .before .before .before .before .before .before .before .before .deltas2 .given .0 .0) (c .before .before .before .before .before .before .before .before .before .before .before .before .deltas2 .given .0 .1 .0) (c .before .before .before .before .before .before .before .before .before .before .before .before .deltas2 .given .0 .1 .1 .0) (sym (c .before .before .before .before .before .before .before .before .before .before .before .before .deltas2 .given .1) ∙ c .before .before .before .before .before .before .before .before .before .before .before .before .before .before .line-info-list .ensures) _ (sym (c .before .anchors .given .1) ∙ c .before .before .before .before .before .copy-anchors-list .ensures .0))
 
 returns-3 : tie.Need-returns-3
 returns-3 c =
     let a = c .before .before .before .before .before .before .before .before .before .before .before .before .before .before .before .before .before .before .before .before .before .before .before .before .args in
-    tail-stops _ _ (locals-refused (a .s .now) (a .max-string-bytes) (a .cursor .at) (c .before .before .before .before .before .before .before .before .before .before .before .before .before .before .before .before .before .before .before .deltas2 .given .0 .0) (c .before .before .before .before .before .before .before .before .before .before .before .before .before .before .before .before .before .before .before .deltas2 .given .0 .1 .0) (c .before .before .before .before .before .before .before .before .before .before .before .before .before .before .before .before .before .before .before .deltas2 .given .0 .1 .1 .0) (sym (c .before .before .before .before .before .before .before .before .before .before .before .before .before .before .before .before .before .before .before .deltas2 .given .1) ∙ c .before .before .before .before .before .before .before .before .before .before .before .before .before .before .before .before .before .before .before .before .before .line-info-list .ensures) (c .before .before .before .before .before .before .before .before .anchors2 .given .0 .0) (c .before .before .before .before .before .before .before .before .anchors2 .given .0 .1 .0) (c .before .before .before .before .before .before .before .before .anchors2 .given .0 .1 .1 .0) (sym (c .before .before .before .before .before .before .before .before .anchors2 .given .1) ∙ c .before .before .before .before .before .before .before .before .before .before .before .before .anchors-copied .ensures .0) _ (sym (c .before .locals .given .1) ∙ c .before .before .before .before .before .locals-copied .ensures .0))
+    tail-stops _ _ (locals-refused (a .s .now) (a .max-string-bytes) (a .cursor .at) (c .before .before .before .before .before .before .before .before .before .before .before .before .before .before .before .before .before .before .before .deltas2 .given .0 .0) (c .before .before .before .before .before .before .before .before .before .before .before .before .before .before .before .before .before .before .before .deltas2 .given .0 .1 .0) (c .before .before .before .before .before .before .before .before .before .before .before .before .before .before .before .before .before .before .before .deltas2 .given .0 .1 .1 .0) (sym (c .before .before .before .before .before .before .before .before .before .before .before .before .before .before .before .before .before .before .before .deltas2 .given .1) ∙ c .before .before .before .before .before .before .before .before .before .before .before .before .before .before .before .before .before .before .before .before .before .line-info-list .ensures) (c .before .before .before .before .before .before .before .before .anchors2 .given .0 .0) (c .before .before .before .before .before .before .before .before .anchors2 .given .0 .1 .0) (c .before .before .before .before .before .before .before .before .anchors2 .given .0 .1 .1 .0) (sym (c .before .before .before .before .before .before .before .before .anchors2 .given .1) ∙ c .before .before .before .before .before .before .before .before .before .before .before .before .copy-anchors-list .ensures .0) _ (sym (c .before .locals .given .1) ∙ c .before .before .before .before .before .copy-locals-list .ensures .0))
 
 returns-4 : tie.Need-returns-4
 returns-4 c =
     let a = c .before .before .before .before .before .before .before .before .before .before .before .before .before .before .before .before .before .before .before .before .before .before .before .before .before .before .before .before .before .before .before .args in
-    tail-stops _ _ (names-refused (a .s .now) (a .max-string-bytes) (a .cursor .at) (c .before .before .before .before .before .before .before .before .before .before .before .before .before .before .before .before .before .before .before .before .before .before .before .before .before .before .deltas2 .given .0 .0) (c .before .before .before .before .before .before .before .before .before .before .before .before .before .before .before .before .before .before .before .before .before .before .before .before .before .before .deltas2 .given .0 .1 .0) (c .before .before .before .before .before .before .before .before .before .before .before .before .before .before .before .before .before .before .before .before .before .before .before .before .before .before .deltas2 .given .0 .1 .1 .0) (sym (c .before .before .before .before .before .before .before .before .before .before .before .before .before .before .before .before .before .before .before .before .before .before .before .before .before .before .deltas2 .given .1) ∙ c .before .before .before .before .before .before .before .before .before .before .before .before .before .before .before .before .before .before .before .before .before .before .before .before .before .before .before .before .line-info-list .ensures) (c .before .before .before .before .before .before .before .before .before .before .before .before .before .before .before .anchors2 .given .0 .0) (c .before .before .before .before .before .before .before .before .before .before .before .before .before .before .before .anchors2 .given .0 .1 .0) (c .before .before .before .before .before .before .before .before .before .before .before .before .before .before .before .anchors2 .given .0 .1 .1 .0) (sym (c .before .before .before .before .before .before .before .before .before .before .before .before .before .before .before .anchors2 .given .1) ∙ c .before .before .before .before .before .before .before .before .before .before .before .before .before .before .before .before .before .before .before .anchors-copied .ensures .0) (c .before .before .before .before .before .before .before .before .locals2 .given .0 .0) (c .before .before .before .before .before .before .before .before .locals2 .given .0 .1 .0) (c .before .before .before .before .before .before .before .before .locals2 .given .0 .1 .1 .0) (sym (c .before .before .before .before .before .before .before .before .locals2 .given .1) ∙ c .before .before .before .before .before .before .before .before .before .before .before .before .locals-copied .ensures .0) _ (sym (c .before .names .given .1) ∙ c .before .before .before .before .before .names-copied .ensures .0))
+    tail-stops _ _ (names-refused (a .s .now) (a .max-string-bytes) (a .cursor .at) (c .before .before .before .before .before .before .before .before .before .before .before .before .before .before .before .before .before .before .before .before .before .before .before .before .before .before .deltas2 .given .0 .0) (c .before .before .before .before .before .before .before .before .before .before .before .before .before .before .before .before .before .before .before .before .before .before .before .before .before .before .deltas2 .given .0 .1 .0) (c .before .before .before .before .before .before .before .before .before .before .before .before .before .before .before .before .before .before .before .before .before .before .before .before .before .before .deltas2 .given .0 .1 .1 .0) (sym (c .before .before .before .before .before .before .before .before .before .before .before .before .before .before .before .before .before .before .before .before .before .before .before .before .before .before .deltas2 .given .1) ∙ c .before .before .before .before .before .before .before .before .before .before .before .before .before .before .before .before .before .before .before .before .before .before .before .before .before .before .before .before .line-info-list .ensures) (c .before .before .before .before .before .before .before .before .before .before .before .before .before .before .before .anchors2 .given .0 .0) (c .before .before .before .before .before .before .before .before .before .before .before .before .before .before .before .anchors2 .given .0 .1 .0) (c .before .before .before .before .before .before .before .before .before .before .before .before .before .before .before .anchors2 .given .0 .1 .1 .0) (sym (c .before .before .before .before .before .before .before .before .before .before .before .before .before .before .before .anchors2 .given .1) ∙ c .before .before .before .before .before .before .before .before .before .before .before .before .before .before .before .before .before .before .before .copy-anchors-list .ensures .0) (c .before .before .before .before .before .before .before .before .locals2 .given .0 .0) (c .before .before .before .before .before .before .before .before .locals2 .given .0 .1 .0) (c .before .before .before .before .before .before .before .before .locals2 .given .0 .1 .1 .0) (sym (c .before .before .before .before .before .before .before .before .locals2 .given .1) ∙ c .before .before .before .before .before .before .before .before .before .before .before .before .copy-locals-list .ensures .0) _ (sym (c .before .names .given .1) ∙ c .before .before .before .before .before .copy-names-list .ensures .0))
 
 returns-5 : tie.Need-returns-5
 returns-5 c =
     let a = c .before .before .before .before .before .before .before .before .before .before .before .before .before .before .before .before .before .before .before .before .before .before .before .before .before .before .before .before .before .before .before .args in
-    let e = whole-tail (a .s .now) (a .max-string-bytes) (a .cursor .at) (c .before .before .before .before .before .before .before .before .before .before .before .before .before .before .before .before .before .before .before .before .before .before .before .before .before .before .deltas2 .given .0 .0) (c .before .before .before .before .before .before .before .before .before .before .before .before .before .before .before .before .before .before .before .before .before .before .before .before .before .before .deltas2 .given .0 .1 .0) (c .before .before .before .before .before .before .before .before .before .before .before .before .before .before .before .before .before .before .before .before .before .before .before .before .before .before .deltas2 .given .0 .1 .1 .0) (sym (c .before .before .before .before .before .before .before .before .before .before .before .before .before .before .before .before .before .before .before .before .before .before .before .before .before .before .deltas2 .given .1) ∙ c .before .before .before .before .before .before .before .before .before .before .before .before .before .before .before .before .before .before .before .before .before .before .before .before .before .before .before .before .line-info-list .ensures) (c .before .before .before .before .before .before .before .before .before .before .before .before .before .before .before .anchors2 .given .0 .0) (c .before .before .before .before .before .before .before .before .before .before .before .before .before .before .before .anchors2 .given .0 .1 .0) (c .before .before .before .before .before .before .before .before .before .before .before .before .before .before .before .anchors2 .given .0 .1 .1 .0) (sym (c .before .before .before .before .before .before .before .before .before .before .before .before .before .before .before .anchors2 .given .1) ∙ c .before .before .before .before .before .before .before .before .before .before .before .before .before .before .before .before .before .before .before .anchors-copied .ensures .0) (c .before .before .before .before .before .before .before .before .locals2 .given .0 .0) (c .before .before .before .before .before .before .before .before .locals2 .given .0 .1 .0) (c .before .before .before .before .before .before .before .before .locals2 .given .0 .1 .1 .0) (sym (c .before .before .before .before .before .before .before .before .locals2 .given .1) ∙ c .before .before .before .before .before .before .before .before .before .before .before .before .locals-copied .ensures .0) (c .before .names2 .given .0 .0) (c .before .names2 .given .0 .1 .0) (c .before .names2 .given .0 .1 .1 .0) (sym (c .before .names2 .given .1) ∙ c .before .before .before .before .before .names-copied .ensures .0) in
+    let e = whole-tail (a .s .now) (a .max-string-bytes) (a .cursor .at) (c .before .before .before .before .before .before .before .before .before .before .before .before .before .before .before .before .before .before .before .before .before .before .before .before .before .before .deltas2 .given .0 .0) (c .before .before .before .before .before .before .before .before .before .before .before .before .before .before .before .before .before .before .before .before .before .before .before .before .before .before .deltas2 .given .0 .1 .0) (c .before .before .before .before .before .before .before .before .before .before .before .before .before .before .before .before .before .before .before .before .before .before .before .before .before .before .deltas2 .given .0 .1 .1 .0) (sym (c .before .before .before .before .before .before .before .before .before .before .before .before .before .before .before .before .before .before .before .before .before .before .before .before .before .before .deltas2 .given .1) ∙ c .before .before .before .before .before .before .before .before .before .before .before .before .before .before .before .before .before .before .before .before .before .before .before .before .before .before .before .before .line-info-list .ensures) (c .before .before .before .before .before .before .before .before .before .before .before .before .before .before .before .anchors2 .given .0 .0) (c .before .before .before .before .before .before .before .before .before .before .before .before .before .before .before .anchors2 .given .0 .1 .0) (c .before .before .before .before .before .before .before .before .before .before .before .before .before .before .before .anchors2 .given .0 .1 .1 .0) (sym (c .before .before .before .before .before .before .before .before .before .before .before .before .before .before .before .anchors2 .given .1) ∙ c .before .before .before .before .before .before .before .before .before .before .before .before .before .before .before .before .before .before .before .copy-anchors-list .ensures .0) (c .before .before .before .before .before .before .before .before .locals2 .given .0 .0) (c .before .before .before .before .before .before .before .before .locals2 .given .0 .1 .0) (c .before .before .before .before .before .before .before .before .locals2 .given .0 .1 .1 .0) (sym (c .before .before .before .before .before .before .before .before .locals2 .given .1) ∙ c .before .before .before .before .before .before .before .before .before .before .before .before .copy-locals-list .ensures .0) (c .before .names2 .given .0 .0) (c .before .names2 .given .0 .1 .0) (c .before .names2 .given .0 .1 .1 .0) (sym (c .before .names2 .given .1) ∙ c .before .before .before .before .before .copy-names-list .ensures .0) in
     tail-copied (a .s .now) (a .max-string-bytes) (a .cursor .at) _ _ e
-    (tail-put (a .s .now) (a .max-string-bytes) _ (c .before .before .before .before .before .before .before .before .before .before .before .before .before .before .before .before .before .before .before .before .before .before .before .put-run .ensures) (c .before .before .before .before .before .before .before .before .before .before .before .before .before .before .before .before .before .before .before .anchors-copied .ensures .1 .put _ _ _ (c .before .before .before .before .before .before .before .before .before .before .before .before .before .before .before .anchors2 .given .1)) (c .before .before .before .before .before .before .before .before .before .before .before .before .locals-copied .ensures .1 .put _ _ _ (c .before .before .before .before .before .before .before .before .locals2 .given .1)) (c .before .before .before .before .before .names-copied .ensures .1 .put _ _ _ (c .before .names2 .given .1)))
+    (tail-put (a .s .now) (a .max-string-bytes) _ (c .before .before .before .before .before .before .before .before .before .before .before .before .before .before .before .before .before .before .before .before .before .before .before .put-run .ensures) (c .before .before .before .before .before .before .before .before .before .before .before .before .before .before .before .before .before .before .before .copy-anchors-list .ensures .1 .put _ _ _ (c .before .before .before .before .before .before .before .before .before .before .before .before .before .before .before .anchors2 .given .1)) (c .before .before .before .before .before .before .before .before .before .before .before .before .copy-locals-list .ensures .1 .put _ _ _ (c .before .before .before .before .before .before .before .before .locals2 .given .1)) (c .before .before .before .before .before .copy-names-list .ensures .1 .put _ _ _ (c .before .names2 .given .1)))
 
 pub copy-tail-spec : {M : Type 1} → statement M
 copy-tail-spec =
@@ -52,11 +52,11 @@ copy-tail-spec =
     (λ c. search needs)
     (λ c. search needs)
     returns
-    (λ c. let k0 = c .before .before .before .before .before .before .before .before .before .put-run .kept in let k1 = c .before .before .before .before .before .anchors-copied .kept in search needs)
+    (λ c. let k0 = c .before .before .before .before .before .before .before .before .before .put-run .kept in let k1 = c .before .before .before .before .before .copy-anchors-list .kept in search needs)
     returns-2
-    (λ c. let k0 = c .before .before .before .before .before .before .before .before .before .before .before .before .before .before .before .before .put-run .kept in let k1 = c .before .before .before .before .before .before .before .before .before .before .before .before .anchors-copied .kept in let k2 = c .before .before .before .before .before .locals-copied .kept in search needs)
+    (λ c. let k0 = c .before .before .before .before .before .before .before .before .before .before .before .before .before .before .before .before .put-run .kept in let k1 = c .before .before .before .before .before .before .before .before .before .before .before .before .copy-anchors-list .kept in let k2 = c .before .before .before .before .before .copy-locals-list .kept in search needs)
     returns-3
-    (λ c. let k0 = c .before .before .before .before .before .before .before .before .before .before .before .before .before .before .before .before .before .before .before .before .before .before .before .put-run .kept in let k1 = c .before .before .before .before .before .before .before .before .before .before .before .before .before .before .before .before .before .before .before .anchors-copied .kept in let k2 = c .before .before .before .before .before .before .before .before .before .before .before .before .locals-copied .kept in let k3 = c .before .before .before .before .before .names-copied .kept in search needs)
+    (λ c. let k0 = c .before .before .before .before .before .before .before .before .before .before .before .before .before .before .before .before .before .before .before .before .before .before .before .put-run .kept in let k1 = c .before .before .before .before .before .before .before .before .before .before .before .before .before .before .before .before .before .before .before .copy-anchors-list .kept in let k2 = c .before .before .before .before .before .before .before .before .before .before .before .before .copy-locals-list .kept in let k3 = c .before .before .before .before .before .copy-names-list .kept in search needs)
     returns-4
-    (λ c. let k0 = c .before .before .before .before .before .before .before .before .before .before .before .before .before .before .before .before .before .before .before .before .before .before .before .put-run .kept in let k1 = c .before .before .before .before .before .before .before .before .before .before .before .before .before .before .before .before .before .before .before .anchors-copied .kept in let k2 = c .before .before .before .before .before .before .before .before .before .before .before .before .locals-copied .kept in let k3 = c .before .before .before .before .before .names-copied .kept in search needs)
+    (λ c. let k0 = c .before .before .before .before .before .before .before .before .before .before .before .before .before .before .before .before .before .before .before .before .before .before .before .put-run .kept in let k1 = c .before .before .before .before .before .before .before .before .before .before .before .before .before .before .before .before .before .before .before .copy-anchors-list .kept in let k2 = c .before .before .before .before .before .before .before .before .before .before .before .before .copy-locals-list .kept in let k3 = c .before .before .before .before .before .copy-names-list .kept in search needs)
     returns-5)
