@@ -32,7 +32,7 @@ pub struct Passed {
     pub behind: usize,
 }
 
-// The name of an upvalue. Ruled out: an absent name written as empty, a padded size kept.
+// Reads the name of an upvalue and puts it. Ruled out: an absent name written as empty, a padded size kept.
 pub fn copy_name(
     s: &[u8],
     cursor: Cursor,
@@ -59,7 +59,7 @@ pub fn copy_name(
     }
 }
 
-// An anchor. Ruled out: pc and line exchanged, a padded number kept.
+// Reads an anchor and puts its two numbers. Ruled out: pc and line exchanged, a padded number kept.
 pub fn copy_anchor(s: &[u8], cursor: Cursor, out: &mut [u8], at: usize) -> Passed
     ensures { λ r. ⌜ r .read ≡ cursorResult (anchor (cursor .at) (drop (cursor .at) (now (s .entry)))) ⌝ }
     ensures { λ r. ⌜ Puts anchorBytes (anchor (cursor .at) (drop (cursor .at) (now (s .entry)))) at (now (out .entry)) (nextOf (r .read)) (r .behind) (now (out .exit)) ⌝ }
@@ -81,7 +81,7 @@ pub fn copy_anchor(s: &[u8], cursor: Cursor, out: &mut [u8], at: usize) -> Passe
     }
 }
 
-// A local variable. Ruled out: an absent name written as absent, startpc and endpc exchanged.
+// Reads a local variable and puts its name and its two numbers. Ruled out: an absent name written as absent, startpc and endpc exchanged.
 pub fn copy_local(
     s: &[u8],
     cursor: Cursor,
@@ -115,7 +115,7 @@ pub fn copy_local(
     }
 }
 
-// A constant that stands between two places. A string's size is written anew; any other constant stays as it is.
+// Puts a constant that was read between two places. A string's size is written anew; any other constant stays as it is.
 fn put_value(
     s: &[u8],
     first: usize,
@@ -136,7 +136,7 @@ fn put_value(
     }
 }
 
-// A constant. Ruled out: a short string written as a long one, a string of size 0 written as absent.
+// Reads a constant and puts it. Ruled out: a short string written as a long one, a string of size 0 written as absent.
 pub fn copy_constant(
     s: &[u8],
     cursor: Cursor,

@@ -17,7 +17,7 @@ use copy_put::number::put_varint;
 use slice::cursor::Cursor;
 use slice::cursor::CursorResult;
 
-// The constants. Ruled out: the last one left out, the list without its count.
+// Puts the count, then reads so many constants and puts each. Ruled out: the last one left out, the list without its count.
 pub fn copy_constants(
     s: &[u8],
     cursor: Cursor,
@@ -55,7 +55,7 @@ pub fn copy_constants(
     }
 }
 
-// The anchors. Ruled out: as many numbers as the count says, the count padded.
+// Puts the count, then reads so many anchors and puts each. Ruled out: as many numbers as the count says, the count padded.
 pub fn copy_anchors(s: &[u8], cursor: Cursor, count: usize, out: &mut [u8], at: usize) -> Passed
     ensures { λ r. ⌜ r .read ≡ cursorResult (many count anchor (cursor .at) (drop (cursor .at) (now (s .entry)))) ⌝ }
     ensures { λ r. ⌜ PutsAll anchorBytes (many count anchor (cursor .at) (drop (cursor .at) (now (s .entry)))) at (now (out .entry)) (r .behind) (now (out .exit)) ⌝ }
@@ -86,7 +86,7 @@ pub fn copy_anchors(s: &[u8], cursor: Cursor, count: usize, out: &mut [u8], at: 
     }
 }
 
-// The local variables. Ruled out: names without their pcs, an absent name passed over.
+// Puts the count, then reads so many local variables and puts each. Ruled out: names without their pcs, an absent name passed over.
 pub fn copy_locals(
     s: &[u8],
     cursor: Cursor,
@@ -124,7 +124,7 @@ pub fn copy_locals(
     }
 }
 
-// The names of the upvalues. Ruled out: an absent name left out, as many names as there are upvalues.
+// Puts the count, then reads so many names of upvalues and puts each. Ruled out: an absent name left out, as many names as there are upvalues.
 pub fn copy_names(
     s: &[u8],
     cursor: Cursor,

@@ -26,8 +26,8 @@ pub struct Listed {
     pub behind: usize,
 }
 
-// The constants. Ruled out: a count above the limit copied, entries put before their count.
-pub fn constants_copied(
+// Reads the count of the constants, holds it against its limit, and copies the list. Ruled out: a count above the limit copied, entries put before their count.
+pub fn copy_constants_list(
     s: &[u8],
     cursor: Cursor,
     max_constants: usize,
@@ -57,8 +57,8 @@ pub fn constants_copied(
     }
 }
 
-// The anchors. Ruled out: a limit on anchors.
-pub fn anchors_copied(s: &[u8], cursor: Cursor, out: &mut [u8], at: usize) -> Listed
+// Reads the count of the anchors and copies the list. Ruled out: a limit on anchors.
+pub fn copy_anchors_list(s: &[u8], cursor: Cursor, out: &mut [u8], at: usize) -> Listed
     ensures { λ r. ⌜ r .list ≡ listResult (spec.counted spec.anchor (cursor .at) (drop (cursor .at) (now (s .entry)))) ⌝ }
     ensures { λ r. ⌜ PutsListed spec.anchor anchorBytes (now (s .entry)) (r .list) at (now (out .entry)) (r .behind) (now (out .exit)) ⌝ }
 {
@@ -81,8 +81,8 @@ pub fn anchors_copied(s: &[u8], cursor: Cursor, out: &mut [u8], at: usize) -> Li
     }
 }
 
-// The local variables. Ruled out: a list that ends at an absent name.
-pub fn locals_copied(
+// Reads the count of the local variables and copies the list. Ruled out: a list that ends at an absent name.
+pub fn copy_locals_list(
     s: &[u8],
     cursor: Cursor,
     max_string_bytes: usize,
@@ -111,8 +111,8 @@ pub fn locals_copied(
     }
 }
 
-// The names of the upvalues. Ruled out: more names than upvalues refused.
-pub fn names_copied(
+// Reads the count of the upvalues' names and copies the list. Ruled out: more names than upvalues refused.
+pub fn copy_names_list(
     s: &[u8],
     cursor: Cursor,
     max_string_bytes: usize,

@@ -8,6 +8,7 @@ use Rattle.format.specs.Form.{Bytes}
 use Rattle.format.specs.Read.{Read, ok}
 use Rattle.format.proofs.Exact.{never}
 use Rattle.slice.specs.declared.cursor.Cursor.{Cursor}
+use Rattle.slice.specs.declared.cursor.CursorResult.{CursorResult}
 use Rattle.slice.specs.declared.cursor.CursorResult.the-variants as cursor
 use Rattle.slice.specs.Inner.Results.{cursorResult}
 use Rattle.read_field.proofs.Shows.{cursor-err, cursor-ok}
@@ -23,8 +24,8 @@ use Rattle.copy_parts.specs.Inner.Parts.{tailBytes}
 use Rattle.copy_parts.specs.Inner.Ends.{PutsTail, endShown}
 
 -- ## The lists behind the nested functions
-pub tail-stops : {at : ℕ} {l : Bytes} {len : ℕ} {l′ : Bytes} (o : Read Tail) (q : Refusal) → tail-answer.Err q ≡ tailResult o → (cursor.Err q ≡ cursorResult o) × PutsTail o at l len l′
-tail-stops o q e = (sym (ap cursorResult (tail-err o q e)), record { put = λ t to rest f. absurd (never (sym (tail-err o q e) ∙ f)) })
+pub tail-stops : {r : CursorResult} {at : ℕ} {l : Bytes} {len : ℕ} {l′ : Bytes} (o : Read Tail) (q : Refusal) → r ≡ cursor.Err q → tail-answer.Err q ≡ tailResult o → (r ≡ cursorResult o) × PutsTail o at l len l′
+tail-stops o q d e = (d ∙ sym (ap cursorResult (tail-err o q e)), record { put = λ t to rest f. absurd (never (sym (tail-err o q e) ∙ f)) })
 
 pub tail-copied : {at : ℕ} {l : Bytes} {len : ℕ} {l′ : Bytes} (s : Bytes) (limit from : ℕ) (t : declared-tail.Tail) (c : Cursor) → tail-answer.Ok t c ≡ tailResult (tail limit from (drop from s))
     → ((from to : ℕ) (v : Tail) (rest : Bytes) → tail limit from (drop from s) ≡ ok v to rest → t ≡ tailOf v → Put (tailBytes v) at l len l′)

@@ -1,14 +1,15 @@
 // The end of a function, behind the functions that nest in it: read, and put into the copy.
 ghost use mathlib.Core.Path.{_≡_};
 ghost use lib.ListN.{drop};
+ghost use Rattle.slice.specs.declared.cursor.CursorResult.the-variants as answer;
 ghost use Rattle.slice.specs.Inner.Results.{cursorResult};
 ghost use Rattle.read_walk.specs.declared.walk.SkimResult.the-variants as walk;
 ghost use Rattle.read_prototype.specs.Parts as parts;
 ghost use Rattle.copy_parts.specs.Inner.Ends.{PutsTail, endShown};
 use copy_entry::entry::Passed;
-use copy_entry::listed::anchors_copied;
-use copy_entry::listed::locals_copied;
-use copy_entry::listed::names_copied;
+use copy_entry::listed::copy_anchors_list;
+use copy_entry::listed::copy_locals_list;
+use copy_entry::listed::copy_names_list;
 use copy_put::raw::put_run;
 use format::limits::ResourceLimits;
 use format::refusal::Refusal;
@@ -37,66 +38,58 @@ pub fn stopped(refusal: Refusal) -> Copied
     }
 }
 
-// A function behind the functions that nest in it. Ruled out: the deltas behind the anchors, the names of the upvalues left out.
+// Hands on the refusal of a list; what was put before it does not count.
+fn refused(refusal: Refusal, at: usize) -> Passed
+    ensures { λ r. ⌜ r .read ≡ answer.Err refusal ⌝ }
+{
+    Passed {
+        read: CursorResult::Err(refusal),
+        behind: at,
+    }
+}
+
+// Reads a function behind the functions that nest in it, and puts its copy. Ruled out: the deltas behind the anchors, the names of the upvalues left out.
 fn copy_tail(s: &[u8], max_string_bytes: usize, cursor: Cursor, out: &mut [u8], at: usize) -> Passed
     ensures { λ r. ⌜ r .read ≡ cursorResult (parts.tail «max_string_bytes» (cursor .at) (drop (cursor .at) (now (s .entry)))) ⌝ }
     ensures { λ r. ⌜ PutsTail (parts.tail «max_string_bytes» (cursor .at) (drop (cursor .at) (now (s .entry)))) at (now (out .entry)) (r .behind) (now (out .exit)) ⌝ }
 {
     let deltas = line_info_list(s, cursor);
     match deltas {
-        ListResult::Err(refusal) => Passed {
-            read: CursorResult::Err(refusal),
-            behind: at,
-        },
-        ListResult::Ok {
-            count: count1,
-            place: place1,
-            next: next1,
-        } => {
-            let first = put_run(s, place1, count1, 1, out, at);
-            let second = anchors_copied(s, next1, out, first);
+        ListResult::Err(refusal) => refused(refusal, at),
+        ListResult::Ok { count, place, next } => {
+            let first = put_run(s, place, count, 1, out, at);
+            let second = copy_anchors_list(s, next, out, first);
             let anchors = second.list;
-            match anchors {
-                ListResult::Err(refusal) => Passed {
-                    read: CursorResult::Err(refusal),
-                    behind: at,
-                },
+            let next = match anchors {
+                ListResult::Err(refusal) => return refused(refusal, at),
                 ListResult::Ok {
                     count: _,
                     place: _,
-                    next: next2,
-                } => {
-                    let third = locals_copied(s, next2, max_string_bytes, out, second.behind);
-                    let locals = third.list;
-                    match locals {
-                        ListResult::Err(refusal) => Passed {
-                            read: CursorResult::Err(refusal),
-                            behind: at,
-                        },
-                        ListResult::Ok {
-                            count: _,
-                            place: _,
-                            next: next3,
-                        } => {
-                            let last = names_copied(s, next3, max_string_bytes, out, third.behind);
-                            let names = last.list;
-                            match names {
-                                ListResult::Err(refusal) => Passed {
-                                    read: CursorResult::Err(refusal),
-                                    behind: at,
-                                },
-                                ListResult::Ok {
-                                    count: _,
-                                    place: _,
-                                    next: next4,
-                                } => Passed {
-                                    read: CursorResult::Ok(next4),
-                                    behind: last.behind,
-                                },
-                            }
-                        }
-                    }
-                }
+                    next,
+                } => next,
+            };
+            let third = copy_locals_list(s, next, max_string_bytes, out, second.behind);
+            let locals = third.list;
+            let next = match locals {
+                ListResult::Err(refusal) => return refused(refusal, at),
+                ListResult::Ok {
+                    count: _,
+                    place: _,
+                    next,
+                } => next,
+            };
+            let last = copy_names_list(s, next, max_string_bytes, out, third.behind);
+            let names = last.list;
+            match names {
+                ListResult::Err(refusal) => refused(refusal, at),
+                ListResult::Ok {
+                    count: _,
+                    place: _,
+                    next,
+                } => Passed {
+                    read: CursorResult::Ok(next),
+                    behind: last.behind,
+                },
             }
         }
     }

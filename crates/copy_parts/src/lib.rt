@@ -1,4 +1,4 @@
 // chunk.rs, encoding: a function before and behind the functions that nest in it, read at its place in the chunk and put into lent memory.
 pub mod ends;
-pub mod front;
+mod front;
 pub mod parts;

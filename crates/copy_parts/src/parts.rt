@@ -6,7 +6,7 @@ ghost use Rattle.read_prototype.specs.Parts as parts;
 ghost use Rattle.read_prototype.specs.PartsShown.{headListsResult, headResult};
 ghost use Rattle.copy_parts.specs.Inner.Heads.{PutsLists, PutsHead};
 use crate::front::copy_front;
-use copy_entry::listed::constants_copied;
+use copy_entry::listed::copy_constants_list;
 use copy_put::number::put_varint;
 use copy_put::raw::put_run;
 use format::limits::ResourceLimits;
@@ -58,7 +58,7 @@ fn copy_lists(
             next: next1,
         } => {
             let first = put_run(s, place1, count1, 4, out, at);
-            let k = constants_copied(
+            let k = copy_constants_list(
                 s,
                 next1,
                 limits.max_constants_per_proto,

@@ -6,7 +6,7 @@
 use mathlib.Core.Path.{_≡_, refl, sym, _∙_, ap}
 use mathlib.Core.Bool.{Bool, true, false, true≢false}
 use mathlib.Core.List.{List, [], _∷_, _++_, append-assoc, append-nil, foldr, flatten, foldr-append}
-use mathlib.Core.Option.{Option, none, some}
+use mathlib.Core.Option.{Option, none}
 use Prim.Native.Nat.{ℕ, zero, suc}
 use lib.ListN.{length, drop}
 use lib.Seq.{take-at, drop-at}
@@ -19,6 +19,7 @@ use Rattle.format.specs.GrammarChunk.{inherit, Where, after}
 use Rattle.format.specs.Read.{Reader}
 use Rattle.format.specs.ReadChunk.{forest, function}
 use Rattle.format.specs.Copy.{optionBytes, behindSource, nest}
+use Rattle.format.proofs.CopyFunctions.{inherit-none}
 use Rattle.format.proofs.Exact.{Exact, exact-atMost}
 use Rattle.format.proofs.ExactChunk.{exact-forest}
 use Rattle.format.proofs.Located.{AtPlace, at-give, at-here, at-then, at-refuse}
@@ -33,10 +34,6 @@ use Rattle.copy_parts.proofs.Lengths.{Short, short-then, short-none, stays}
 use Rattle.copy_parts.proofs.PartsAt.{head-at, tail-at}
 
 -- ## The bytes of a function of its parts
-inherit-none : (t : Option LuaString) → inherit t none ≡ t
-inherit-none none = refl
-inherit-none (some t) = refl
-
 source-made : (named : Bool) (spelt outer : Option LuaString) → (named ≡ true → outer ≡ none) → sourceBytes named (inherit spelt outer) ≡ sourceBytes named spelt
 source-made true spelt outer main = ap optionBytes (ap (inherit spelt) (main refl) ∙ inherit-none spelt)
 source-made false spelt outer main = refl

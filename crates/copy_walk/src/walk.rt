@@ -29,7 +29,7 @@ pub fn within(n: usize, limit: usize) -> usize
     if n <= limit { n } else { limit }
 }
 
-// Reads a function and all that nest in it, as `skim_function` does, and puts their copy at the start of the lent memory: each nested function
+// Reads a function and all that nest in it, as the judge does (read_walk), and puts their copy at the start of the lent memory: each nested function
 // is lent the part behind what is put, before what follows the nested functions. Ruled out: a nested function's source kept, a function's end before the functions that nest in it.
 pub fn copy_function(
     s: &[u8],
@@ -47,13 +47,10 @@ pub fn copy_function(
     let begins = begun.begins;
     match begins {
         HeadResult::Err(refusal) => stopped(refusal),
-        HeadResult::Ok {
-            head: head,
-            next: behind,
-        } => {
+        HeadResult::Ok { head, next } => {
             let mut len = begun.len;
             let mut nested = Skimmed {
-                next: behind,
+                next,
                 number: from.number + 1,
                 instructions: from.instructions + head.lists.instructions.count,
             };
@@ -69,12 +66,10 @@ pub fn copy_function(
                 let start = within(len, out.len());
                 let one = copy_function(s, limits, false, left - 1, nested, &mut out[start..]);
                 let walk = one.walk;
-                match walk {
+                nested = match walk {
                     SkimResult::Err(refusal) => return stopped(refusal),
-                    SkimResult::Ok(later) => {
-                        nested = later;
-                    }
-                }
+                    SkimResult::Ok(later) => later,
+                };
                 len = plus(len, one.len);
                 more -= 1;
             }

@@ -1,11 +1,11 @@
--- `copy_entry::listed::anchors_copied` meets its contract: by whether the count is read (`Listing.antt` of read_list), and by what the entries put (`Judged.antt`). Assumes nothing.
+-- `copy_entry::listed::copy_anchors_list` meets its contract: by whether the count is read (`Listing.antt` of read_list), and by what the entries put (`Judged.antt`). Assumes nothing.
 use borrow.Author.Needs.{needs}
 use Rattle.format.proofs.ExactFields.{exact-number}
 use Rattle.format.proofs.ExactChunk.{exact-anchor}
 use Rattle.read_list.proofs.Listing.{many-sized, count-refused, count-read}
 use Rattle.copy_entry.proofs.Judged.{list-not, list-put}
-use Rattle.copy_entry.proofs.listed.anchors_copied.Statement.{statement}
-use Rattle.copy_entry.proofs.listed.anchors_copied.Tie as tie
+use Rattle.copy_entry.proofs.listed.copy_anchors_list.Statement.{statement}
+use Rattle.copy_entry.proofs.listed.copy_anchors_list.Tie as tie
 
 returns : tie.Need-returns
 returns c =
@@ -19,8 +19,8 @@ returns-2 c =
       list-put (c .before .before .before .copy-anchors .result .read) (c .before .before .before .before .before .before .read2 .given .0 .0) (c .before .before .before .before .before .before .read2 .given .0 .1 .0 .at) (c .listed .ensures) (c .before .before .before .copy-anchors .ensures .1),
     )
 
-pub anchors-copied-spec : {M : Type 1} → statement M
-anchors-copied-spec =
+pub copy-anchors-list-spec : {M : Type 1} → statement M
+copy-anchors-list-spec =
     tie.close
     (tie.spec
     (λ c κs. search needs)

@@ -1,10 +1,10 @@
--- `copy_entry::listed::names_copied` meets its contract: by whether the count is read (`Listing.antt` of read_list), and by what the entries put (`Judged.antt`). Assumes nothing.
+-- `copy_entry::listed::copy_names_list` meets its contract: by whether the count is read (`Listing.antt` of read_list), and by what the entries put (`Judged.antt`). Assumes nothing.
 use borrow.Author.Needs.{needs}
 use Rattle.format.proofs.ExactFields.{exact-number, exact-string}
 use Rattle.read_list.proofs.Listing.{many-sized, count-refused, count-read}
 use Rattle.copy_entry.proofs.Judged.{list-not, list-put}
-use Rattle.copy_entry.proofs.listed.names_copied.Statement.{statement}
-use Rattle.copy_entry.proofs.listed.names_copied.Tie as tie
+use Rattle.copy_entry.proofs.listed.copy_names_list.Statement.{statement}
+use Rattle.copy_entry.proofs.listed.copy_names_list.Tie as tie
 
 returns : tie.Need-returns
 returns c =
@@ -18,8 +18,8 @@ returns-2 c =
       list-put (c .before .before .before .copy-names .result .read) (c .before .before .before .before .before .before .read2 .given .0 .0) (c .before .before .before .before .before .before .read2 .given .0 .1 .0 .at) (c .listed .ensures) (c .before .before .before .copy-names .ensures .1),
     )
 
-pub names-copied-spec : {M : Type 1} → statement M
-names-copied-spec =
+pub copy-names-list-spec : {M : Type 1} → statement M
+copy-names-list-spec =
     tie.close
     (tie.spec
     (λ c κs. search needs)
