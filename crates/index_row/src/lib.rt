@@ -4,7 +4,7 @@ ghost use mathlib.Core.List.{[], _∷_};
 ghost use Prim.Native.Nat.{_+_, _*_, _≤_};
 ghost use lib.ListN.{length};
 ghost use Rattle.slice.specs.Inner.Splice.{splice};
-ghost use Rattle.index_row.specs.Inner.Stored.{COLUMNS, low, storedRow};
+ghost use Rattle.index_row.specs.Inner.Stored.{COLUMNS, low, storedHead, storedTail};
 use read_prototype::pass::HeadCounts;
 use read_prototype::pass::TailCounts;
 
@@ -29,24 +29,23 @@ fn put_four(rows: &mut [u32], at: usize, a: usize, b: usize, c: usize, d: usize)
     rows[at + 3] = narrow(d);
 }
 
-// Stores the row of the function of this number, where there is room for it. Ruled out: a count in another's column, the row of one function in another's place.
-pub fn put_row(
+// Stores of the row of the function of this number what is known before the functions that nest in it, where there is room for the row: a walk that calls itself then keeps
+// none of it. Its end is not known yet, and its start stands there. Ruled out: a count in another's column, the row of one function in another's place.
+pub fn put_head(
     rows: &mut [u32],
     number: usize,
     start: usize,
-    end: usize,
     depth: usize,
     parent: usize,
     head: HeadCounts,
-    tail: TailCounts,
 )
-    ensures { λ _. ⌜ (COLUMNS * number + COLUMNS ≤ length (now (rows .entry)) → now (rows .exit) ≡ splice (COLUMNS * number) (storedRow start end depth parent head tail) (now (rows .entry))) ⌝ }
+    ensures { λ _. ⌜ (COLUMNS * number + COLUMNS ≤ length (now (rows .entry)) → now (rows .exit) ≡ splice (COLUMNS * number) (storedHead start start depth parent head) (now (rows .entry))) ⌝ }
 {
     if rows.len() / COLUMNS <= number {
         return;
     }
     let at = COLUMNS * number;
-    put_four(rows, at, start, end, depth, parent);
+    put_four(rows, at, start, start, depth, parent);
     put_four(
         rows,
         at + 4,
@@ -55,12 +54,22 @@ pub fn put_row(
         head.upvalues,
         head.protos,
     );
-    put_four(
-        rows,
-        at + 8,
-        tail.line_info,
-        tail.abs_line_info,
-        tail.loc_vars,
-        tail.upvalue_names,
-    );
+}
+
+// Stores the rest of the row. Ruled out: the same, an end that stays the start.
+pub fn put_tail(rows: &mut [u32], number: usize, end: usize, tail: TailCounts)
+    ensures { λ _. ⌜ (COLUMNS * number + COLUMNS ≤ length (now (rows .entry)) → now (rows .exit) ≡ splice (COLUMNS * number + 1) (low end ∷ []) (splice (COLUMNS * number + 8) (storedTail tail) (now (rows .entry)))) ⌝ }
+{
+    if number < rows.len() / COLUMNS {
+        let at = COLUMNS * number;
+        put_four(
+            rows,
+            at + 8,
+            tail.line_info,
+            tail.abs_line_info,
+            tail.loc_vars,
+            tail.upvalue_names,
+        );
+        rows[at + 1] = narrow(end);
+    }
 }

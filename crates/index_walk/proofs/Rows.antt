@@ -1,13 +1,14 @@
 -- What the walk has written: at each return of `write_function`, and at each turn of its loop.
 --     refuses          a walk that refuses may have written anything
---     function-wrote   a function's row, behind the rows of those that nest in it
+--     function-wrote   a function's row: its front before the rows of those that nest in it, the rest behind them
 --     Behind           in the loop: the rows of the functions passed stand there, and those left are read from here on
 -- Assumes nothing.
 use mathlib.Core.Path.{_≡_, refl, sym, _∙_, ap}
-use mathlib.Core.List.{List, [], _∷_, _++_}
+use mathlib.Core.List.{List, [], _∷_, _++_, append-assoc}
 use Prim.Native.Nat.{ℕ, _+_, _*_, _-_, _<_, _≤_}
 use native.Mathlib.Omega.{arith}
-use lib.ListN.{length, drop}
+use lib.ListN.{length, take, drop, length-append}
+use lib.Seq.{length-take-le, take-append-seam, drop-append-add}
 use Rattle.format.specs.declared.limits.ResourceLimits.{ResourceLimits}
 use Rattle.format.specs.declared.refusal.Refusal.{Refusal}
 use Rattle.format.specs.Form.{Bytes}
@@ -21,7 +22,7 @@ use Rattle.read_prototype.specs.declared.pass.HeadCounts.{HeadCounts}
 use Rattle.read_prototype.specs.declared.pass.HeadCountsResult.the-variants as head-answer
 use Rattle.read_prototype.specs.declared.pass.TailCounts.{TailCounts}
 use Rattle.read_prototype.specs.declared.pass.TailCountsResult.the-variants as tail-answer
-use Rattle.read_prototype.specs.Inner.Counts.{headCountsResult, tailCountsResult}
+use Rattle.read_prototype.specs.Inner.Counts.{headCounts, tailCounts, headCountsResult, tailCountsResult}
 use Rattle.read_prototype.specs.Inner.Whole.{prototypeOf}
 use Rattle.read_walk.specs.declared.walk.Skimmed.{Skimmed}
 use Rattle.read_walk.specs.declared.walk.SkimResult.the-variants as skim
@@ -31,7 +32,7 @@ use Rattle.read_walk.proofs.Passes.{begins, its-head, head-counts, first, inner
 use Rattle.read_walk.proofs.SoFar.{SoFar, starts, ended, goes-on, next-read}
 use Rattle.slice.specs.Inner.Splice.{splice}
 use Rattle.slice.proofs.Splices.{splice-none, splice-then, splice-before}
-use Rattle.index_row.specs.Inner.Stored.{COLUMNS, storedRow, storedFunction, stored}
+use Rattle.index_row.specs.Inner.Stored.{COLUMNS, low, storedHead, storedTail, storedFunction, stored}
 use Rattle.index_walk.specs.Inner.Written.{Wrote}
 
 -- ## Rows
@@ -42,6 +43,30 @@ stored-length (p ∷ ps) = let more = stored-length ps in omega arith
 stored-append : (ps qs : List Prototype) → stored (ps ++ qs) ≡ stored ps ++ stored qs
 stored-append [] qs = refl
 stored-append (p ∷ ps) qs = ap (λ more. storedFunction p ++ more) (stored-append ps qs)
+
+-- what stands behind k elements P, with e written over the first of it
+over-first : (P D : List ℕ) (b e k : ℕ) → length P ≡ k → take k (P ++ (b ∷ D)) ++ (e ∷ drop (k + 1) (P ++ (b ∷ D))) ≡ P ++ (e ∷ D)
+over-first P D b e k h = rw (← h, take-append-seam, drop-append-add)
+
+-- a piece of which the second number is written over
+over-second : (k a b e : ℕ) (xs l : List ℕ) → k ≤ length l → splice (k + 1) (e ∷ []) (splice k (a ∷ b ∷ xs) l) ≡ splice k (a ∷ e ∷ xs) l
+unfolding splice
+over-second k a b e xs l h =
+    ap (λ (x : List ℕ). take (k + 1) x ++ (e ∷ drop (k + 1 + 1) x)) (sym (append-assoc (take k l) (a ∷ []) (b ∷ (xs ++ drop (k + length (a ∷ b ∷ xs)) l))))
+    ∙ over-first (take k l ++ (a ∷ [])) (xs ++ drop (k + length (a ∷ b ∷ xs)) l) b e (k + 1) (length-append (take k l) (a ∷ []) ∙ ap (λ (n : ℕ). n + 1) (length-take-le k l h))
+    ∙ append-assoc (take k l) (a ∷ []) (e ∷ (xs ++ drop (k + length (a ∷ b ∷ xs)) l))
+
+-- the front of a row, what stands behind the row, the row's last four numbers, and its second: one piece
+row-around : (at a b e : ℕ) (xs t more l₀ l₁ : List ℕ) → l₁ ≡ splice at (a ∷ b ∷ xs) l₀ → length l₁ ≡ length l₀ → length xs ≡ 6 → length t ≡ 4 → at + COLUMNS ≤ length l₀
+    → splice (at + 1) (e ∷ []) (splice (at + 8) t (splice (at + COLUMNS) more l₁)) ≡ splice at (a ∷ e ∷ (xs ++ (t ++ more))) l₀
+row-around at a b e xs t more l₀ l₁ front long six four fits =
+    let eight : at + 8 ≡ at + length (a ∷ b ∷ xs) = omega arith in
+    let twelve : at + COLUMNS ≡ at + 8 + length t = omega arith in
+    ap (λ k. splice (at + 1) (e ∷ []) (splice (at + 8) t (splice k more l₁))) twelve
+    ∙ ap (splice (at + 1) (e ∷ [])) (splice-before (at + 8) t more l₁ (omega arith))
+    ∙ (λ i. splice (at + 1) (e ∷ []) (splice (eight i) (t ++ more) (front i)))
+    ∙ ap (splice (at + 1) (e ∷ [])) (splice-then at (a ∷ b ∷ xs) (t ++ more) l₀ (omega arith))
+    ∙ over-second at a b e (xs ++ (t ++ more)) l₀ (omega arith)
 
 none-wrote : (w : Where) (o : Read (List Prototype)) (l l′ : List ℕ) (q : Refusal) → skim.Err q ≡ skimResult w o → Wrote w o l l′
 none-wrote w o l l′ q e = record { wrote = λ ps to rest f _. absurd (never (sym (skim-err w o q e) ∙ f)) }
@@ -63,24 +88,30 @@ module _ (s : Bytes) (L : ResourceLimits) (left : ℕ) (w : Where) (at : ℕ) {b
   abbrev this : Prototype
   this = prototypeOf w at (its-head s L left w at so-far h c₁ e₁) (its-tail s L left w at so-far h c₁ e₁ k e₂ t c₃ e₃) (c₃ .at)
 
-  pub function-wrote : (number depth parent : ℕ) → number ≡ w .number → depth ≡ w .depth → parent ≡ w .parent
-      → (l₀ l₁ l₂ : List ℕ) → Wrote (first s L left w at so-far h c₁ e₁) (inner s L left w at so-far h c₁ e₁) l₀ l₁ → length l₁ ≡ length l₀
-      → (COLUMNS * number + COLUMNS ≤ length l₁ → l₂ ≡ splice (COLUMNS * number) (storedRow at (c₃ .at) depth parent h t) l₁)
-      → Wrote w (function L left w at (drop at s)) l₀ l₂
-  function-wrote number depth parent n d p l₀ l₁ l₂ inside long put = record { wrote = λ ps to rest e fits. written ps (let both = sym (function-read s L left w at so-far h c₁ e₁ k e₂ t c₃ e₃) ∙ e in cc) fits }
-    where
-      its-row : storedRow at (c₃ .at) depth parent h t ≡ storedFunction this
-      its-row = λ i. storedRow at (c₃ .at) (d i) (p i) (head-counts s L left w at so-far h c₁ e₁ i) (tail-counted s L left w at so-far h c₁ e₁ k e₂ t c₃ e₃ i)
+  -- its numbers as they are stored before and behind those of the nested functions
+  abbrev before-those : List ℕ
+  before-those = storedHead at at (w .depth) (w .parent) (headCounts (its-head s L left w at so-far h c₁ e₁))
 
-      written : (ps : List Prototype) → this ∷ those ≡ ps → COLUMNS * (w .number + length ps) ≤ length l₀ → l₂ ≡ splice (COLUMNS * w .number) (stored ps) l₀
+  abbrev behind-those : List ℕ
+  behind-those = storedTail (tailCounts (its-tail s L left w at so-far h c₁ e₁ k e₂ t c₃ e₃))
+
+  pub function-wrote : (number depth parent : ℕ) → number ≡ w .number → depth ≡ w .depth → parent ≡ w .parent
+      → (l₀ l₁ l₂ l₃ : List ℕ) → (COLUMNS * number + COLUMNS ≤ length l₀ → l₁ ≡ splice (COLUMNS * number) (storedHead at at depth parent h) l₀) → length l₁ ≡ length l₀
+      → Wrote (first s L left w at so-far h c₁ e₁) (inner s L left w at so-far h c₁ e₁) l₁ l₂ → length l₂ ≡ length l₁
+      → (COLUMNS * number + COLUMNS ≤ length l₂ → l₃ ≡ splice (COLUMNS * number + 1) (low (c₃ .at) ∷ []) (splice (COLUMNS * number + 8) (storedTail t) l₂))
+      → Wrote w (function L left w at (drop at s)) l₀ l₃
+  function-wrote number depth parent n d p l₀ l₁ l₂ l₃ begun same-long inside long put = record { wrote = λ ps to rest e fits. written ps (let both = sym (function-read s L left w at so-far h c₁ e₁ k e₂ t c₃ e₃) ∙ e in cc) fits }
+    where
+      written : (ps : List Prototype) → this ∷ those ≡ ps → COLUMNS * (w .number + length ps) ≤ length l₀ → l₃ ≡ splice (COLUMNS * w .number) (stored ps) l₀
       written ps same fits =
           let size : length ps ≡ 1 + length those = sym (ap length same) ∙ omega arith in
           let behind : COLUMNS * (w .number + 1) ≡ COLUMNS * w .number + COLUMNS = omega arith in
           let below = inside .wrote those _ _ (nested s L left w at so-far h c₁ e₁ k e₂ .is) (omega arith) in
           put (omega arith)
-          ∙ (λ i. splice (COLUMNS * n i) (its-row i) (below i))
-          ∙ ap (λ m. splice (COLUMNS * w .number) (storedFunction this) (splice m (stored those) l₀)) behind
-          ∙ splice-before (COLUMNS * w .number) (storedFunction this) (stored those) l₀ (omega arith)
+          ∙ (λ i. splice (COLUMNS * n i + 1) (low (c₃ .at) ∷ []) (splice (COLUMNS * n i + 8) (storedTail (tail-counted s L left w at so-far h c₁ e₁ k e₂ t c₃ e₃ i)) (below i)))
+          ∙ ap (λ m. splice (COLUMNS * w .number + 1) (low (c₃ .at) ∷ []) (splice (COLUMNS * w .number + 8) behind-those (splice m (stored those) l₁))) behind
+          ∙ row-around (COLUMNS * w .number) (low at) (low at) (low (c₃ .at)) (drop 2 before-those) behind-those (stored those) l₀ l₁
+          (begun (omega arith) ∙ (λ i. splice (COLUMNS * n i) (storedHead at at (d i) (p i) (head-counts s L left w at so-far h c₁ e₁ i)) l₀)) same-long refl refl (omega arith)
           ∙ ap (λ ps. splice (COLUMNS * w .number) (stored ps) l₀) same
 
 -- ## The loop

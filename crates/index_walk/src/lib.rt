@@ -9,7 +9,8 @@ ghost use Rattle.read_walk.specs.Inner.Skim.{skimResult};
 ghost use Rattle.index_walk.specs.Inner.Written.{Wrote};
 use format::limits::ResourceLimits;
 use format::refusal::Refusal;
-use index_row::put_row;
+use index_row::put_head;
+use index_row::put_tail;
 use read_prototype::pass::HeadCountsResult;
 use read_prototype::pass::TailCountsResult;
 use read_prototype::pass::pass_head;
@@ -38,6 +39,7 @@ pub fn write_function(
             counts: head,
             next: behind,
         } => {
+            put_head(rows, from.number, from.next.at, depth, parent, head);
             let mut nested = Skimmed {
                 next: behind,
                 number: from.number + 1,
@@ -68,16 +70,7 @@ pub fn write_function(
                     counts: tail,
                     next: next,
                 } => {
-                    put_row(
-                        rows,
-                        from.number,
-                        from.next.at,
-                        next.at,
-                        depth,
-                        parent,
-                        head,
-                        tail,
-                    );
+                    put_tail(rows, from.number, next.at, tail);
                     SkimResult::Ok(Skimmed {
                         next: next,
                         number: nested.number,

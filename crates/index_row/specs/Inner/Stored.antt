@@ -1,7 +1,7 @@
 -- What is stored of a function in an index.
 --     COLUMNS              how many numbers are stored of each function
 --     low n                the low 32 bits of n
---     storedRow ..         the numbers of a function as they are stored, of what a walk keeps of it
+--     storedHead ..        the numbers of a function as they are stored, of what a walk knows before and behind the functions that nest in it
 --     stored ps            those of functions, one after the other. (They are `index ps`, in a chunk within the ceilings: `Small.antt` of crate index.)
 use mathlib.Core.List.{List, [], _∷_, _++_, map}
 use Prim.Native.Nat.{ℕ, _%_}
@@ -16,11 +16,13 @@ COLUMNS = 12
 abbrev pub low : ℕ → ℕ
 low n = n % 4294967296
 
-abbrev pub storedRow : ℕ → ℕ → ℕ → ℕ → HeadCounts → TailCounts → List ℕ
-storedRow start end depth parent head tail =
+abbrev pub storedHead : ℕ → ℕ → ℕ → ℕ → HeadCounts → List ℕ
+storedHead start end depth parent head =
     map low (start ∷ end ∷ depth ∷ parent
-    ∷ head .instructions ∷ head .constants ∷ head .upvalues ∷ head .protos
-    ∷ tail .«line_info» ∷ tail .«abs_line_info» ∷ tail .«loc_vars» ∷ tail .«upvalue_names» ∷ [])
+    ∷ head .instructions ∷ head .constants ∷ head .upvalues ∷ head .protos ∷ [])
+
+abbrev pub storedTail : TailCounts → List ℕ
+storedTail tail = map low (tail .«line_info» ∷ tail .«abs_line_info» ∷ tail .«loc_vars» ∷ tail .«upvalue_names» ∷ [])
 
 abbrev pub storedFunction : Prototype → List ℕ
 storedFunction p =

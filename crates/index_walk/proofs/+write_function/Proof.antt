@@ -29,7 +29,8 @@ use Rattle.index_walk.proofs.write_function.Kinds as write-function-kin
 use Rattle.index_walk.proofs.+write_function.Lts-write_function as write-function-lts
 use Rattle.read_prototype.proofs.pass.pass_head.Reads as pass-head-reads
 use Rattle.read_prototype.proofs.pass.pass_tail.Reads as pass-tail-reads
-use Rattle.index_row.proofs.put_row.Reads as put-row-reads
+use Rattle.index_row.proofs.put_head.Reads as put-head-reads
+use Rattle.index_row.proofs.put_tail.Reads as put-tail-reads
 use Rattle.index_walk.proofs.+write_function.{statement}
 use Rattle.index_walk.proofs.+write_function.Tie.{close}
 
@@ -49,13 +50,13 @@ below t = and 2 write-function-kinds.ps (falls 2 write-function-kinds.ps _<_ μ 
 
 -- what the calls ask and give
 abbrev calls : ℕ → write-function-lts.Claims
-calls t = (pass-head-reads.Asked, pass-head-reads.Learnt, below t, write-function.Post, pass-tail-reads.Asked, pass-tail-reads.Learnt, put-row-reads.Asked, put-row-reads.Learnt)
+calls t = (pass-head-reads.Asked, pass-head-reads.Learnt, put-head-reads.Asked, put-head-reads.Learnt, below t, write-function.Post, pass-tail-reads.Asked, pass-tail-reads.Learnt, put-tail-reads.Asked, put-tail-reads.Learnt)
 
 abbrev Inv : write-function-lts.InvT-loop
-Inv s limits left depth parent from rows₀ head nested₀ more₀ rows nested more = (length rows ≡ length rows₀) × Behind s limits more₀ left (depth + 1) (from .number) nested₀ rows₀ nested more rows
+Inv s limits left depth parent from rows₀ nested₀ more₀ rows nested more = (length rows ≡ length rows₀) × Behind s limits more₀ left (depth + 1) (from .number) nested₀ rows₀ nested more rows
 
 abbrev μ-loop : write-function-lts.MeasureT-loop
-μ-loop s limits left depth parent from rows₀ head nested₀ more₀ rows nested more = more
+μ-loop s limits left depth parent from rows₀ nested₀ more₀ rows nested more = more
 
 -- behind the head: what it gave, and where the nested functions stand
 module _ (t : ℕ) (h : write-function-lts.After-begins2 (calls t) (at t) write-function.Post Inv μ-loop) where
@@ -85,25 +86,32 @@ module _ (t : ℕ) (h : write-function-lts.After-begins2 (calls t) (at t) write-
         → skim.Err q ≡ skimResult w (function (a .limits) (a .left) w (a .from .next .at) (drop (a .from .next .at) (a .s .now)))
     refused-inside = passes.nested-refused (a .s .now) (a .limits) (a .left) w (a .from .next .at) i head behind begun
 
-number : (t : ℕ) → write-function-lts.Need-add-t23 (calls t) (at t) write-function.Post Inv μ-loop
-number t c = let few = c .before .before .before .before .before .before .before .pre .1 .1 in omega (arith, few)
+-- the rows behind the front of this function's row, as many as before
+abbrev begun-rows : (t : ℕ) → write-function-lts.After-put-head (calls t) (at t) write-function.Post Inv μ-loop → List ℕ
+begun-rows t p = p .put-head .last .0
 
-total : (t : ℕ) → write-function-lts.Need-add-t24 (calls t) (at t) write-function.Post Inv μ-loop
+begun-long : (t : ℕ) (p : write-function-lts.After-put-head (calls t) (at t) write-function.Post Inv μ-loop) → length (begun-rows t p) ≡ length (a t (p .before .before .before) .rows .now)
+begun-long t p = search needs
+
+number : (t : ℕ) → write-function-lts.Need-add-t26 (calls t) (at t) write-function.Post Inv μ-loop
+number t c = let few = c .before .before .before .before .before .before .before .before .before .before .before .pre .1 .1 in omega (arith, few)
+
+total : (t : ℕ) → write-function-lts.Need-add-t27 (calls t) (at t) write-function.Post Inv μ-loop
 total t c =
-    let h = c .before .before .before .before in
+    let h = c .before .before .before .before .before .before .before .before in
     let e = counts-total (a t h .s .now) (a t h .limits) (a t h .from .instructions) (a t h .from .next .at) (head t h) (behind t h) (begun t h) in
     let limit = h .before .before .before .before .before .pre .1 .0 .1 in
     omega (arith, e, limit)
 
 loop-holds : (t : ℕ) → write-function-lts.Need-loop-holds (calls t) (at t) write-function.Post Inv μ-loop
 loop-holds t c =
-    let h = c .before .before .before .before in
-    (refl, starts-behind (a t h .s .now) (a t h .limits) (head t h .protos) (a t h .left) (a t h .depth + 1) (a t h .from .number) (inside t h) (a t h .rows .now))
+    let h = c .before .before .before .before .before .before .before .before in
+    (refl, starts-behind (a t h .s .now) (a t h .limits) (head t h .protos) (a t h .left) (a t h .depth + 1) (a t h .from .number) (inside t h) (begun-rows t (c .before .before .before .before .before)))
 
 returns : (t : ℕ) → write-function-lts.Need-returns (calls t) (at t) write-function.Post Inv μ-loop
 returns t c =
     let l = c .before .before in
-    let h = l .before .before .before .before .before in
+    let h = l .before .before .before .before .before .before .before .before .before in
     refuses (a t h .from) (a t h .depth) (a t h .parent) _ _ _ _ λ w n i.
     refused-inside t h w i _ (so-far.deep (a t h .limits) (a t h .left) (l .loop .inv .1 (place t h w i) (λ j. n j + 1) (so-many t h w i) .so-far) (c .before .loop-test .taken) (c .if1 .taken))
 
@@ -111,20 +119,20 @@ returns-2 : (t : ℕ) → write-function-lts.Need-returns-2 (calls t) (at t) wri
 returns-2 t c =
     let e = c .before .before .before in
     let l = e .before .before in
-    let h = l .before .before .before .before .before in
+    let h = l .before .before .before .before .before .before .before .before .before in
     refuses (a t h .from) (a t h .depth) (a t h .parent) _ _ _ _ λ w n i.
     refused-inside t h w i _ (so-far.many (a t h .limits) (a t h .left) (l .loop .inv .1 (place t h w i) (λ j. n j + 1) (so-many t h w i) .so-far) (e .before .loop-test .taken) (level (a t h .left) (e .if1 .left)) (c .if2 .taken))
 
 deeper : (t : ℕ) → write-function-lts.Need-add-write-function (calls t) (at t) write-function.Post Inv μ-loop
 deeper t c =
-    let deep = c .before .before .before .before .before .before .before .before .before .before .before .before .before .before .before .pre .1 .2 in
+    let deep = c .before .before .before .before .before .before .before .before .before .before .before .before .before .before .before .before .before .before .before .pre .1 .2 in
     omega (arith, deep)
 
 write-function-requires : (t : ℕ) → write-function-lts.Need-write-function-requires (calls t) (at t) write-function.Post Inv μ-loop
 write-function-requires t c κs =
     let g = c .before in
     let e = g .before .before .before in
-    let b = e .before .before .before .before .before .before .before .before .before .before .before .before in
+    let b = e .before .before .before .before .before .before .before .before .before .before .before .before .before .before .before .before in
     let limit = b .pre .1 .0 .0 in
     let within = g .if2 .left in
     let deepest = b .pre .1 .2 in
@@ -141,7 +149,7 @@ returns-3 t c =
     let f = c .before .before .before .before .before in
     let e = f .before .before .before .before .before in
     let l = e .before .before in
-    let h = l .before .before .before .before .before in
+    let h = l .before .before .before .before .before .before .before .before .before in
     refuses (a t h .from) (a t h .depth) (a t h .parent) _ _ _ _ λ w n i.
     refused-inside t h w i _ (so-far.stops (a t h .limits) (a t h .left) (l .loop .inv .1 (place t h w i) (λ j. n j + 1) (so-many t h w i) .so-far) (e .before .loop-test .taken) (level (a t h .left) (e .if1 .left)) (f .before .before .if2 .left)
     _ (sym (c .before .one .given .1) ∙ f .write-function .ensures .0 (on (place t h w i) (l .loop .nested)) refl refl))
@@ -151,10 +159,10 @@ loop-again t c =
     let f = c .before .before .before .before .before in
     let e = f .before .before .before .before .before in
     let l = e .before .before in
-    let h = l .before .before .before .before .before in
+    let h = l .before .before .before .before .before .before .before .before .before in
     let later = c .before .one2 .given in (
       rows-long t f ∙ l .loop .inv .0,
-      on-behind (a t h .s .now) (a t h .limits) (head t h .protos) (a t h .left) (a t h .depth + 1) (a t h .from .number) (inside t h) (a t h .rows .now) (l .loop .nested) (l .loop .more) (l .loop .rows) (l .loop .inv .1)
+      on-behind (a t h .s .now) (a t h .limits) (head t h .protos) (a t h .left) (a t h .depth + 1) (a t h .from .number) (inside t h) (begun-rows t (l .before .before .before .before .before .before)) (l .loop .nested) (l .loop .more) (l .loop .rows) (l .loop .inv .1)
           (l .loop .inv .0) (e .before .loop-test .taken) (level (a t h .left) (e .if1 .left)) (f .before .before .if2 .left) _ (later .0 .0) (λ w n i. sym (later .1) ∙ f .write-function .ensures .0 w n i) (f .write-function .ensures .1),
     )
 
@@ -167,18 +175,19 @@ returns-5 : (t : ℕ) → write-function-lts.Need-returns-5 (calls t) (at t) wri
 returns-5 t c =
     let o = c .before .before .before .before in
     let l = o .before in
-    let h = l .before .before .before .before .before in
+    let h = l .before .before .before .before .before .before .before .before .before in
     refuses (a t h .from) (a t h .depth) (a t h .parent) _ _ _ _ λ w n i.
     passes.tail-refused (a t h .s .now) (a t h .limits) (a t h .left) w (a t h .from .next .at) i (head t h) (behind t h) (begun t h) (l .loop .nested) (so-far.ends (l .loop .inv .1 (place t h w i) (λ j. n j + 1) (so-many t h w i) .so-far) (o .loop-test .left))
     _ (sym (c .before .ends .given .1) ∙ c .before .before .before .pass-tail .ensures)
 
-same-put : (t : ℕ) (r : write-function-lts.After-put-row (calls t) (at t) write-function.Post Inv μ-loop) → length (r .put-row .last .0) ≡ length (r .before .before .before .before .before .before .before .loop .rows)
+same-put : (t : ℕ) (r : write-function-lts.After-put-tail (calls t) (at t) write-function.Post Inv μ-loop) → length (r .put-tail .last .0) ≡ length (r .before .before .before .before .before .before .before .loop .rows)
 same-put t r = search needs
 
 same-length-5 : (t : ℕ) → write-function-lts.Need-same-length-5 (calls t) (at t) write-function.Post Inv μ-loop
 same-length-5 t c =
     let r = c .before .before in
-    same-put t r ∙ r .before .before .before .before .before .before .before .loop .inv .0
+    let l = r .before .before .before .before .before .before .before in
+    same-put t r ∙ l .loop .inv .0 ∙ begun-long t (l .before .before .before .before .before .before)
 
 returns-6 : (t : ℕ) → write-function-lts.Need-returns-6 (calls t) (at t) write-function.Post Inv μ-loop
 returns-6 t c =
@@ -186,15 +195,15 @@ returns-6 t c =
     let e = r .before .before .before in
     let o = e .before .before .before in
     let l = o .before in
-    let h = l .before .before .before .before .before in
+    let h = l .before .before .before .before .before .before .before .before .before in
     let ended = sym (e .ends2 .given .1) ∙ e .before .before .pass-tail .ensures in
     let tail = e .ends2 .given .0 .0 in
     let end = e .ends2 .given .0 .1 .0 in (
       λ w n i. passes.function-shown (a t h .s .now) (a t h .limits) (a t h .left) w (a t h .from .next .at) i (head t h) (behind t h) (begun t h) (l .loop .nested) (so-far.ends (l .loop .inv .1 (place t h w i) (λ j. n j + 1) (so-many t h w i) .so-far) (o .loop-test .left)) tail end ended,
       λ w n i d p. function-wrote (a t h .s .now) (a t h .limits) (a t h .left) w (a t h .from .next .at) i (head t h) (behind t h) (begun t h) (l .loop .nested) (so-far.ends (l .loop .inv .1 (place t h w i) (λ j. n j + 1) (so-many t h w i) .so-far) (o .loop-test .left)) tail end ended
-          (a t h .from .number) (a t h .depth) (a t h .parent) n d p (a t h .rows .now) (l .loop .rows) _
-          (ends-behind (a t h .s .now) (a t h .limits) (head t h .protos) (a t h .left) (a t h .depth + 1) (a t h .from .number) (inside t h) (a t h .rows .now) (l .loop .nested) (l .loop .more) (l .loop .rows) (l .loop .inv .1) (o .loop-test .left) (place t h w i) (λ j. n j + 1) (so-many t h w i) (λ j. d j + 1) n)
-          (l .loop .inv .0) (r .put-row .ensures),
+          (a t h .from .number) (a t h .depth) (a t h .parent) n d p (a t h .rows .now) (begun-rows t (l .before .before .before .before .before .before)) (l .loop .rows) _ (l .before .before .before .before .before .before .put-head .ensures) (begun-long t (l .before .before .before .before .before .before))
+          (ends-behind (a t h .s .now) (a t h .limits) (head t h .protos) (a t h .left) (a t h .depth + 1) (a t h .from .number) (inside t h) (begun-rows t (l .before .before .before .before .before .before)) (l .loop .nested) (l .loop .more) (l .loop .rows) (l .loop .inv .1) (o .loop-test .left) (place t h w i) (λ j. n j + 1) (so-many t h w i) (λ j. d j + 1) n)
+          (l .loop .inv .0) (r .put-tail .ensures),
     )
 
 pub +write-function-spec : {M : Type 1} → statement M
@@ -207,6 +216,7 @@ pub +write-function-spec : {M : Type 1} → statement M
     (λ c κs. search needs)
     (λ c. search needs)
     (λ c. search needs)
+    (λ c κs. search needs)
     (number t)
     (total t)
     (loop-holds t)
