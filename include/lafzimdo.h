@@ -4,7 +4,7 @@
  * memory that is lent beside it. It returns 0, or a refusal as one number, and then `out` and lent memory are as they were. What each call promises is its contract in crates/lafzimdo/src.
  * A pointer must be good for the length that goes with it and must not be null, also where the length is 0; `out` and lent memory must overlap nothing else.
  * A negative number stands in `out` as its two's complement: cast it to int64_t.
- * Stack: a call takes at most 2,192 bytes for each level of nesting (656 where it copies), of which there are at most 200, and 442 kB in all. Measured by compare/stack.py, not proved.
+ * Stack: a call takes at most 496 bytes for each level of nesting (448 where it copies), of which there are at most 200, and 101 kB in all. Measured by compare/stack.py, not proved.
  */
 #ifndef LAFZIMDO_H
 #define LAFZIMDO_H
