@@ -1,13 +1,20 @@
 // Lists of numbers, put together from numbers and from parts of memory. A list that is full takes no more, and nothing is asked of a caller.
 // Memory is lent with 165 in every place, so that it shows what a call wrote.
 
+ghost use mathlib.Core.Path.{_≡_};
+ghost use Prim.Native.Nat.{_+_, _≤_, _<_};
+ghost use lib.ListN.{set};
+
 // How many numbers a list has room for.
 pub const ROOM: usize = 65536;
 
 pub type Numbers = [u64; ROOM];
 
 // One number more: how many there are then.
-pub fn push(list: &mut Numbers, at: usize, x: u64) -> usize {
+pub fn push(list: &mut Numbers, at: usize, x: u64) -> usize
+    ensures { λ r. ⌜ (at < 65536 → (r ≡ at + 1) × (now (list .exit) ≡ set (now (list .entry)) at x)) ⌝ }
+    ensures { λ r. ⌜ (65536 ≤ at → (r ≡ at) × (now (list .exit) ≡ now (list .entry))) ⌝ }
+{
     if at < ROOM {
         list[at] = x;
         return at + 1;
@@ -130,10 +137,14 @@ pub fn written_longs(memory: &[u64], lent: usize) -> u64 {
 }
 
 // A byte as a number of a list.
-pub fn wide(x: u8) -> u64 {
+pub fn wide(x: u8) -> u64
+    ensures { λ r. ⌜ r ≡ x ⌝ }
+{
     x as u64
 }
 
-fn wide_word(x: u32) -> u64 {
+fn wide_word(x: u32) -> u64
+    ensures { λ r. ⌜ r ≡ x ⌝ }
+{
     x as u64
 }
