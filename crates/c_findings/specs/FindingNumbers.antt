@@ -1,5 +1,6 @@
 -- The findings of a chunk as numbers in a lent list, four each.
 --     findingNumbers f         of a finding: its function, its instruction, its rule and the offending number (a jump's target is signed)
+--     verdictNumber v          of a verdict
 --     ofFindings               the verdict, and how many findings there are
 --     numbersWritten old o     what then stands in the list that held `old`
 use mathlib.Core.List.{List, [], _∷_, _++_}
@@ -9,12 +10,13 @@ use Rattle.slice.specs.Over.{over}
 use Rattle.validate_rules.specs.declared.finding.Finding.{Finding}
 use Rattle.validate_rules.specs.declared.finding.Rule.{Rule}
 use Rattle.validate_rules.specs.declared.finding.Rule.the-variants.{Opcode, Register, Constant, Upvalue, TableUpvalue, Prototype, Jump}
+use Rattle.validate_rules.specs.declared.finding.Verdict.{Verdict}
+use Rattle.validate_rules.specs.declared.finding.Verdict.the-variants.{ValidForAnalysis, Invalid, Incomplete}
 use Rattle.validate_rules.specs.Rules.{offending}
 use Rattle.validate_rules.specs.Findings.{chunkFindings}
 use Rattle.validate_plan.specs.declared.FindingsAnswer.{FindingsAnswer}
 use Rattle.validate_plan.specs.declared.FindingsAnswer.the-variants as answer
 use Rattle.c_boundary.specs.Status.{Answer, done, refuses, complement}
-use Rattle.c_numbers.specs.Numbers.{verdictNumber}
 
 abbrev pub ruleNumber : Rule → ℕ
 ruleNumber (Opcode n) = 1
@@ -34,6 +36,11 @@ findingNumbers f = f .function ∷ f .pc ∷ ruleNumber (f .rule) ∷ offendingN
 unfoldable pub listNumbers : List Finding → List ℕ
 listNumbers [] = []
 listNumbers (f ∷ fs) = findingNumbers f ++ listNumbers fs
+
+abbrev pub verdictNumber : Verdict → ℕ
+verdictNumber ValidForAnalysis = 0
+verdictNumber Invalid = 1
+verdictNumber Incomplete = 2
 
 abbrev pub ofFindings : FindingsAnswer → Answer
 ofFindings (answer.Ok v n) = done (verdictNumber v ∷ n ∷ [])

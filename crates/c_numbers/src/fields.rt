@@ -1,9 +1,9 @@
 // A function's fields.
 ghost use mathlib.Core.Path.{_≡_};
 ghost use Rattle.c_numbers.specs.Numbers.{fieldsNumbers};
-use crate::strings::length_number;
-use crate::strings::place_number;
-use crate::strings::present_number;
+use c_entries::strings::length_number;
+use c_entries::strings::place_number;
+use c_entries::strings::present_number;
 use show_chunk::fields::FunctionFields;
 
 // The numbers of a function's fields, for C.

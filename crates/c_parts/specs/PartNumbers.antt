@@ -38,7 +38,7 @@ use Rattle.read_nth.specs.Shown.{upvalueResult}
 use Rattle.read_prototype.specs.Parts as parts
 use Rattle.read_prototype.specs.PartsShown.{headResult, tailResult}
 use Rattle.c_boundary.specs.Status.{limitsOf, Answer, done, refuses, admitted, complement}
-use Rattle.c_numbers.specs.Numbers.{presentNumber, placeNumber, lengthNumber, stringNumbers, constantNumbers, upvalueNumbers, anchorNumbers}
+use Rattle.c_entries.specs.EntryNumbers.{presentNumber, placeNumber, lengthNumber, stringNumbers, constantNumbers, upvalueNumbers, anchorNumbers}
 
 -- numbers, and the place behind
 abbrev pub upTo : List ℕ → ℕ → List ℕ

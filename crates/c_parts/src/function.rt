@@ -5,9 +5,9 @@ ghost use Rattle.c_parts.specs.PartNumbers.{headNumbers, tailNumbers, he
 use c_boundary::limits_of;
 use c_boundary::refused;
 use c_boundary::tested;
-use c_numbers::strings::length_number;
-use c_numbers::strings::place_number;
-use c_numbers::strings::present_number;
+use c_entries::strings::length_number;
+use c_entries::strings::place_number;
+use c_entries::strings::present_number;
 use read_prototype::parts::Head;
 use read_prototype::parts::HeadResult;
 use read_prototype::parts::Tail;

@@ -66,8 +66,8 @@ use Rattle.word_fields.specs.declared.instruction.Encoded.{Encoded}
 use Rattle.word_fields.specs.declared.instruction.Encoded.the-variants as encoded-answer
 use Rattle.word_fields.specs.Word.{decoded, encoded}
 use Rattle.c_boundary.specs.Status.{limitsOf, withPlace, Answer, done, refuses, status, written}
-use Rattle.c_numbers.specs.Numbers.{ofSummary, ofFields, ofLine, ofWord, ofConstant, ofUpvalue, ofDelta, ofAnchor, ofLocal, ofName, ofIndex, ofCopy, ofVerdict, ofCount}
-use Rattle.c_numbers.specs.Words.{wordNumbers, spelt, ofEncoded}
+use Rattle.lafzimdo.specs.Answers.{ofSummary, ofFields, ofLine, ofWord, ofConstant, ofUpvalue, ofDelta, ofAnchor, ofLocal, ofName, ofIndex, ofCopy, ofVerdict, ofCount}
+use Rattle.c_words.specs.Words.{wordNumbers, spelt, ofEncoded}
 use Rattle.c_findings.specs.FindingNumbers.{listNumbers, ofFindings, numbersWritten}
 use Rattle.demands.proofs.Refused.{first, forChunk, forSpace, forFunction, forLine, forEntry, forLocal, forWord}
 use Rattle.demands.proofs.Refused.{inSummary, inFields, inWord, inConstant, inUpvalue, inDelta, inAnchor, inName, inLocal, inLine, inIndex, inCopy, inVerdict, inCount, inFindings, inEncoded}

@@ -42,7 +42,7 @@ use Rattle.read_nth.specs.Shown.{upvalueResult}
 use Rattle.read_prototype.specs.Parts.{head, tail}
 use Rattle.read_prototype.specs.PartsShown.{headResult, tailResult}
 use Rattle.c_boundary.specs.Status.{limitsOf, Answer, done, refuses, complement, admitted}
-use Rattle.c_numbers.specs.Numbers.{presentNumber, placeNumber, lengthNumber, stringNumbers, constantNumbers}
+use Rattle.c_entries.specs.EntryNumbers.{presentNumber, placeNumber, lengthNumber, stringNumbers, constantNumbers}
 use Rattle.c_parts.specs.PartNumbers.{upTo, localNumbersAt, ofHead, ofTail, ofWordAt, ofConstantAt, ofUpvalueAt, ofDeltaAt, ofAnchorAt, ofLocalAt, ofStringAt, headAt, tailAt, wordAt, constantAt, upvalueAt, deltaAt, anchorAt, localAt, stringAt}
 use Rattle.demands.proofs.Calls as calls
 use Rattle.demands.proofs.SpeltHere.{Behind, head-behind}

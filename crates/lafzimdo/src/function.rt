@@ -5,7 +5,7 @@ ghost use Rattle.show_row.specs.Asked.{functionOf};
 ghost use Rattle.show_chunk.specs.Fields.{shownFields};
 ghost use Rattle.line_lookup.specs.Lines.{shownLine};
 ghost use Rattle.c_boundary.specs.Status.{limitsOf, status, written};
-ghost use Rattle.c_numbers.specs.Numbers.{ofFields, ofLine};
+ghost use Rattle.lafzimdo.specs.Answers.{ofFields, ofLine};
 use c_boundary::limits_of;
 use c_boundary::one;
 use c_boundary::refused;

@@ -3,7 +3,7 @@ ghost use mathlib.Core.Path.{_≡_};
 ghost use Rattle.format.specs.ReadChunk.{read};
 ghost use Rattle.show_chunk.specs.Summaries.{shownSummary};
 ghost use Rattle.c_boundary.specs.Status.{limitsOf, status, written};
-ghost use Rattle.c_numbers.specs.Numbers.{ofSummary};
+ghost use Rattle.lafzimdo.specs.Answers.{ofSummary};
 use c_boundary::limits_of;
 use c_boundary::refused;
 use c_numbers::summary::summary_numbers;

@@ -2,11 +2,11 @@
 ghost use mathlib.Core.Path.{_≡_};
 ghost use Rattle.word_fields.specs.Word.{decoded, encoded};
 ghost use Rattle.c_boundary.specs.Status.{status, written};
-ghost use Rattle.c_numbers.specs.Words.{wordNumbers, spelt, ofEncoded};
+ghost use Rattle.c_words.specs.Words.{wordNumbers, spelt, ofEncoded};
 use c_boundary::one;
 use c_boundary::refused;
-use c_numbers::word::word_numbers;
-use c_numbers::word::word_of;
+use c_words::word_numbers;
+use c_words::word_of;
 use word_fields::instruction::Encoded;
 use word_fields::instruction::RawInstruction54;
 

@@ -5,7 +5,7 @@ use Rattle.format.specs.ReadChunk.{read}
 use Rattle.show_row.specs.Asked.{entryOf}
 use Rattle.show_entry.specs.Entries.{shownAnchor}
 use Rattle.c_boundary.proofs.Calls.{call-refuses, call-answers}
-use Rattle.c_numbers.specs.Numbers.{ofAnchor}
+use Rattle.lafzimdo.specs.Answers.{ofAnchor}
 use Rattle.lafzimdo.proofs.entry.lafzimdo_anchor.Statement.{statement}
 use Rattle.lafzimdo.proofs.entry.lafzimdo_anchor.Tie as tie
 

@@ -5,7 +5,7 @@ use Rattle.format.specs.ReadChunk.{read}
 use Rattle.show_row.specs.Asked.{entryOf}
 use Rattle.show_entry.specs.Entries.{shownConstant}
 use Rattle.c_boundary.proofs.Calls.{call-refuses, call-answers}
-use Rattle.c_numbers.specs.Numbers.{ofConstant}
+use Rattle.lafzimdo.specs.Answers.{ofConstant}
 use Rattle.lafzimdo.proofs.entry.lafzimdo_constant.Statement.{statement}
 use Rattle.lafzimdo.proofs.entry.lafzimdo_constant.Tie as tie
 

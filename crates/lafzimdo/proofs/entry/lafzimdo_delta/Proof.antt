@@ -10,7 +10,7 @@ use Rattle.show_row.specs.Asked.{entryOf}
 use Rattle.show_entry.specs.Entries.{shownDelta}
 use Rattle.c_boundary.specs.Status.{complement}
 use Rattle.c_boundary.proofs.Calls.{call-refuses, call-answers}
-use Rattle.c_numbers.specs.Numbers.{ofDelta}
+use Rattle.lafzimdo.specs.Answers.{ofDelta}
 use Rattle.lafzimdo.proofs.entry.lafzimdo_delta.Statement.{statement}
 use Rattle.lafzimdo.proofs.entry.lafzimdo_delta.Tie as tie
 

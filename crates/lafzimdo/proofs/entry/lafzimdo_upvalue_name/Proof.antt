@@ -5,7 +5,7 @@ use Rattle.format.specs.ReadChunk.{read}
 use Rattle.show_row.specs.Asked.{entryOf}
 use Rattle.show_entry.specs.Entries.{shownName}
 use Rattle.c_boundary.proofs.Calls.{call-refuses, call-answers}
-use Rattle.c_numbers.specs.Numbers.{ofName}
+use Rattle.lafzimdo.specs.Answers.{ofName}
 use Rattle.lafzimdo.proofs.entry.lafzimdo_upvalue_name.Statement.{statement}
 use Rattle.lafzimdo.proofs.entry.lafzimdo_upvalue_name.Tie as tie
 

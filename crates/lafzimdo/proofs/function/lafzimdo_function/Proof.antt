@@ -5,7 +5,7 @@ use Rattle.format.specs.ReadChunk.{read}
 use Rattle.show_row.specs.Asked.{functionOf}
 use Rattle.show_chunk.specs.Fields.{shownFields}
 use Rattle.c_boundary.proofs.Calls.{call-refuses, call-answers}
-use Rattle.c_numbers.specs.Numbers.{ofFields}
+use Rattle.lafzimdo.specs.Answers.{ofFields}
 use Rattle.lafzimdo.proofs.function.lafzimdo_function.Statement.{statement}
 use Rattle.lafzimdo.proofs.function.lafzimdo_function.Tie as tie
 

@@ -5,7 +5,7 @@ use Rattle.format.specs.ReadChunk.{read}
 use Rattle.show_row.specs.Asked.{functionOf}
 use Rattle.line_lookup.specs.Lines.{shownLine}
 use Rattle.c_boundary.proofs.Calls.{call-refuses, call-answers}
-use Rattle.c_numbers.specs.Numbers.{ofLine}
+use Rattle.lafzimdo.specs.Answers.{ofLine}
 use Rattle.lafzimdo.proofs.function.lafzimdo_line.Statement.{statement}
 use Rattle.lafzimdo.proofs.function.lafzimdo_line.Tie as tie
 

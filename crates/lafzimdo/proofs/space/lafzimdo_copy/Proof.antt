@@ -5,7 +5,7 @@ use borrow.Author.Needs.{needs}
 use Rattle.format.specs.ReadChunk.{read}
 use Rattle.copy.specs.Copied.{shownCopy, copyWritten}
 use Rattle.c_boundary.proofs.Calls.{call-refuses, call-answers}
-use Rattle.c_numbers.specs.Numbers.{ofCopy}
+use Rattle.lafzimdo.specs.Answers.{ofCopy}
 use Rattle.lafzimdo.proofs.space.lafzimdo_copy.Statement.{statement}
 use Rattle.lafzimdo.proofs.space.lafzimdo_copy.Tie as tie
 

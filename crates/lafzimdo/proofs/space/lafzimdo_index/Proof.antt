@@ -5,7 +5,7 @@ use borrow.Author.Needs.{needs}
 use Rattle.format.specs.ReadChunk.{read}
 use Rattle.index.specs.Index.{shownIndex, indexWritten}
 use Rattle.c_boundary.proofs.Calls.{call-refuses, call-answers}
-use Rattle.c_numbers.specs.Numbers.{ofIndex}
+use Rattle.lafzimdo.specs.Answers.{ofIndex}
 use Rattle.lafzimdo.proofs.space.lafzimdo_index.Statement.{statement}
 use Rattle.lafzimdo.proofs.space.lafzimdo_index.Tie as tie
 

@@ -6,7 +6,7 @@ use Rattle.format.specs.ReadChunk.{read}
 use Rattle.show_row.specs.Asked.{entryOf}
 use Rattle.show_local.specs.Locals.{shownLocal, nameWritten}
 use Rattle.c_boundary.proofs.Calls.{call-refuses, call-answers}
-use Rattle.c_numbers.specs.Numbers.{ofLocal}
+use Rattle.lafzimdo.specs.Answers.{ofLocal}
 use Rattle.lafzimdo.proofs.space.lafzimdo_local.Statement.{statement}
 use Rattle.lafzimdo.proofs.space.lafzimdo_local.Tie as tie
 

@@ -4,7 +4,7 @@ use borrow.Author.Needs.{needs}
 use Rattle.format.specs.ReadChunk.{read}
 use Rattle.show_chunk.specs.Summaries.{shownSummary}
 use Rattle.c_boundary.proofs.Calls.{call-refuses, call-answers}
-use Rattle.c_numbers.specs.Numbers.{ofSummary}
+use Rattle.lafzimdo.specs.Answers.{ofSummary}
 use Rattle.lafzimdo.proofs.summary.lafzimdo_summary.Statement.{statement}
 use Rattle.lafzimdo.proofs.summary.lafzimdo_summary.Tie as tie
 

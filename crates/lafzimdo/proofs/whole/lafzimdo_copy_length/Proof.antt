@@ -4,7 +4,7 @@ use borrow.Author.Needs.{needs}
 use Rattle.format.specs.ReadChunk.{read}
 use Rattle.copy.specs.Copied.{shownLength}
 use Rattle.c_boundary.proofs.Calls.{call-refuses, call-answers}
-use Rattle.c_numbers.specs.Numbers.{ofCopy}
+use Rattle.lafzimdo.specs.Answers.{ofCopy}
 use Rattle.lafzimdo.proofs.whole.lafzimdo_copy_length.Statement.{statement}
 use Rattle.lafzimdo.proofs.whole.lafzimdo_copy_length.Tie as tie
 

@@ -4,7 +4,7 @@ use borrow.Author.Needs.{needs}
 use Rattle.format.specs.ReadChunk.{read}
 use Rattle.validate_verdict.specs.Answers.{shownCount}
 use Rattle.c_boundary.proofs.Calls.{call-refuses, call-answers}
-use Rattle.c_numbers.specs.Numbers.{ofCount}
+use Rattle.lafzimdo.specs.Answers.{ofCount}
 use Rattle.lafzimdo.proofs.whole.lafzimdo_finding_count.Statement.{statement}
 use Rattle.lafzimdo.proofs.whole.lafzimdo_finding_count.Tie as tie
 

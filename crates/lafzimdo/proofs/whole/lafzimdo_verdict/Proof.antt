@@ -5,7 +5,7 @@ use borrow.Author.Needs.{needs}
 use Rattle.format.specs.ReadChunk.{read}
 use Rattle.validate_verdict.specs.Answers.{shownVerdict}
 use Rattle.c_boundary.proofs.Calls.{call-refuses, call-answers}
-use Rattle.c_numbers.specs.Numbers.{ofVerdict}
+use Rattle.lafzimdo.specs.Answers.{ofVerdict}
 use Rattle.lafzimdo.proofs.whole.lafzimdo_verdict.Statement.{statement}
 use Rattle.lafzimdo.proofs.whole.lafzimdo_verdict.Tie as tie
 

@@ -1,7 +1,7 @@
 -- `lafzimdo::word::lafzimdo_decode` meets its contract: the numbers of the word's fields. Assumes nothing.
 use mathlib.Core.Path.{refl, _∙_, ap}
 use borrow.Author.Needs.{needs}
-use Rattle.c_numbers.specs.Words.{wordNumbers}
+use Rattle.c_words.specs.Words.{wordNumbers}
 use Rattle.lafzimdo.proofs.word.lafzimdo_decode.Statement.{statement}
 use Rattle.lafzimdo.proofs.word.lafzimdo_decode.Tie as tie
 

@@ -6,7 +6,7 @@ use mir.Val.{toZ, ofZ}
 use mir.Facts.{toZ-ofZ}
 use Rattle.word_fields.specs.Word.{encoded}
 use Rattle.c_boundary.proofs.Calls.{call-refuses, call-answers}
-use Rattle.c_numbers.specs.Words.{spelt, ofEncoded}
+use Rattle.c_words.specs.Words.{spelt, ofEncoded}
 use Rattle.lafzimdo.proofs.word.lafzimdo_encode.Statement.{statement}
 use Rattle.lafzimdo.proofs.word.lafzimdo_encode.Tie as tie
 

@@ -1,6 +1,6 @@
 // Entries of a function.
 ghost use mathlib.Core.Path.{_≡_};
-ghost use Rattle.c_numbers.specs.Numbers.{constantNumbers, upvalueNumbers, anchorNumbers, localNumbers};
+ghost use Rattle.c_entries.specs.EntryNumbers.{constantNumbers, upvalueNumbers, anchorNumbers, localNumbers};
 use c_boundary::signed::complement_of;
 use format::entry::AbsLineInfo;
 use format::entry::UpvalueDesc;

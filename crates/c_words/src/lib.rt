@@ -1,7 +1,7 @@
-// Instruction words.
+// The numbers of instruction words, as the calls behind C put them into their arrays (include/lafzimdo.h).
 ghost use mathlib.Core.Path.{_≡_};
 ghost use Rattle.word_opcodes.specs.Table.{modeNumber};
-ghost use Rattle.c_numbers.specs.Words.{modeOrNone, wordNumbers, spelt};
+ghost use Rattle.c_words.specs.Words.{modeOrNone, wordNumbers, spelt};
 use c_boundary::signed::complement_of_i32;
 use word_fields::instruction::RawInstruction54;
 use word_opcodes::opcode::OpMode54;

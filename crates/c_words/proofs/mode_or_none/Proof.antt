@@ -1,9 +1,9 @@
--- `c_numbers::word::mode_or_none` meets its contract: by the opcode's mode. Assumes nothing.
+-- `c_words::mode_or_none` meets its contract: by the opcode's mode. Assumes nothing.
 use mathlib.Core.Path.{_∙_, ap}
 use borrow.Author.Needs.{needs}
 use Rattle.word_opcodes.specs.Table.{modeNumber}
-use Rattle.c_numbers.proofs.word.mode_or_none.Statement.{statement}
-use Rattle.c_numbers.proofs.word.mode_or_none.Tie as tie
+use Rattle.c_words.proofs.mode_or_none.Statement.{statement}
+use Rattle.c_words.proofs.mode_or_none.Tie as tie
 
 pub mode-or-none-spec : {M : Type 1} → statement M
 mode-or-none-spec =

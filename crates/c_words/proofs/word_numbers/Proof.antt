@@ -1,10 +1,10 @@
--- `c_numbers::word::word_numbers` meets its contract: by the numbers of the mode and of the four signed fields. Assumes nothing.
+-- `c_words::word_numbers` meets its contract: by the numbers of the mode and of the four signed fields. Assumes nothing.
 use borrow.Author.Needs.{needs}
 use mir.Syntax.{w32, w64}
 use mir.Val.{SFits, Fits}
 use mir.Facts.{toZ-ofZ}
-use Rattle.c_numbers.proofs.word.word_numbers.Statement.{statement}
-use Rattle.c_numbers.proofs.word.word_numbers.Tie as tie
+use Rattle.c_words.proofs.word_numbers.Statement.{statement}
+use Rattle.c_words.proofs.word_numbers.Tie as tie
 
 ax-fits : (c : tie.Start) → Fits w64 (c .args .r .ax)
 ax-fits c = search needs

@@ -1,6 +1,6 @@
 // A string as numbers: whether it is there, its place, its length.
 ghost use mathlib.Core.Path.{_≡_};
-ghost use Rattle.c_numbers.specs.Numbers.{presentNumber, placeNumber, lengthNumber, stringNumbers};
+ghost use Rattle.c_entries.specs.EntryNumbers.{presentNumber, placeNumber, lengthNumber, stringNumbers};
 use read_field::string::OptionString;
 
 // 1 where there is a string, else 0.

@@ -1,4 +1,4 @@
--- `c_numbers::entry::constant_numbers` meets its contract: by the kind of the constant. Assumes nothing.
+-- `c_entries::entry::constant_numbers` meets its contract: by the kind of the constant. Assumes nothing.
 use mathlib.Core.Path.{sym, ap}
 use mathlib.Core.Bool.{cond}
 use mathlib.Core.List.{[], _∷_}
@@ -6,8 +6,8 @@ use borrow.Author.Needs.{needs}
 use mir.Syntax.{w64}
 use mir.Val.{SFits}
 use mir.Facts.{toZ-ofZ}
-use Rattle.c_numbers.proofs.entry.constant_numbers.Statement.{statement}
-use Rattle.c_numbers.proofs.entry.constant_numbers.Tie as tie
+use Rattle.c_entries.proofs.entry.constant_numbers.Statement.{statement}
+use Rattle.c_entries.proofs.entry.constant_numbers.Tie as tie
 
 pub constant-numbers-spec : {M : Type 1} → statement M
 constant-numbers-spec =

@@ -10,7 +10,7 @@ use lib.IntN.{pos, negsuc}
 use Rattle.format.specs.declared.refusal.Refusal.the-variants.{NoOpcode}
 use Rattle.word_fields.specs.Word.{decoded, encoded}
 use Rattle.c_boundary.specs.Status.{Answer, done, refuses}
-use Rattle.c_numbers.specs.Words.{wordNumbers, spelt, ofEncoded}
+use Rattle.c_words.specs.Words.{wordNumbers, spelt, ofEncoded}
 
 -- MOVE, LOADK, LOADI, EXTRAARG, JMP, and 83
 words : List (ℕ × List ℕ)

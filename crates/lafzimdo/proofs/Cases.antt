@@ -42,14 +42,12 @@ use Rattle.copy.specs.declared.whole.CopyAnswer.the-variants as copy
 use Rattle.validate_verdict.specs.declared.verdict.VerdictAnswer.the-variants as verdict
 use Rattle.validate_verdict.specs.declared.verdict.CountAnswer.the-variants as count
 use Rattle.c_boundary.specs.Status.{Answer, done, refuses}
-use Rattle.c_numbers.specs.Numbers.{
-  warningCode,
-  warningPlace,
+use Rattle.c_numbers.specs.Numbers.{warningCode, warningPlace}
+use Rattle.lafzimdo.specs.Answers.{
   ofSummary,
   ofFields,
   ofLine,
   ofWord,
-  constantNumbers,
   ofConstant,
   ofUpvalue,
   ofDelta,
