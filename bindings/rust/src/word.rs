@@ -183,10 +183,11 @@ mod tests {
         let list = include_str!("../../../crates/word_opcodes/src/opcode.rt");
         let (_, list) = list.split_once("pub enum Opcode54 {").unwrap();
         let (list, _) = list.split_once('}').unwrap();
-        let names = list
-            .split(',')
-            .map(|name| name.trim().to_uppercase().replace("SELFOP", "SELF"))
-            .filter(|name| !name.is_empty());
-        assert_eq!(names.collect::<Vec<_>>(), NAMES);
+        let variants = list.split(',').filter_map(|variant| variant.split_once(" = "));
+        let (names, numbers): (Vec<_>, Vec<_>) = variants
+            .map(|(name, number)| (name.trim().to_uppercase().replace("SELFOP", "SELF"), number.parse().unwrap()))
+            .unzip();
+        assert_eq!(names, NAMES);
+        assert_eq!(numbers, (0..NAMES.len()).collect::<Vec<_>>());
     }
 }
