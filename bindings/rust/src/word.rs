@@ -184,7 +184,8 @@ mod tests {
         let (_, list) = list.split_once("pub enum Opcode54 {").unwrap();
         let (list, _) = list.split_once('}').unwrap();
         let variants = list.split(',').filter_map(|variant| variant.split_once(" = "));
-        let names = variants.map(|(name, number)| (number.into(), name.trim().to_uppercase().replace("SELFOP", "SELF")));
+        let names =
+            variants.map(|(name, number)| (number.into(), name.trim().to_uppercase().replace("SELFOP", "SELF")));
         let ours = NAMES.iter().enumerate().map(|(number, name)| (number.to_string(), name.to_string()));
         assert_eq!(names.collect::<Vec<(String, String)>>(), ours.collect::<Vec<_>>());
     }
