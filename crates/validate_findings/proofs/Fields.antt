@@ -25,15 +25,15 @@ use denote.Laws.{Is}
 use denote.Struct.Laws as LL
 use denote.Enum.Laws as EL
 use Rattle.validate_rules.specs.declared.finding.Finding.{Finding}
-use Rattle.validate_verdict.specs.declared.search.Position.{Position}
-use Rattle.validate_verdict.specs.declared.search.Step.{Step}
+use Rattle.validate_search.specs.declared.search.Position.{Position}
+use Rattle.validate_search.specs.declared.search.Step.{Step}
 use Rattle.validate_plan.specs.declared.Plan.{Plan}
 use Rattle.validate_rules.proofs.finding.Finding as T
 use Rattle.validate_rules.proofs.finding.Finding.Laws as T′
-use Rattle.validate_verdict.proofs.search.Position as K
-use Rattle.validate_verdict.proofs.search.Position.Laws as K′
-use Rattle.validate_verdict.proofs.search.Step as S
-use Rattle.validate_verdict.proofs.search.Step.Laws as S′
+use Rattle.validate_search.proofs.search.Position as K
+use Rattle.validate_search.proofs.search.Position.Laws as K′
+use Rattle.validate_search.proofs.search.Step as S
+use Rattle.validate_search.proofs.search.Step.Laws as S′
 use Rattle.validate_plan.proofs.Plan as P
 use Rattle.validate_plan.proofs.Plan.Laws as P′
 use Rattle.validate_plan.proofs.FindingsAnswer as R

@@ -56,10 +56,10 @@ use Rattle.format.specs.Limits.{MOST}
 use Rattle.format.specs.declared.limits.ResourceLimits.{ResourceLimits}
 use Rattle.format.specs.ReadChunk.{read}
 use Rattle.validate_rules.specs.declared.finding.Finding.{Finding}
-use Rattle.validate_verdict.specs.declared.search.Position.{Position}
-use Rattle.validate_verdict.specs.declared.search.Step.{Step}
+use Rattle.validate_search.specs.declared.search.Position.{Position}
+use Rattle.validate_search.specs.declared.search.Step.{Step}
 use Rattle.validate_rules.specs.Findings.{MAX-DIAGNOSTICS, Listing}
-use Rattle.validate_verdict.specs.Inner.Position.{outOf, stepped}
+use Rattle.validate_search.specs.Inner.Position.{outOf, stepped}
 use Rattle.validate_plan.specs.declared.Plan.{Plan}
 use Rattle.validate_plan.specs.Inner.Plan.{written, Planned}
 use Rattle.validate_findings.proofs.Rest.{rest}
@@ -71,10 +71,10 @@ use Rattle.format.proofs.limits.ResourceLimits as L
 use Rattle.format.proofs.limits.ResourceLimits.Laws as L′
 use Rattle.validate_rules.proofs.finding.Finding as T
 use Rattle.validate_rules.proofs.finding.Finding.Laws as T′
-use Rattle.validate_verdict.proofs.search.Position as K
-use Rattle.validate_verdict.proofs.search.Position.Laws as K′
-use Rattle.validate_verdict.proofs.search.Step as S
-use Rattle.validate_verdict.proofs.search.Step.Laws as S′
+use Rattle.validate_search.proofs.search.Position as K
+use Rattle.validate_search.proofs.search.Position.Laws as K′
+use Rattle.validate_search.proofs.search.Step as S
+use Rattle.validate_search.proofs.search.Step.Laws as S′
 use Rattle.validate_plan.proofs.Plan as P
 use Rattle.validate_plan.proofs.Plan.Laws as P′
 use Rattle.validate_plan.proofs.FindingsAnswer as R
