@@ -21,7 +21,8 @@ use Rattle.slice.proofs.Splices.{splice-none, splice-then, splice-front}
 use Rattle.validate_rules.specs.declared.finding.Finding.{Finding}
 use Rattle.validate_rules.specs.Findings.{chunkFindings}
 use Rattle.validate_plan.specs.Inner.Found.{foundIn}
-use Rattle.c_findings.specs.FindingNumbers.{findingNumbers, listNumbers, numbersWritten}
+use Rattle.c_finding.specs.FindingNumbers.{findingNumbers}
+use Rattle.c_findings.specs.FindingNumbers.{listNumbers, numbersWritten}
 
 numbers-length : (fs : List Finding) → length (listNumbers fs) ≡ 4 * length fs
 unfolding listNumbers

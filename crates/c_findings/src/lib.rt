@@ -1,27 +1,25 @@
 // The findings of a chunk as numbers, four each, in a list that the caller lends: what crate `lafzimdo` exports as `lafzimdo_findings`.
 ghost use mathlib.Core.Path.{_≡_};
-ghost use Prim.Native.Nat.{_+_, _*_, _/_, _<_, _≤_};
+ghost use Prim.Native.Nat.{_*_, _/_, _<_, _≤_};
 ghost use lib.ListN.{length, take};
 ghost use Rattle.format.specs.Limits.{MOST};
 ghost use Rattle.format.specs.ReadChunk.{read};
 ghost use Rattle.slice.specs.Inner.Splice.{splice};
 ghost use Rattle.validate_rules.specs.Findings.{MAX-DIAGNOSTICS};
-ghost use Rattle.validate_verdict.specs.Inner.Position.{outOf};
+ghost use Rattle.validate_search.specs.Inner.Position.{outOf};
 ghost use Rattle.validate_plan.specs.Validated.{shownFindings};
 ghost use Rattle.c_boundary.specs.Status.{limitsOf, status, written};
-ghost use Rattle.c_findings.specs.FindingNumbers.{verdictNumber, ruleNumber, offendingNumber, findingNumbers, listNumbers, ofFindings, numbersWritten};
+ghost use Rattle.c_findings.specs.FindingNumbers.{verdictNumber, listNumbers, ofFindings, numbersWritten};
 use c_boundary::limits_of;
 use c_boundary::refused;
-use c_boundary::signed::complement_of;
 use c_boundary::two;
+use c_finding::put_finding;
 use format::limits::ResourceLimits;
 use validate_plan::FindingsAnswer;
 use validate_plan::forward;
 use validate_plan::prepare;
-use validate_rules::finding::Finding;
-use validate_rules::finding::Rule;
 use validate_rules::finding::Verdict;
-use validate_verdict::search::Position;
+use validate_search::search::Position;
 
 // The number of a verdict, for C.
 pub fn verdict_number(v: Verdict) -> u64
@@ -32,48 +30,6 @@ pub fn verdict_number(v: Verdict) -> u64
         Verdict::Invalid => 1,
         Verdict::Incomplete => 2,
     }
-}
-
-// Rules are numbered from 1, in the order of `Rule`.
-fn rule_number(rule: Rule) -> u64
-    ensures { λ r. ⌜ r ≡ ruleNumber rule ⌝ }
-{
-    match rule {
-        Rule::Opcode(_) => 1,
-        Rule::Register(_) => 2,
-        Rule::Constant(_) => 3,
-        Rule::Upvalue(_) => 4,
-        Rule::TableUpvalue(_) => 5,
-        Rule::Prototype(_) => 6,
-        Rule::Jump(_) => 7,
-    }
-}
-
-// The number that breaks it.
-fn offending_number(rule: Rule) -> u64
-    ensures { λ r. ⌜ r ≡ offendingNumber rule ⌝ }
-{
-    match rule {
-        Rule::Opcode(n) => n as u64,
-        Rule::Register(n) => n as u64,
-        Rule::Constant(n) => n as u64,
-        Rule::Upvalue(n) => n as u64,
-        Rule::TableUpvalue(n) => n as u64,
-        Rule::Prototype(n) => n as u64,
-        Rule::Jump(z) => complement_of(z),
-    }
-}
-
-// Stores the numbers of a finding from `at` on.
-fn put_finding(list: &mut [u64], at: usize, finding: Finding)
-    requires { ⌜ at + 4 ≤ length (now list) ⌝ }
-    ensures { λ _. ⌜ now (list .exit) ≡ splice at (findingNumbers finding) (now (list .entry)) ⌝ }
-{
-    let rule = finding.rule;
-    list[at] = finding.function as u64;
-    list[at + 1] = finding.pc as u64;
-    list[at + 2] = rule_number(rule);
-    list[at + 3] = offending_number(rule);
 }
 
 // The first `count` findings from a position on, at the front of the list.

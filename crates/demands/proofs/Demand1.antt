@@ -45,7 +45,7 @@ use Rattle.show_local.specs.Locals.{shownLocal, nameWritten}
 use Rattle.validate_rules.specs.declared.finding.Finding.{Finding}
 use Rattle.validate_rules.specs.Findings.{chunkFindings}
 use Rattle.validate_verdict.specs.Answers.{shownVerdict, shownCount}
-use Rattle.validate_verdict.proofs.Few.{findings-few}
+use Rattle.validate_search.proofs.Few.{findings-few}
 use Rattle.validate_plan.specs.Validated.{shownFindings, findingsWritten}
 use Rattle.word_opcodes.specs.declared.opcode.OpMode54.{OpMode54}
 use Rattle.word_opcodes.specs.declared.opcode.OpMode54.the-variants.{IABC, IABx, IAsBx, IAx, IsJ}

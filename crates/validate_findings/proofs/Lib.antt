@@ -1,3 +1,5 @@
 pub mod Filled
 pub mod Rest
+pub mod Turn
+pub mod Fields
 pub mod ArrayLent

@@ -6,7 +6,7 @@ use Rattle.validate_rules.specs.Findings.{MAX-DIAGNOSTICS}
 use Rattle.validate_rules.specs.declared.finding.Finding.{Finding}
 use Rattle.validate_rules.specs.declared.finding.Rule.the-variants.{Register}
 
--- the last instruction may add two: there are at most 10,001 findings (crates/validate_verdict/proofs/Few.antt, `findings-few`)
+-- the last instruction may add two: there are at most 10,001 findings (crates/validate_search/proofs/Few.antt, `findings-few`)
 abbrev pub LONGEST : ℕ
 LONGEST = MAX-DIAGNOSTICS + 1
 

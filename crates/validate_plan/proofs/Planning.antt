@@ -17,11 +17,11 @@ use Rattle.format.specs.Form.{Bytes}
 use Rattle.format.specs.Reading.{Reading}
 use Rattle.format.specs.ReadChunk.{shown, refusal, read}
 use Rattle.validate_rules.specs.Findings.{MAX-DIAGNOSTICS, Listing, chunkFindings, verdict}
-use Rattle.validate_verdict.specs.Inner.Position.{outOf}
+use Rattle.validate_search.specs.Inner.Position.{outOf}
 use Rattle.validate_verdict.specs.Inner.Totals.{tallied, verdictShown}
 use Rattle.validate_rules.specs.declared.finding.Finding.{Finding}
 use Rattle.validate_rules.specs.declared.finding.Verdict.{Verdict}
-use Rattle.validate_verdict.specs.declared.search.Position.{Position}
+use Rattle.validate_search.specs.declared.search.Position.{Position}
 use Rattle.validate_verdict.specs.declared.tally.Totals.{Totals}
 use Rattle.validate_plan.specs.declared.FindingsAnswer.the-variants as answer
 use Rattle.slice.specs.Over.{over}

@@ -13,12 +13,12 @@ use lib.Seq.{drop-cons}
 use Rattle.format.specs.declared.limits.ResourceLimits.{ResourceLimits}
 use Rattle.format.specs.Form.{Bytes}
 use Rattle.validate_rules.specs.Findings.{Listing, ended, prepend}
-use Rattle.validate_verdict.specs.Inner.Position.{outOf, stepIs, stepped}
+use Rattle.validate_search.specs.Inner.Position.{outOf, stepIs, stepped}
 use Rattle.validate_rules.specs.declared.finding.Finding.{Finding}
-use Rattle.validate_verdict.specs.declared.search.Position.{Position}
-use Rattle.validate_verdict.specs.declared.search.State.{State}
-use Rattle.validate_verdict.specs.declared.search.State.the-variants as state
-use Rattle.validate_verdict.specs.declared.search.Step.{Step}
+use Rattle.validate_search.specs.declared.search.Position.{Position}
+use Rattle.validate_search.specs.declared.search.State.{State}
+use Rattle.validate_search.specs.declared.search.State.the-variants as state
+use Rattle.validate_search.specs.declared.search.Step.{Step}
 
 pub record After (l : Listing) (k : ℕ) (rest : Listing) : Type 0 where
   pub within : k ≤ length (l .findings)

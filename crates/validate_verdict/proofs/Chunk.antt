@@ -26,7 +26,7 @@ use Rattle.read_chunk.proofs.MainAt as main-at
 use Rattle.read_chunk.proofs.MainAt.{WasShown, was-shown, was-refused, MainAt, two-warnings}
 use Rattle.validate_verdict.specs.declared.verdict.TotalsResult.the-variants as totals
 use Rattle.validate_rules.specs.Findings.{MAX-DIAGNOSTICS, chunkFindings}
-use Rattle.validate_verdict.specs.Inner.Position.{outOf, startPosition}
+use Rattle.validate_search.specs.Inner.Position.{outOf, startPosition}
 use Rattle.validate_verdict.specs.declared.tally.Totals.{Totals}
 use Rattle.validate_verdict.specs.declared.verdict.VerdictAnswer.the-variants as verdicts
 use Rattle.validate_verdict.specs.declared.verdict.CountAnswer.the-variants as counts
@@ -37,7 +37,7 @@ use Rattle.validate_rules.specs.Rust.{validate}
 use Rattle.validate_rules.proofs.RustLaws.{validate-is}
 use Rattle.read_next.specs.Inner.Rows.{chunkRows}
 use Rattle.read_next.proofs.Agreement.{rowsFor, all-rows}
-use Rattle.validate_verdict.proofs.Whole.{whole}
+use Rattle.validate_search.proofs.Whole.{whole}
 
 pub totals-refused : (o : Outcome) (q : Refusal) → judged.Err q ≡ judgedResult o → totals.Err q ≡ totalsResult o
 totals-refused o q e = sym (ap totalsResult (was-refused o q e))

@@ -1,5 +1,2 @@
-pub mod Laws
-pub mod Few
 pub mod Counting
-pub mod Whole
 pub mod Chunk

@@ -1,5 +1,3 @@
-// validator.rs: what is wrong with a chunk's instructions, and the verdict.
-pub mod scan;
-pub mod search;
+// validator.rs: the findings of a chunk, counted, and the verdict.
 pub mod tally;
 pub mod verdict;

@@ -5,17 +5,17 @@ ghost use Prim.Native.Nat.{_≤_};
 ghost use Rattle.format.specs.Limits.{MOST};
 ghost use Rattle.validate_rules.specs.Rules as rules;
 ghost use Rattle.validate_rules.specs.Findings as findings;
-ghost use Rattle.validate_verdict.specs.Inner.Position.{outOf, startPosition};
+ghost use Rattle.validate_search.specs.Inner.Position.{outOf, startPosition};
 ghost use Rattle.validate_verdict.specs.Inner.Totals.{tallied, verdictShown};
-use crate::search::Position;
-use crate::search::State;
-use crate::search::advance;
-use crate::search::start;
 use format::limits::ResourceLimits;
 use slice::cursor::Cursor;
 use validate_rules::finding::Rule;
 use validate_rules::finding::Severity;
 use validate_rules::finding::Verdict;
+use validate_search::search::Position;
+use validate_search::search::State;
+use validate_search::search::advance;
+use validate_search::search::start;
 
 pub struct Totals {
     pub count: u64,

@@ -6,7 +6,7 @@ use borrow.Author.Needs.{needs}
 use lib.ListN.{length}
 use Rattle.format.specs.ReadChunk.{read}
 use Rattle.validate_rules.specs.Findings.{MAX-DIAGNOSTICS}
-use Rattle.validate_verdict.specs.Inner.Position.{outOf}
+use Rattle.validate_search.specs.Inner.Position.{outOf}
 use Rattle.validate_plan.specs.Validated.{shownFindings}
 use Rattle.c_boundary.proofs.Calls.{call-refuses, call-answers}
 use Rattle.c_findings.specs.FindingNumbers.{ofFindings, numbersWritten}

@@ -7,7 +7,7 @@ use borrow.Author.Needs.{needs}
 use lib.ListN.{length, take}
 use Rattle.slice.specs.Inner.Splice.{splice}
 use Rattle.validate_rules.specs.Findings.{MAX-DIAGNOSTICS}
-use Rattle.validate_verdict.specs.Inner.Position.{outOf}
+use Rattle.validate_search.specs.Inner.Position.{outOf}
 use Rattle.validate_plan.proofs.Steps.{After, at-first, step-found}
 use Rattle.c_findings.specs.FindingNumbers.{listNumbers}
 use Rattle.c_findings.proofs.Numbered.{none-put, next-put}

@@ -7,9 +7,8 @@
 -- Assumes nothing.
 use mathlib.Core.Path.{_≡_, refl, sym, ap, subst, _∙_}
 use Prim.Native.Nat.{ℕ, _<_, _≤_, _^_, _*_, _+_, _-_}
-use native.Mathlib.Nat.{le-antisymm}
+use native.Mathlib.Nat.{le-antisymm, le-trans, lt-of-lt-of-le}
 use native.Mathlib.Numerals.{add-one-le, add-one-dec}
-use native.Mathlib.Omega.{arith}
 use mathlib.Core.List.{[], _∷_, List}
 use mathlib.Core.WellFounded.{WellFounded, InvImage·wf}
 use lib.WfN.{Nat·lt-wfRel}
@@ -57,23 +56,25 @@ use Rattle.format.specs.Limits.{MOST}
 use Rattle.format.specs.declared.limits.ResourceLimits.{ResourceLimits}
 use Rattle.format.specs.ReadChunk.{read}
 use Rattle.validate_rules.specs.declared.finding.Finding.{Finding}
-use Rattle.validate_verdict.specs.declared.search.Position.{Position}
-use Rattle.validate_verdict.specs.declared.search.Step.{Step}
+use Rattle.validate_search.specs.declared.search.Position.{Position}
+use Rattle.validate_search.specs.declared.search.Step.{Step}
 use Rattle.validate_rules.specs.Findings.{MAX-DIAGNOSTICS, Listing}
-use Rattle.validate_verdict.specs.Inner.Position.{outOf, stepped}
+use Rattle.validate_search.specs.Inner.Position.{outOf, stepped}
 use Rattle.validate_plan.specs.declared.Plan.{Plan}
 use Rattle.validate_plan.specs.Inner.Plan.{written, Planned}
 use Rattle.validate_findings.proofs.Rest.{rest}
+use Rattle.validate_findings.proofs.Fields.{answer-at, count-at, start-at, finding-at, next-at, answer-in, count-in, start-in, finding-in, next-in, position-typed, finding-typed}
+use Rattle.validate_findings.proofs.Turn.{none-yet, any, goes-on, offset, inside}
 use Rattle.validate_plan.proofs.Steps.{After, at-first, step-found}
 use Rattle.validate_findings.proofs.Filled.{written-zero, written-length, written-next}
 use Rattle.format.proofs.limits.ResourceLimits as L
 use Rattle.format.proofs.limits.ResourceLimits.Laws as L′
 use Rattle.validate_rules.proofs.finding.Finding as T
 use Rattle.validate_rules.proofs.finding.Finding.Laws as T′
-use Rattle.validate_verdict.proofs.search.Position as K
-use Rattle.validate_verdict.proofs.search.Position.Laws as K′
-use Rattle.validate_verdict.proofs.search.Step as S
-use Rattle.validate_verdict.proofs.search.Step.Laws as S′
+use Rattle.validate_search.proofs.search.Position as K
+use Rattle.validate_search.proofs.search.Position.Laws as K′
+use Rattle.validate_search.proofs.search.Step as S
+use Rattle.validate_search.proofs.search.Step.Laws as S′
 use Rattle.validate_plan.proofs.Plan as P
 use Rattle.validate_plan.proofs.Plan.Laws as P′
 use Rattle.validate_plan.proofs.FindingsAnswer as R
@@ -201,7 +202,7 @@ module _ {M : Type 1} (𝓤 : URA M) (H : Heap 𝓤) (A : Atoms 𝓤) (W : Given
     done-to k = written all k ys
 
     as-long-as : (k : ℕ) → k ≤ count → length (done-to k) ≡ length ys
-    as-long-as k h = written-length all ys k (omega (arith, e .there)) (omega (arith, e .within))
+    as-long-as k h = written-length all ys k (le-trans h (e .there)) (le-trans h (e .within))
 
     count-fits : count < 2 ^ 64
     count-fits = LL.owed P.the-type P′.the-laws p _ is .1 .0 .1
@@ -287,17 +288,17 @@ module _ {M : Type 1} (𝓤 : URA M) (H : Heap 𝓤) (A : Atoms 𝓤) (W : Given
           assigns ! (bin ! (load ! (from ! (stop !)) (look ! 16 refl)) (lit ! tt) (record { fits = small less })) (from ! (stop !)) (init ! 8 refl (tt, record { fits = small less })) $
           assigns ! (bin ! (load ! (from ! (fld ! refl (stop !))) (look-in ! 24 (sub ! 0 refl (whole !)))) (load ! (from ! (stop !)) (look ! 8 refl)) tt) (from ! (stop !)) (init ! 6 refl (tt, tt)) $
           rewrite ! 6 (λ (p : ℕ). ‵ (fat fullShare tyPtr l₁₂ 0 (vptr b p))) (sym (place-is 32 o (i .0))) refl $
-          elem-out ! T.the-row (Is T.the-row) (shows 𝓤 H A T.the-row) (LL.vals T.the-type T′.the-laws) (LL.tells T.the-type T′.the-laws) fullShare (done-to (i .0)) (i .0) (r .finding) b o (inside less) (λ _.
-          assigns ! (of-opd ! (load ! (from ! (fld ! refl (stop !))) (look-in ! 16 (sub ! 0 refl (whole !))))) (from ! (hop ! (look ! 8 refl) (stop !))) (store-raw ! 0 refl (finding-wt r is-s)) $
+          elem-out ! T.the-row (Is T.the-row) (shows 𝓤 H A T.the-row) (LL.vals T.the-type T′.the-laws) (LL.tells T.the-type T′.the-laws) fullShare (done-to (i .0)) (i .0) (r .finding) b o (there less) (λ _.
+          assigns ! (of-opd ! (load ! (from ! (fld ! finding-at (stop !))) (finding-in ! 16 r refl))) (from ! (hop ! (look ! 8 refl) (stop !))) (store-raw ! 0 refl (finding-typed 𝓤 H A W (r .finding) (LL.owed S.the-type S′.the-laws r _ is-s .0))) $
           move ! (1 ∷ []) $ drop ! $ owned ! T.the-row (Is T.the-row) (LL.makes T.the-type T′.the-plain 𝓤 H A) (r .finding) _ (LL.owed S.the-type S′.the-laws r _ is-s .0) $ move ! (1 ∷ 0 ∷ []) $
-          elem-put ! T.the-row fullShare (done-to (i .0)) (i .0) (r .finding) (LL.vals T.the-type T′.the-laws (r .finding)) b o (inside less) $
-          rewrite ! 0 (λ (l : List Finding). ‵ (row T.the-row fullShare l b o)) (written-next all ys (i .0) (r .finding) (there-is less) (omega (arith, ltb→lt (i .0) count less, e .within)) (found less r is-r .0)) refl $
+          elem-put ! T.the-row fullShare (done-to (i .0)) (i .0) (r .finding) (LL.vals T.the-type T′.the-laws (r .finding)) b o (there less) $
+          rewrite ! 0 (λ (l : List Finding). ‵ (row T.the-row fullShare l b o)) (written-next all ys (i .0) (r .finding) (there-is less) (lt-of-lt-of-le (ltb→lt (i .0) count less) (e .within)) (found less r is-r .0)) refl $
           -- the position and the count go on
-          assigns ! (of-opd ! (load ! (from ! (fld ! refl (stop !))) (look-in ! 14 (sub ! 2 refl (whole !))))) (from ! (stop !)) (store ! 18 refl (position-wt r is-s)) $
+          assigns ! (of-opd ! (load ! (from ! (fld ! next-at (stop !))) (next-in ! 14 r refl))) (from ! (stop !)) (store ! 18 refl (position-typed 𝓤 H A W (r .next) (LL.owed S.the-type S′.the-laws r _ is-s .1 .1 .0))) $
           assigns-last ! (bin ! (load ! (from ! (stop !)) (look ! 16 refl)) (lit ! tt) (record { fits = next-fits less })) (from ! (stop !)) (store ! 16 refl (tt, record { fits = next-fits less })) $
           forget ! 6 refl $ forget ! 8 refl $ forget ! 10 refl $ forget ! 14 refl $ again ! Nearer At i (next less r is-r is-s) (add-one-dec count (i .0) (ltb→lt (i .0) count less))))))))
           (λ over. jumps ! $ exec ! C Λ En mir′.t-7 (atRet En Post) $
-          assigns ! (of-opd ! (load ! (from ! (fld ! refl (stop !))) (look-in ! 22 (sub ! 0 refl (whole !))))) (from ! (stop !)) (init ! 30 refl typed) $
+          assigns ! (of-opd ! (load ! (from ! (fld ! answer-at (stop !))) (answer-in ! 22 p refl))) (from ! (stop !)) (init ! 30 refl typed) $
           closes-slice ! tt T.the-row ys (done-to (i .0)) (as-long-as (i .0) (i .1 .1 .0)) b o $
           -- [obs; the borrow; its token; the chunk's token; the chunk; _12 at 5; …]
           returns ! (look ! 29 refl) $ forget ! 9 refl $ forget ! 11 refl $ forget ! 15 refl $ forget ! 17 refl $ forget ! 19 refl $ forget ! 21 refl $ forget ! 23 refl $ forget ! 25 refl $ forget ! 27 refl $ forget ! 29 refl $
@@ -306,25 +307,19 @@ module _ {M : Type 1} (𝓤 : URA M) (H : Heap 𝓤) (A : Atoms 𝓤) (W : Given
           by ! (exits (done-to (i .0)) (ap done-to (le-antisymm (i .1 .1 .0) (nltb→le (i .0) count over))) (as-long-as (i .0) (i .1 .1 .0))))
         where
           few : Holds (ltb (i .0) count) → limits .«max_total_instructions» ≤ MOST
-          few less = e .limited (omega (arith, ltb→lt (i .0) count less))
+          few less = e .limited (any (ltb→lt (i .0) count less))
 
           next-fits : Holds (ltb (i .0) count) → i .0 + 1 < 2 ^ 64
-          next-fits less = omega (arith, ltb→lt (i .0) count less, e .within, room .0)
+          next-fits less = goes-on (ltb→lt (i .0) count less) (e .within) (room .0)
 
           small : Holds (ltb (i .0) count) → i .0 * 32 < 2 ^ 64
-          small less = omega (arith, i .1 .1 .0, e .within, room .1)
+          small less = offset (i .1 .1 .0) (e .within) (room .1)
 
-          inside : Holds (ltb (i .0) count) → i .0 < length (done-to (i .0))
-          inside less = omega (arith, ltb→lt (i .0) count less, e .within, as-long-as (i .0) (i .1 .1 .0))
-
-          finding-wt : (r : Step) → Is S.the-row r (LL.vals S.the-type S′.the-laws r) → Holds (hasTy T′.mir (LL.val T.the-type T′.the-laws (r .finding))) × WT (LL.val T.the-type T′.the-laws (r .finding))
-          finding-wt r is-s = LL.lawful T.the-type T′.the-laws 𝓤 H A W .typed (r .finding) _ (LL.owed S.the-type S′.the-laws r _ is-s .0) .0
-
-          position-wt : (r : Step) → Is S.the-row r (LL.vals S.the-type S′.the-laws r) → Holds (hasTy K′.mir (position-val (r .next))) × WT (position-val (r .next))
-          position-wt r is-s = LL.lawful K.the-type K′.the-laws 𝓤 H A W .typed (r .next) _ (LL.owed S.the-type S′.the-laws r _ is-s .1 .1 .0) .0
+          there : Holds (ltb (i .0) count) → i .0 < length (done-to (i .0))
+          there less = inside (ltb→lt (i .0) count less) (e .within) (as-long-as (i .0) (i .1 .1 .0))
 
           there-is : Holds (ltb (i .0) count) → i .0 < length (all .findings)
-          there-is less = omega (arith, ltb→lt (i .0) count less, e .there)
+          there-is less = lt-of-lt-of-le (ltb→lt (i .0) count less) (e .there)
 
           found : Holds (ltb (i .0) count) → (r : Step) → Stepped (i .1 .0) r → (r .finding ≡ getD (all .findings) (i .0) (r .finding)) × After all (i .0 + 1) (out (r .next))
           found less r is-r = step-found all (i .0) _ (i .1 .1 .1 .1) limits (chunk .now) MAX-DIAGNOSTICS (there-is less) r is-r
@@ -339,13 +334,13 @@ module _ {M : Type 1} (𝓤 : URA M) (H : Heap 𝓤) (A : Atoms 𝓤) (W : Given
       -- from the plan to the loop: [the list; its token; the chunk's token; the chunk; _12 at 4; …]
       begins : Sq W (‵ (MutSlice (named 1) κ T.the-row .own (x ys) (s ∷ [])) ∷ ‵ (flft κ q) ∷ ‵ (flft κ′ q′) ∷ ‵ Ch ∷ locals (‵ (froom word l₇ 0)) (‵ (froom K′.mir l₆ 0)) (‵ (froom word l₅ 0))) (runs C Λ En mir′.t-3 (atRet En Post))
       begins =
-          assigns ! (of-opd ! (load ! (from ! (fld ! refl (stop !))) (look-in ! 20 (sub ! 1 refl (whole !))))) (from ! (stop !)) (init ! 18 refl (tt, record { fits = count-fits })) $
-          assigns ! (of-opd ! (load ! (from ! (fld ! refl (stop !))) (look-in ! 20 (sub ! 2 refl (whole !))))) (from ! (stop !)) (init ! 16 refl (LL.lawful K.the-type K′.the-laws 𝓤 H A W .typed (p .start) _ good-start .0)) $
+          assigns ! (of-opd ! (load ! (from ! (fld ! count-at (stop !))) (count-in ! 20 p refl))) (from ! (stop !)) (init ! 18 refl (tt, record { fits = count-fits })) $
+          assigns ! (of-opd ! (load ! (from ! (fld ! start-at (stop !))) (start-in ! 20 p refl))) (from ! (stop !)) (init ! 16 refl (position-typed 𝓤 H A W (p .start) good-start)) $
           assigns ! (of-opd ! (lit ! tt)) (from ! (stop !)) (init ! 14 refl (tt, record { fits = lit< tt })) $
           -- the borrow is opened: [the records; the open borrow; obs; auth; the list's fact; the chunk's token; the chunk; _12 at 7; …]
           fsplit ! $ move ! (1 ∷ []) $ fsplit ! $ move ! (0 ∷ 1 ∷ 3 ∷ []) $ opens-slice ! tt T.the-row ys b o $
           rewrite ! 0 (λ (l : List Finding). ‵ (row T.the-row fullShare l b o)) (written-zero all ys) refl $ move ! (4 ∷ []) $ drop ! $
-          looped (omega arith)
+          looped (none-yet count)
 
   walk : (𝓣 : Tables 𝓤 H) → FmC 𝓤 H (W .laws) (𝓣 .C) → Triple 𝓤 (𝓣 .C #prepare) (Prepare 𝓤 H A mem run) → Triple 𝓤 (𝓣 .C #forward) (Forward 𝓤 H A mem run)
       → ent 𝓤 (onEntry 𝓤 H A f.signature (κ′, (κ, tt)) (q′, (q, tt)) a vals) (WpFn 𝓤 H (𝓣 .C) (𝓣 .Λ) code.function (ch ∷ limits-val limits ∷ s ∷ []) Post)

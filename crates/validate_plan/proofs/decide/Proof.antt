@@ -4,7 +4,7 @@ use borrow.Author.Needs.{needs}
 use Rattle.format.specs.declared.limits.ResourceLimits.{ResourceLimits}
 use Rattle.format.specs.Form.{Bytes}
 use Rattle.validate_rules.specs.Findings.{MAX-DIAGNOSTICS, Listing}
-use Rattle.validate_verdict.specs.Inner.Position.{outOf, startPosition}
+use Rattle.validate_search.specs.Inner.Position.{outOf, startPosition}
 use Rattle.validate_plan.proofs.Planning.{too-many, all-fit}
 use Rattle.validate_plan.proofs.decide.Statement.{statement}
 use Rattle.validate_plan.proofs.decide.Tie as tie

@@ -3,7 +3,7 @@ use mathlib.Core.Path.{sym, ap, subst, _∙_}
 use borrow.Author.Needs.{needs}
 use Rattle.format.specs.ReadChunk.{read}
 use Rattle.validate_rules.specs.Findings.{MAX-DIAGNOSTICS}
-use Rattle.validate_verdict.specs.Inner.Position.{outOf, startPosition}
+use Rattle.validate_search.specs.Inner.Position.{outOf, startPosition}
 use Rattle.validate_plan.specs.Inner.Plan.{Planned}
 use Rattle.read_chunk.proofs.MainAt.{was-refused}
 use Rattle.validate_verdict.proofs.Chunk.{was, few-instructions, all-findings}

@@ -12,9 +12,9 @@ use Rattle.format.specs.declared.refusal.Refusal.the-variants.{LentSpace}
 use Rattle.format.specs.Form.{Bytes}
 use Rattle.format.specs.ReadChunk.{read}
 use Rattle.validate_rules.specs.declared.finding.Finding.{Finding}
-use Rattle.validate_verdict.specs.declared.search.Position.{Position}
+use Rattle.validate_search.specs.declared.search.Position.{Position}
 use Rattle.validate_rules.specs.Findings.{MAX-DIAGNOSTICS, Listing, verdict}
-use Rattle.validate_verdict.specs.Inner.Position.{outOf}
+use Rattle.validate_search.specs.Inner.Position.{outOf}
 use Rattle.validate_plan.specs.declared.FindingsAnswer.the-variants as answer
 use Rattle.validate_plan.specs.declared.Plan.{Plan}
 use Rattle.validate_plan.specs.Validated.{shownFindings, findingsWritten}

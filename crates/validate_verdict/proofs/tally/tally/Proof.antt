@@ -8,9 +8,9 @@ use mathlib.Core.List.{[], _∷_}
 use Prim.Native.Nat.{ℕ, _+_, _<_, _≤_, _^_}
 use lib.ListN as lists
 use Rattle.validate_rules.specs.Findings.{prepend}
-use Rattle.validate_verdict.specs.Inner.Position.{outOf, stepIs}
+use Rattle.validate_search.specs.Inner.Position.{outOf, stepIs}
 use Rattle.validate_verdict.specs.Inner.Totals.{andTally, tallied}
-use Rattle.validate_verdict.proofs.Few.{few-out}
+use Rattle.validate_search.proofs.Few.{few-out}
 use Rattle.validate_verdict.proofs.Counting.{at-first, at-end, one-more, fewer, counts-up}
 use Rattle.validate_verdict.proofs.tally.tally.Statement.{statement}
 use Rattle.validate_verdict.proofs.tally.tally.Tie as tie

@@ -4,7 +4,7 @@ use borrow.Author.Needs.{needs}
 use Rattle.format.specs.ReadChunk.{read}
 use Rattle.validate_verdict.specs.declared.verdict.TotalsResult.the-variants as totals
 use Rattle.validate_rules.specs.Findings.{MAX-DIAGNOSTICS}
-use Rattle.validate_verdict.specs.Inner.Position.{outOf, startPosition}
+use Rattle.validate_search.specs.Inner.Position.{outOf, startPosition}
 use Rattle.validate_verdict.specs.Inner.Totals.{tallied}
 use Rattle.validate_verdict.proofs.Chunk.{totals-refused, few-instructions, totals-shown}
 use Rattle.validate_verdict.proofs.verdict.chunk_totals.Statement.{statement}
