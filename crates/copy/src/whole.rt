@@ -1,16 +1,13 @@
 // A whole chunk, judged and copied.
-ghost use mathlib.Core.List.{_++_};
 ghost use Prim.Native.Nat.{_≤_};
 ghost use lib.ListN.{length, drop};
 ghost use Rattle.format.specs.Limits.{DEEPEST, MOST, Walkable};
 ghost use Rattle.format.specs.Form.{Below};
 ghost use Rattle.format.specs.GrammarChunk.{outermost};
 ghost use Rattle.format.specs.ReadChunk as format;
-ghost use Rattle.format.specs.Copy.{fieldBytes, headerBytes};
-ghost use Rattle.copy_put.specs.Inner.Put.{Put};
 ghost use Rattle.copy.specs.Inner.Answers.{chunkBytes, Answers, Copies};
+use copy_put::header::put_front;
 use copy_put::raw::plus;
-use copy_put::raw::put_byte;
 use copy_put::raw::put_bytes;
 use copy_walk::walk::copy_function;
 use copy_walk::walk::within;
@@ -27,20 +24,6 @@ use slice::cursor::remaining;
 pub enum CopyAnswer {
     Ok(usize),
     Err(Refusal),
-}
-
-// The header with format 0, and main's upvalue count modulo 256.
-fn put_front(upvalues: usize, out: &mut [u8]) -> usize
-    ensures { λ r. ⌜ Put (headerBytes 0 ++ fieldBytes 1 upvalues) 0 (now (out .entry)) r (now (out .exit)) ⌝ }
-{
-    let behind = put_bytes(
-        b"\x1bLua\x54\x00\x19\x93\x0d\x0a\x1a\x0a\x04\x08\x08\x78\x56\x00\x00\x00\x00\x00\x00\x00\x00\x00\x00\x00\x28\x77\x40",
-        0,
-        31,
-        out,
-        0,
-    );
-    put_byte(out, behind, (upvalues % 256) as u8)
 }
 
 // Main, which begins at the cursor, with all that nest in it, then the header, of which one byte depends on main, then the trailing bytes.

@@ -10,7 +10,8 @@ ghost use Rattle.read_prototype.specs.Inner.Results.{linesResult, sizesResult, 
 ghost use Rattle.copy_put.specs.Inner.Put.{Put};
 ghost use Rattle.copy_put.specs.Inner.Text.{There, spelt};
 ghost use Rattle.copy_parts.specs.Inner.Parts.{linesBytes};
-ghost use Rattle.copy_parts.specs.Inner.Fronts.{PutsLines, PutsSizes, PutsFront};
+ghost use Rattle.copy_parts.specs.Inner.Fronts.{linesRead, sizesRead, frontRead, PutsLines, PutsSizes, PutsFront};
+use copy_entry::entry::Passed;
 use copy_put::number::put_varint;
 use copy_put::raw::put_byte;
 use copy_put::text::put_string;
@@ -21,13 +22,10 @@ use read_field::string::OptionString;
 use read_field::string::StringResult;
 use read_field::string::read_string_lua54;
 use read_field::varint::read_varint_lua54;
-use read_prototype::front::Front;
-use read_prototype::front::FrontResult;
 use read_prototype::front::Lines;
-use read_prototype::front::LinesResult;
 use read_prototype::front::Sizes;
-use read_prototype::front::SizesResult;
 use slice::cursor::Cursor;
+use slice::cursor::CursorResult;
 
 // Main's source; a nested function's is written as absent.
 fn put_source(s: &[u8], named: bool, source: OptionString, out: &mut [u8]) -> usize
@@ -46,20 +44,14 @@ fn put_lines(lines: Lines, out: &mut [u8], at: usize) -> usize
     put_varint(out, first, lines.last_line_defined as u64)
 }
 
-// What the lines show, and the place behind them in the copy.
-struct LinesCopied {
-    lines: LinesResult,
-    behind: usize,
-}
-
-fn copy_lines(s: &[u8], cursor: Cursor, out: &mut [u8], at: usize) -> LinesCopied
-    ensures { λ r. ⌜ r .lines ≡ linesResult (spec.lines (cursor .at) (drop (cursor .at) (now (s .entry)))) ⌝ }
-    ensures { λ r. ⌜ PutsLines (r .lines) at (now (out .entry)) (r .behind) (now (out .exit)) ⌝ }
+fn copy_lines(s: &[u8], cursor: Cursor, out: &mut [u8], at: usize) -> Passed
+    ensures { λ r. ⌜ r .read ≡ linesRead (linesResult (spec.lines (cursor .at) (drop (cursor .at) (now (s .entry))))) ⌝ }
+    ensures { λ r. ⌜ PutsLines (linesResult (spec.lines (cursor .at) (drop (cursor .at) (now (s .entry))))) at (now (out .entry)) (r .behind) (now (out .exit)) ⌝ }
 {
     let first = read_varint_lua54(s, cursor);
     match first {
-        U64Result::Err(refusal) => LinesCopied {
-            lines: LinesResult::Err(refusal),
+        U64Result::Err(refusal) => Passed {
+            read: CursorResult::Err(refusal),
             behind: at,
         },
         U64Result::Ok {
@@ -68,8 +60,8 @@ fn copy_lines(s: &[u8], cursor: Cursor, out: &mut [u8], at: usize) -> LinesCopie
         } => {
             let last = read_varint_lua54(s, further);
             match last {
-                U64Result::Err(refusal) => LinesCopied {
-                    lines: LinesResult::Err(refusal),
+                U64Result::Err(refusal) => Passed {
+                    read: CursorResult::Err(refusal),
                     behind: at,
                 },
                 U64Result::Ok { value, next } => {
@@ -78,11 +70,8 @@ fn copy_lines(s: &[u8], cursor: Cursor, out: &mut [u8], at: usize) -> LinesCopie
                         last_line_defined: value as usize,
                     };
                     let behind = put_lines(lines, out, at);
-                    LinesCopied {
-                        lines: LinesResult::Ok {
-                            lines: lines,
-                            next: next,
-                        },
+                    Passed {
+                        read: CursorResult::Ok(next),
                         behind: behind,
                     }
                 }
@@ -99,20 +88,14 @@ fn put_sizes(sizes: Sizes, out: &mut [u8], at: usize) -> usize
     put_byte(out, second, sizes.maxstacksize)
 }
 
-// What the three bytes show, and the place behind them in the copy.
-struct SizesCopied {
-    sizes: SizesResult,
-    behind: usize,
-}
-
-fn copy_sizes(s: &[u8], cursor: Cursor, out: &mut [u8], at: usize) -> SizesCopied
-    ensures { λ r. ⌜ r .sizes ≡ sizesResult (spec.sizes (cursor .at) (drop (cursor .at) (now (s .entry)))) ⌝ }
-    ensures { λ r. ⌜ PutsSizes (r .sizes) at (now (out .entry)) (r .behind) (now (out .exit)) ⌝ }
+fn copy_sizes(s: &[u8], cursor: Cursor, out: &mut [u8], at: usize) -> Passed
+    ensures { λ r. ⌜ r .read ≡ sizesRead (sizesResult (spec.sizes (cursor .at) (drop (cursor .at) (now (s .entry))))) ⌝ }
+    ensures { λ r. ⌜ PutsSizes (sizesResult (spec.sizes (cursor .at) (drop (cursor .at) (now (s .entry))))) at (now (out .entry)) (r .behind) (now (out .exit)) ⌝ }
 {
     let first = read_u8(s, cursor);
     match first {
-        U8Result::Err(refusal) => SizesCopied {
-            sizes: SizesResult::Err(refusal),
+        U8Result::Err(refusal) => Passed {
+            read: CursorResult::Err(refusal),
             behind: at,
         },
         U8Result::Ok {
@@ -121,8 +104,8 @@ fn copy_sizes(s: &[u8], cursor: Cursor, out: &mut [u8], at: usize) -> SizesCopie
         } => {
             let second = read_u8(s, next1);
             match second {
-                U8Result::Err(refusal) => SizesCopied {
-                    sizes: SizesResult::Err(refusal),
+                U8Result::Err(refusal) => Passed {
+                    read: CursorResult::Err(refusal),
                     behind: at,
                 },
                 U8Result::Ok {
@@ -131,8 +114,8 @@ fn copy_sizes(s: &[u8], cursor: Cursor, out: &mut [u8], at: usize) -> SizesCopie
                 } => {
                     let third = read_u8(s, next2);
                     match third {
-                        U8Result::Err(refusal) => SizesCopied {
-                            sizes: SizesResult::Err(refusal),
+                        U8Result::Err(refusal) => Passed {
+                            read: CursorResult::Err(refusal),
                             behind: at,
                         },
                         U8Result::Ok { value, next } => {
@@ -142,11 +125,8 @@ fn copy_sizes(s: &[u8], cursor: Cursor, out: &mut [u8], at: usize) -> SizesCopie
                                 maxstacksize: value,
                             };
                             let behind = put_sizes(sizes, out, at);
-                            SizesCopied {
-                                sizes: SizesResult::Ok {
-                                    sizes: sizes,
-                                    next: next,
-                                },
+                            Passed {
+                                read: CursorResult::Ok(next),
                                 behind: behind,
                             }
                         }
@@ -157,12 +137,6 @@ fn copy_sizes(s: &[u8], cursor: Cursor, out: &mut [u8], at: usize) -> SizesCopie
     }
 }
 
-// What the front shows, and the place behind it in the copy.
-pub struct FrontCopied {
-    pub front: FrontResult,
-    pub behind: usize,
-}
-
 // From the source to the three bytes, at the start of the lent memory. Ruled out: a nested function's source kept, the lines exchanged.
 pub fn copy_front(
     s: &[u8],
@@ -170,14 +144,14 @@ pub fn copy_front(
     max_string_bytes: usize,
     cursor: Cursor,
     out: &mut [u8],
-) -> FrontCopied
-    ensures { λ r. ⌜ r .front ≡ frontResult (spec.front «max_string_bytes» (cursor .at) (drop (cursor .at) (now (s .entry)))) ⌝ }
-    ensures { λ r. ⌜ PutsFront (now (s .entry)) named (r .front) (now (out .entry)) (r .behind) (now (out .exit)) ⌝ }
+) -> Passed
+    ensures { λ r. ⌜ r .read ≡ frontRead (frontResult (spec.front «max_string_bytes» (cursor .at) (drop (cursor .at) (now (s .entry))))) ⌝ }
+    ensures { λ r. ⌜ PutsFront (now (s .entry)) named (frontResult (spec.front «max_string_bytes» (cursor .at) (drop (cursor .at) (now (s .entry))))) (now (out .entry)) (r .behind) (now (out .exit)) ⌝ }
 {
     let name = read_string_lua54(s, cursor, max_string_bytes);
     match name {
-        StringResult::Err(refusal) => FrontCopied {
-            front: FrontResult::Err(refusal),
+        StringResult::Err(refusal) => Passed {
+            read: CursorResult::Err(refusal),
             behind: 0,
         },
         StringResult::Ok {
@@ -186,36 +160,13 @@ pub fn copy_front(
         } => {
             let sourced = put_source(s, named, source, out);
             let between = copy_lines(s, next1, out, sourced);
-            let lined = between.lines;
+            let lined = between.read;
             match lined {
-                LinesResult::Err(refusal) => FrontCopied {
-                    front: FrontResult::Err(refusal),
+                CursorResult::Err(refusal) => Passed {
+                    read: CursorResult::Err(refusal),
                     behind: 0,
                 },
-                LinesResult::Ok {
-                    lines: lines,
-                    next: next2,
-                } => {
-                    let three = copy_sizes(s, next2, out, between.behind);
-                    let sized = three.sizes;
-                    match sized {
-                        SizesResult::Err(refusal) => FrontCopied {
-                            front: FrontResult::Err(refusal),
-                            behind: 0,
-                        },
-                        SizesResult::Ok { sizes, next } => FrontCopied {
-                            front: FrontResult::Ok {
-                                front: Front {
-                                    source: source,
-                                    lines: lines,
-                                    sizes: sizes,
-                                },
-                                next: next,
-                            },
-                            behind: three.behind,
-                        },
-                    }
-                }
+                CursorResult::Ok(next2) => copy_sizes(s, next2, out, between.behind),
             }
         }
     }

@@ -4,27 +4,33 @@ ghost use lib.ListN.{drop};
 ghost use Rattle.format.specs.Form.{Below};
 ghost use Rattle.read_prototype.specs.Parts as parts;
 ghost use Rattle.read_prototype.specs.PartsShown.{headListsResult, headResult};
-ghost use Rattle.copy_parts.specs.Inner.Heads.{PutsLists, PutsHead};
+ghost use Rattle.copy_parts.specs.Inner.Heads.{listsCounted, headCounted, PutsLists, PutsHead};
 use crate::front::copy_front;
 use copy_entry::listed::copy_constants_list;
 use copy_put::number::put_varint;
 use copy_put::raw::put_run;
 use format::limits::ResourceLimits;
+use format::refusal::Refusal;
 use read_list::ListResult;
 use read_list::instructions_list;
 use read_list::protos_count;
 use read_list::upvalues_list;
-use read_prototype::front::FrontResult;
-use read_prototype::parts::Head;
-use read_prototype::parts::HeadLists;
-use read_prototype::parts::HeadListsResult;
-use read_prototype::parts::HeadResult;
-use read_prototype::row::ListAt;
 use slice::cursor::Cursor;
+use slice::cursor::CursorResult;
 
-// What the lists before the nested functions show, and the place behind them in the copy.
+// How many words and upvalues a function has: of the lists before the nested functions a walk needs no more.
+enum ListCountsResult {
+    Ok {
+        instructions: usize,
+        upvalues: usize,
+        next: Cursor,
+    },
+    Err(Refusal),
+}
+
+// The same, and the place behind the lists in the copy.
 struct ListsCopied {
-    lists: HeadListsResult,
+    lists: ListCountsResult,
     behind: usize,
 }
 
@@ -37,8 +43,8 @@ fn copy_lists(
     out: &mut [u8],
     at: usize,
 ) -> ListsCopied
-    ensures { λ r. ⌜ r .lists ≡ headListsResult (parts.headLists limits before (cursor .at) (drop (cursor .at) (now (s .entry)))) ⌝ }
-    ensures { λ r. ⌜ PutsLists limits (now (s .entry)) (r .lists) at (now (out .entry)) (r .behind) (now (out .exit)) ⌝ }
+    ensures { λ r. ⌜ r .lists ≡ listsCounted (headListsResult (parts.headLists limits before (cursor .at) (drop (cursor .at) (now (s .entry))))) ⌝ }
+    ensures { λ r. ⌜ PutsLists limits (now (s .entry)) (headListsResult (parts.headLists limits before (cursor .at) (drop (cursor .at) (now (s .entry))))) at (now (out .entry)) (r .behind) (now (out .exit)) ⌝ }
 {
     let code = instructions_list(
         s,
@@ -49,7 +55,7 @@ fn copy_lists(
     );
     match code {
         ListResult::Err(refusal) => ListsCopied {
-            lists: HeadListsResult::Err(refusal),
+            lists: ListCountsResult::Err(refusal),
             behind: at,
         },
         ListResult::Ok {
@@ -69,38 +75,26 @@ fn copy_lists(
             let constants = k.list;
             match constants {
                 ListResult::Err(refusal) => ListsCopied {
-                    lists: HeadListsResult::Err(refusal),
+                    lists: ListCountsResult::Err(refusal),
                     behind: at,
                 },
                 ListResult::Ok {
-                    count: count2,
-                    place: place2,
+                    count: _,
+                    place: _,
                     next: next2,
                 } => {
                     let u = upvalues_list(s, next2, limits.max_upvalues_per_proto);
                     match u {
                         ListResult::Err(refusal) => ListsCopied {
-                            lists: HeadListsResult::Err(refusal),
+                            lists: ListCountsResult::Err(refusal),
                             behind: at,
                         },
                         ListResult::Ok { count, place, next } => {
                             let behind = put_run(s, place, count, 3, out, k.behind);
                             ListsCopied {
-                                lists: HeadListsResult::Ok {
-                                    lists: HeadLists {
-                                        instructions: ListAt {
-                                            count: count1,
-                                            place: place1,
-                                        },
-                                        constants: ListAt {
-                                            count: count2,
-                                            place: place2,
-                                        },
-                                        upvalues: ListAt {
-                                            count: count,
-                                            place: place,
-                                        },
-                                    },
+                                lists: ListCountsResult::Ok {
+                                    instructions: count1,
+                                    upvalues: count,
                                     next: next,
                                 },
                                 behind: behind,
@@ -113,9 +107,21 @@ fn copy_lists(
     }
 }
 
-// What a function shows before the functions that nest in it, and how long its copy is.
+// What a walk needs of a function before the functions that nest in it: how many words and upvalues it has, and how many of those.
+pub struct Counts {
+    pub instructions: usize,
+    pub upvalues: usize,
+    pub protos: usize,
+}
+
+pub enum CountsResult {
+    Ok { counts: Counts, next: Cursor },
+    Err(Refusal),
+}
+
+// The same, and how long its copy is.
 pub struct HeadCopied {
-    pub begins: HeadResult,
+    pub begins: CountsResult,
     pub len: usize,
 }
 
@@ -128,48 +134,47 @@ pub fn copy_head(
     cursor: Cursor,
     out: &mut [u8],
 ) -> HeadCopied
-    ensures { λ r. ⌜ r .begins ≡ headResult (parts.head limits before (cursor .at) (drop (cursor .at) (now (s .entry)))) ⌝ }
+    ensures { λ r. ⌜ r .begins ≡ headCounted (headResult (parts.head limits before (cursor .at) (drop (cursor .at) (now (s .entry))))) ⌝ }
     ensures { λ r. ⌜ (Below 256 (now (s .entry)) → PutsHead named (parts.head limits before (cursor .at) (drop (cursor .at) (now (s .entry)))) (now (out .entry)) (r .len) (now (out .exit))) ⌝ }
 {
     let first = copy_front(s, named, limits.max_string_bytes, cursor, out);
-    let begins = first.front;
+    let begins = first.read;
     match begins {
-        FrontResult::Err(refusal) => HeadCopied {
-            begins: HeadResult::Err(refusal),
+        CursorResult::Err(refusal) => HeadCopied {
+            begins: CountsResult::Err(refusal),
             len: 0,
         },
-        FrontResult::Ok {
-            front: front,
-            next: behind,
-        } => {
+        CursorResult::Ok(behind) => {
             let middle = copy_lists(s, limits, before, behind, out, first.behind);
             let between = middle.lists;
             match between {
-                HeadListsResult::Err(refusal) => HeadCopied {
-                    begins: HeadResult::Err(refusal),
+                ListCountsResult::Err(refusal) => HeadCopied {
+                    begins: CountsResult::Err(refusal),
                     len: 0,
                 },
-                HeadListsResult::Ok {
-                    lists: lists,
+                ListCountsResult::Ok {
+                    instructions: instructions,
+                    upvalues: upvalues,
                     next: further,
                 } => {
                     let nested = protos_count(s, further, limits.max_total_prototypes);
                     match nested {
                         ListResult::Err(refusal) => HeadCopied {
-                            begins: HeadResult::Err(refusal),
+                            begins: CountsResult::Err(refusal),
                             len: 0,
                         },
-                        ListResult::Ok { count, place, next } => {
+                        ListResult::Ok {
+                            count: count,
+                            place: _,
+                            next: next,
+                        } => {
                             let len = put_varint(out, middle.behind, count as u64);
                             HeadCopied {
-                                begins: HeadResult::Ok {
-                                    head: Head {
-                                        front: front,
-                                        lists: lists,
-                                        protos: ListAt {
-                                            count: count,
-                                            place: place,
-                                        },
+                                begins: CountsResult::Ok {
+                                    counts: Counts {
+                                        instructions: instructions,
+                                        upvalues: upvalues,
+                                        protos: count,
                                     },
                                     next: next,
                                 },

@@ -7,7 +7,7 @@ use mathlib.Core.Path.{_≡_, refl, sym, subst, _∙_, ap}
 use mathlib.Core.Bool.{Bool, true}
 use mathlib.Core.List.{List, [], _∷_, foldr, flatten}
 use mathlib.Core.Option.{none}
-use Prim.Native.Nat.{ℕ, _+_}
+use Prim.Native.Nat.{ℕ, _+_, _≤_}
 use lib.ListN.{drop}
 use Rattle.format.specs.declared.limits.ResourceLimits.{ResourceLimits}
 use Rattle.format.specs.declared.refusal.Refusal.{Refusal}
@@ -19,8 +19,6 @@ use Rattle.format.specs.ReadChunk.{forest, function}
 use Rattle.format.specs.Copy.{nest, upvaluesOfMain}
 use Rattle.format.proofs.Exact.{never}
 use Rattle.slice.specs.declared.cursor.Cursor.{Cursor}
-use Rattle.read_prototype.specs.declared.parts.Head as declared-head
-use Rattle.read_prototype.specs.declared.parts.HeadResult.the-variants as head-answer
 use Rattle.read_prototype.specs.Parts.{Head, head, Tail, tail}
 use Rattle.read_prototype.specs.Inner.Whole.{prototypeOf, inside}
 use Rattle.read_prototype.specs.PartsShown.{headOf, headResult}
@@ -28,14 +26,17 @@ use Rattle.read_walk.specs.declared.walk.Skimmed.{Skimmed}
 use Rattle.read_walk.specs.declared.walk.SkimResult.{SkimResult}
 use Rattle.read_walk.specs.declared.walk.SkimResult.the-variants as skim
 use Rattle.read_walk.specs.Inner.Skim.{entered, skimResult}
-use Rattle.read_walk.proofs.HeadTail.{ReadOn, head-err, head-read}
+use Rattle.read_walk.proofs.HeadTail.{ReadOn, head-err, head-read, in-total}
 use Rattle.read_walk.proofs.OneFunction as one
 use Rattle.read_walk.proofs.OneFunction.{skim-err, Skims}
 use Rattle.copy_put.specs.Inner.Put.{Put}
 use Rattle.copy_put.proofs.Writes.{put-then}
 use Rattle.copy_parts.specs.Inner.Parts.{functionBytes}
 use Rattle.copy_parts.specs.Inner.Ends.{PutsTail, endShown}
-use Rattle.copy_parts.specs.Inner.Heads.{PutsHead}
+use Rattle.copy_parts.specs.declared.parts.Counts.{Counts}
+use Rattle.copy_parts.specs.declared.parts.CountsResult.the-variants as counts-answer
+use Rattle.copy_parts.specs.Inner.Heads.{countsOf, headCounted, PutsHead}
+use Rattle.copy_parts.proofs.HeadPut.{CountsWere, counts-were, counts-stops}
 use Rattle.copy_walk.specs.Inner.Walk.{PutsFunction}
 use Rattle.copy_parts.proofs.PutParts.{put-as}
 use Rattle.copy_walk.proofs.Nests.{made}
@@ -52,16 +53,25 @@ module _ (named : Bool) (from : Skimmed) (s : Bytes) (o : Where → Read (List P
     },
   )
 
+-- the instructions so far are within their limit
+pub counted-total : (s : Bytes) (L : ResourceLimits) (before at : ℕ) (h : Counts) (c : Cursor) → counts-answer.Ok h c ≡ headCounted (headResult (head L before at (drop at s))) → before + h .instructions ≤ L .«max_total_instructions»
+counted-total s L before at h c e =
+    let were = counts-were (headResult (head L before at (drop at s))) h c e in
+    subst (λ (h : Counts). before + h .instructions ≤ L .«max_total_instructions») (sym (were .counted)) (in-total s L before at (were .value) c (were .is))
+
 module _ (s : Bytes) (L : ResourceLimits) (left : ℕ) (w : Where) (at : ℕ) {before : ℕ} (so-far : before ≡ w .instructions) where
   as-begins : head L (w .instructions) at (drop at s) ≡ head L before at (drop at s)
   as-begins = ap (λ n. head L n at (drop at s)) (sym so-far)
 
-  pub head-refused : (q : Refusal) → head-answer.Err q ≡ headResult (head L before at (drop at s)) → skim.Err q ≡ skimResult w (function L left w at (drop at s))
-  head-refused q e = one.head-refused s L left w at q (as-begins ∙ head-err _ q e)
+  pub head-refused : (q : Refusal) → counts-answer.Err q ≡ headCounted (headResult (head L before at (drop at s))) → skim.Err q ≡ skimResult w (function L left w at (drop at s))
+  head-refused q e = one.head-refused s L left w at q (as-begins ∙ head-err _ q (counts-stops (headResult (head L before at (drop at s))) q e))
 
-  module _ (h : declared-head.Head) (c₁ : Cursor) (e₁ : head-answer.Ok h c₁ ≡ headResult (head L before at (drop at s))) where
-    pub headed : ReadOn headOf (head L before) s at h (c₁ .at)
-    headed = head-read s L before at h c₁ e₁
+  module _ (h : Counts) (c₁ : Cursor) (e₁ : counts-answer.Ok h c₁ ≡ headCounted (headResult (head L before at (drop at s)))) where
+    pub were : CountsWere (headResult (head L before at (drop at s))) h c₁
+    were = counts-were (headResult (head L before at (drop at s))) h c₁ e₁
+
+    pub headed : ReadOn headOf (head L before) s at (were .value) (c₁ .at)
+    headed = head-read s L before at (were .value) c₁ (were .is)
 
     abbrev pub its-head : Head
     its-head = headed .value
@@ -69,19 +79,22 @@ module _ (s : Bytes) (L : ResourceLimits) (left : ℕ) (w : Where) (at : ℕ) {b
     head-on : head L (w .instructions) at (drop at s) ≡ ok its-head (c₁ .at) (drop (c₁ .at) s)
     head-on = as-begins ∙ headed .is
 
-    many : h .protos .count ≡ its-head .protos .count
-    many = ap (λ h. h .protos .count) (headed .shows)
+    kept : h ≡ countsOf (headOf its-head)
+    kept = were .counted ∙ ap countsOf (headed .shows)
+
+    many : h .protos ≡ its-head .protos .count
+    many = ap (λ (h : Counts). h .protos) kept
 
     abbrev pub first : Where
     first = inside w its-head
 
-    pub first-instructions : before + h .lists .instructions .count ≡ first .instructions
-    first-instructions = λ i. so-far i + headed .shows i .lists .instructions .count
+    pub first-instructions : before + h .instructions ≡ first .instructions
+    first-instructions = λ i. so-far i + kept i .instructions
 
-    pub nested-refused : (q : Refusal) → skim.Err q ≡ skimResult first (forest (h .protos .count) (entered L left) first (c₁ .at) (drop (c₁ .at) s)) → skim.Err q ≡ skimResult w (function L left w at (drop at s))
-    nested-refused = one.nested-refused s L left w at c₁ head-on (h .protos .count) many
+    pub nested-refused : (q : Refusal) → skim.Err q ≡ skimResult first (forest (h .protos) (entered L left) first (c₁ .at) (drop (c₁ .at) s)) → skim.Err q ≡ skimResult w (function L left w at (drop at s))
+    nested-refused = one.nested-refused s L left w at c₁ head-on (h .protos) many
 
-    module _ (k : Skimmed) (nested : Skims (forest (h .protos .count) (entered L left)) s first (c₁ .at) k) where
+    module _ (k : Skimmed) (nested : Skims (forest (h .protos) (entered L left)) s first (c₁ .at) k) where
       abbrev ends : Read Tail
       ends = tail (L .«max_string_bytes») (k .next .at) (drop (k .next .at) s)
 
@@ -89,10 +102,10 @@ module _ (s : Bytes) (L : ResourceLimits) (left : ℕ) (w : Where) (at : ℕ) {b
       end-shows r e = e ∙ by ends refl
         where
           by : (o : Read Tail) → ends ≡ o → endShown k o ≡ skimResult w (function L left w at (drop at s))
-          by (ok t to rest) f = one.function-shown s L left w at c₁ head-on (h .protos .count) many k nested f
-          by (refused q) f = one.tail-refused s L left w at c₁ head-on (h .protos .count) many k nested q f
+          by (ok t to rest) f = one.function-shown s L left w at c₁ head-on (h .protos) many k nested f
+          by (refused q) f = one.tail-refused s L left w at c₁ head-on (h .protos) many k nested q f
 
-      pub whole-put : (named : Bool) → (named ≡ true → w .source ≡ none) → {l l₁ l₂ l₃ : Bytes} {upvalues n₁ n₂ n₃ : ℕ} → upvalues ≡ h .lists .upvalues .count
+      pub whole-put : (named : Bool) → (named ≡ true → w .source ≡ none) → {l l₁ l₂ l₃ : Bytes} {upvalues n₁ n₂ n₃ : ℕ} → upvalues ≡ h .upvalues
           → PutsHead named (head L before at (drop at s)) l n₁ l₁
           → Put (flatten (foldr nest [] (nested .value))) n₁ l₁ n₂ l₂
           → PutsTail ends n₂ l₂ n₃ l₃
@@ -103,13 +116,13 @@ module _ (s : Bytes) (L : ResourceLimits) (left : ℕ) (w : Where) (at : ℕ) {b
       }
         where
           in-order : function L left w at (drop at s) ≡ next ends (λ t e f. ok (prototypeOf w at its-head t e ∷ nested .value) e f)
-          in-order = one.to-tail s L left w at c₁ head-on (h .protos .count) many k nested
+          in-order = one.to-tail s L left w at c₁ head-on (h .protos) many k nested
 
           count : (ps : List Prototype) (to : ℕ) (rest : Bytes) (o : Read Tail) → next o (λ t e f. ok (prototypeOf w at its-head t e ∷ nested .value) e f) ≡ ok ps to rest → upvalues ≡ upvaluesOfMain ps
           count ps to rest (refused x) e = absurd (never e)
           count ps to rest (ok t up rest′) e =
               let all : prototypeOf w at its-head t up ∷ nested .value ≡ ps = cc in
-              u ∙ ap (λ h. h .lists .upvalues .count) (headed .shows) ∙ ap upvaluesOfMain all
+              u ∙ ap (λ (h : Counts). h .upvalues) kept ∙ ap upvaluesOfMain all
 
           by : (ps : List Prototype) (to : ℕ) (rest : Bytes) (o : Read Tail) → ends ≡ o → next o (λ t e f. ok (prototypeOf w at its-head t e ∷ nested .value) e f) ≡ ok ps to rest → Put (functionBytes named ps) 0 l n₃ l₃
           by ps to rest (refused x) f e = absurd (never e)

@@ -14,11 +14,11 @@ ghost use Rattle.copy_walk.specs.Inner.Walk.{PutsFunction};
 use copy_parts::ends::Copied;
 use copy_parts::ends::copy_end;
 use copy_parts::ends::stopped;
+use copy_parts::parts::CountsResult;
 use copy_parts::parts::copy_head;
 use copy_put::raw::plus;
 use format::limits::ResourceLimits;
 use format::refusal::Refusal;
-use read_prototype::parts::HeadResult;
 use read_walk::walk::SkimResult;
 use read_walk::walk::Skimmed;
 
@@ -46,15 +46,15 @@ pub fn copy_function(
     let begun = copy_head(s, limits, named, from.instructions, from.next, out);
     let begins = begun.begins;
     match begins {
-        HeadResult::Err(refusal) => stopped(refusal),
-        HeadResult::Ok { head, next } => {
+        CountsResult::Err(refusal) => stopped(refusal),
+        CountsResult::Ok { counts, next } => {
             let mut len = begun.len;
             let mut nested = Skimmed {
                 next,
                 number: from.number + 1,
-                instructions: from.instructions + head.lists.instructions.count,
+                instructions: from.instructions + counts.instructions,
             };
-            let mut more = head.protos.count;
+            let mut more = counts.protos;
             while more > 0 {
                 let at = nested.next.at;
                 if left == 0 {
@@ -73,7 +73,7 @@ pub fn copy_function(
                 len = plus(len, one.len);
                 more -= 1;
             }
-            copy_end(s, limits, head.lists.upvalues.count, nested, out, len)
+            copy_end(s, limits, counts.upvalues, nested, out, len)
         }
     }
 }

@@ -156,6 +156,10 @@ by-main : (L : ResourceLimits) (s : Bytes) → withinCeilings L ≡ true → leb
 unfolding read
 by-main L s p q = rw (p, q)
 
+-- apart from what is known where it is used: cc looks at all of that
+not-both : {f : Opening} {q : Refusal} → begins.Ok f ≡ begins.Err q → ⊥
+not-both e = let z : _≡_ {A = ℕ} 0 1 = cc in omega arith
+
 pub was-opened : (L : ResourceLimits) (s : Bytes) (f : Opening) → begins.Ok f ≡ openingResult (opened L s) → Opened L s f
 was-opened L s f e = by (withinCeilings L) (leb (length s) (L .«max_input_bytes»)) (beforeMain 0 s) refl refl refl e
   where
@@ -173,9 +177,9 @@ was-opened L s f e = by (withinCeilings L) (leb (length s) (L .«max_input_bytes
           one = w .one;
           reads = by-main L s p q ∙ ap (outcome L) (w .goes-on ∙ ap (λ at. next (function L (L .«max_nesting_depth») outermost at (drop at s)) (load h)) (sym at));
         }
-    by true true (refused x) p q is e = absurd (let z : _≡_ {A = ℕ} 0 1 = cc in omega arith)
-    by true false o p q is e = absurd (let z : _≡_ {A = ℕ} 0 1 = cc in omega arith)
-    by false b o p q is e = absurd (let z : _≡_ {A = ℕ} 0 1 = cc in omega arith)
+    by true true (refused x) p q is e = absurd (not-both e)
+    by true false o p q is e = absurd (not-both e)
+    by false b o p q is e = absurd (not-both e)
 
 pub not-opened : (L : ResourceLimits) (s : Bytes) (q : Refusal) → begins.Err q ≡ openingResult (opened L s) → read L s ≡ refusal q
 unfolding read

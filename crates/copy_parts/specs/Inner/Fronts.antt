@@ -1,4 +1,5 @@
 -- What is put of the front of a function, where the code shows it.
+--     linesRead, ..            how far the reading came
 --     PutsLines, PutsSizes     its lines, its three bytes
 --     FrontPut                 its source, its lines and its three bytes, one behind the other, at the start
 --     PutsFront                the same, where o shows them
@@ -9,6 +10,8 @@ use Prim.Native.Nat.{ℕ}
 use Rattle.format.specs.Form.{Bytes}
 use Rattle.format.specs.Shortest.{shortest}
 use Rattle.slice.specs.declared.cursor.Cursor.{Cursor}
+use Rattle.slice.specs.declared.cursor.CursorResult.{CursorResult}
+use Rattle.slice.specs.declared.cursor.CursorResult.the-variants as cursor
 use Rattle.read_prototype.specs.declared.front.Lines.{Lines}
 use Rattle.read_prototype.specs.declared.front.LinesResult.{LinesResult}
 use Rattle.read_prototype.specs.declared.front.LinesResult.the-variants as lines-answer
@@ -21,6 +24,18 @@ use Rattle.read_prototype.specs.declared.front.FrontResult.the-variants as fron
 use Rattle.copy_put.specs.Inner.Put.{Put}
 use Rattle.copy_put.specs.Inner.Text.{There, spelt}
 use Rattle.copy_parts.specs.Inner.Parts.{linesBytes}
+
+abbrev pub linesRead : LinesResult → CursorResult
+linesRead (lines-answer.Ok x c) = cursor.Ok c
+linesRead (lines-answer.Err q) = cursor.Err q
+
+abbrev pub sizesRead : SizesResult → CursorResult
+sizesRead (sizes-answer.Ok x c) = cursor.Ok c
+sizesRead (sizes-answer.Err q) = cursor.Err q
+
+abbrev pub frontRead : FrontResult → CursorResult
+frontRead (front-answer.Ok x c) = cursor.Ok c
+frontRead (front-answer.Err q) = cursor.Err q
 
 pub record PutsLines (o : LinesResult) (at : ℕ) (l : Bytes) (behind : ℕ) (l′ : Bytes) : Type 0 where
   pub put : (x : Lines) (c : Cursor) → o ≡ lines-answer.Ok x c → Put (linesBytes x) at l behind l′

@@ -13,20 +13,20 @@ use Rattle.format.specs.GrammarChunk.{Where}
 use Rattle.format.specs.ReadChunk.{forest, function}
 use Rattle.format.specs.declared.refusal.Refusal.{Refusal}
 use Rattle.slice.specs.declared.cursor.Cursor.{Cursor}
-use Rattle.read_prototype.specs.declared.parts.Head as declared-head
-use Rattle.read_prototype.specs.declared.parts.HeadResult.the-variants as head-answer
 use Rattle.read_prototype.specs.Parts as parts
 use Rattle.read_prototype.specs.PartsShown.{headResult}
 use Rattle.read_walk.specs.declared.walk.Skimmed.{Skimmed}
 use Rattle.read_walk.specs.declared.walk.SkimResult.the-variants as skim
 use Rattle.read_walk.specs.Inner.Skim.{entered, on, skimResult}
-use Rattle.read_walk.proofs.HeadTail.{in-total}
 use Rattle.read_walk.proofs.SoFar as so-far
+use Rattle.copy_parts.specs.declared.parts.Counts.{Counts}
+use Rattle.copy_parts.specs.declared.parts.CountsResult.the-variants as counts-answer
 use Rattle.copy_parts.specs.Inner.Parts.{functionBytes}
+use Rattle.copy_parts.specs.Inner.Heads.{headCounted}
 use Rattle.copy_walk.proofs.Tails.{tail-inside, part-kept, put-part}
 use Rattle.copy_walk.proofs.Loops.{Copies, copies-none, copies-one, copies-all}
 use Rattle.copy_walk.proofs.Functions as copied
-use Rattle.copy_walk.proofs.Functions.{not-read}
+use Rattle.copy_walk.proofs.Functions.{not-read, counted-total}
 use Rattle.copy_walk.proofs.walk.copy_function.Reads as copy-function
 use Rattle.copy_walk.proofs.walk.copy_function.Kinds as copy-function-kinds
 use Rattle.copy_walk.proofs.walk.+copy_function.Lts-copy_function as copy-function-lts
@@ -81,16 +81,16 @@ module _ (t : ℕ) (f : copy-function-lts.After-begins2 (calls t) (at t) copy-fu
   abbrev a : copy-function-lts.Args (calls t) (at t) copy-function.Post Inv μ-loop (f .before .before .before .before .before .before .before .before .κs)
   a = f .before .before .before .before .before .before .before .before .args
 
-  abbrev head : declared-head.Head
+  abbrev head : Counts
   head = f .begins2 .given .0 .0
 
   abbrev behind : Cursor
   behind = f .begins2 .given .0 .1 .0
 
   abbrev inside : Skimmed
-  inside = record { next = behind; number = a .from .number + 1; instructions = a .from .instructions + head .lists .instructions .count }
+  inside = record { next = behind; number = a .from .number + 1; instructions = a .from .instructions + head .instructions }
 
-  begun : head-answer.Ok head behind ≡ headResult (parts.head (a .limits) (a .from .instructions) (a .from .next .at) (drop (a .from .next .at) (a .s .now)))
+  begun : counts-answer.Ok head behind ≡ headCounted (headResult (parts.head (a .limits) (a .from .instructions) (a .from .next .at) (drop (a .from .next .at) (a .s .now))))
   begun = sym (f .begins2 .given .1) ∙ f .before .before .before .before .copy-head .ensures .0
 
   module _ (w : Where) (n : a .from .number ≡ w .number) (i : a .from .instructions ≡ w .instructions) where
@@ -103,7 +103,7 @@ module _ (t : ℕ) (f : copy-function-lts.After-begins2 (calls t) (at t) copy-fu
     first-instructions : inside .instructions ≡ first .instructions
     first-instructions = copied.first-instructions (a .s .now) (a .limits) (a .left) w (a .from .next .at) i head behind begun
 
-    refused-inside : (q : Refusal) → skim.Err q ≡ skimResult first (forest (head .protos .count) (entered (a .limits) (a .left)) first (behind .at) (drop (behind .at) (a .s .now)))
+    refused-inside : (q : Refusal) → skim.Err q ≡ skimResult first (forest (head .protos) (entered (a .limits) (a .left)) first (behind .at) (drop (behind .at) (a .s .now)))
         → skim.Err q ≡ skimResult w (function (a .limits) (a .left) w (a .from .next .at) (drop (a .from .next .at) (a .s .now)))
     refused-inside = copied.nested-refused (a .s .now) (a .limits) (a .left) w (a .from .next .at) i head behind begun
 
@@ -111,7 +111,7 @@ module _ (t : ℕ) (f : copy-function-lts.After-begins2 (calls t) (at t) copy-fu
 total : (t : ℕ) → copy-function-lts.Need-add-t25 (calls t) (at t) copy-function.Post Inv μ-loop
 total t c =
     let f = c .before .before .before .before in
-    let e = in-total (a t f .s .now) (a t f .limits) (a t f .from .instructions) (a t f .from .next .at) (head t f) (behind t f) (begun t f) in
+    let e = counted-total (a t f .s .now) (a t f .limits) (a t f .from .instructions) (a t f .from .next .at) (head t f) (behind t f) (begun t f) in
     let limit = c .before .before .before .before .before .before .before .before .before .before .before .before .pre .1 .0 .1 in
     omega (arith, e, limit)
 
@@ -121,7 +121,7 @@ number t c = let few = c .before .before .before .before .before .before .before
 loop-holds : (t : ℕ) → copy-function-lts.Need-loop-holds (calls t) (at t) copy-function.Post Inv μ-loop
 loop-holds t c =
     let f = c .before .before .before .before in
-    (refl, λ w n i. copies-none (a t f .s .now) (a t f .limits) (a t f .left) w (head t f .protos .count) (inside t f) _ _ n i)
+    (refl, λ w n i. copies-none (a t f .s .now) (a t f .limits) (a t f .left) w (head t f .protos) (inside t f) _ _ n i)
 
 returns : (t : ℕ) → copy-function-lts.Need-returns (calls t) (at t) copy-function.Post Inv μ-loop
 returns t c =

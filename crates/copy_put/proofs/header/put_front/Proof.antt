@@ -1,9 +1,9 @@
--- `copy::whole::put_front` meets its contract. Assumes nothing.
+-- `copy_put::header::put_front` meets its contract. Assumes nothing.
 use borrow.Author.Needs.{needs}
 use lib.Dec.{lit≤}
 use Rattle.copy_put.proofs.Writes.{put-then}
-use Rattle.copy.proofs.whole.put_front.Statement.{statement}
-use Rattle.copy.proofs.whole.put_front.Tie as tie
+use Rattle.copy_put.proofs.header.put_front.Statement.{statement}
+use Rattle.copy_put.proofs.header.put_front.Tie as tie
 
 pub put-front-spec : {M : Type 1} → statement M
 put-front-spec =
