@@ -1,15 +1,15 @@
-// Parts at a place: each tests 21 and 22 first, takes no pass over the chunk, and costs what its part costs. What each answers is in specs/ of crates c_parts and c_entries.
+// Parts at a place: each tests 21 and 22 first, takes no pass over the chunk, and costs what its part costs. What each answers is in specs/ of crates c_parts and c_entries_at.
 ghost use mathlib.Core.Path.{_≡_};
 ghost use Rattle.c_boundary.specs.Status.{status, written};
-ghost use Rattle.c_entries.specs.EntryNumbers.{wordAt, constantAt, upvalueAt, deltaAt, anchorAt, localAt, stringAt};
+ghost use Rattle.c_entries_at.specs.EntryNumbers.{wordAt, constantAt, upvalueAt, deltaAt, anchorAt, localAt, stringAt};
 ghost use Rattle.c_parts.specs.PartNumbers.{headAt, tailAt};
-use c_entries::anchor_at;
-use c_entries::constant_at;
-use c_entries::delta_at;
-use c_entries::local_at;
-use c_entries::string_at;
-use c_entries::upvalue_at;
-use c_entries::word_at;
+use c_entries_at::anchor_at;
+use c_entries_at::constant_at;
+use c_entries_at::delta_at;
+use c_entries_at::local_at;
+use c_entries_at::string_at;
+use c_entries_at::upvalue_at;
+use c_entries_at::word_at;
 use c_parts::head_at;
 use c_parts::tail_at;
 

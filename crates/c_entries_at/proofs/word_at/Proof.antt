@@ -1,4 +1,4 @@
--- `c_entries::word_at` meets its contract: by the test of 21 and 22, then by what was read. Assumes nothing.
+-- `c_entries_at::word_at` meets its contract: by the test of 21 and 22, then by what was read. Assumes nothing.
 use mathlib.Core.Path.{refl}
 use borrow.Author.Needs.{needs}
 use lib.ListN.{drop}
@@ -6,10 +6,10 @@ use Rattle.format.specs.ReadFields.{field}
 use Rattle.read_field.specs.Shown.{u32Result}
 use Rattle.c_boundary.specs.Status.{limitsOf}
 use Rattle.c_boundary.proofs.Calls.{call-refuses, call-answers}
-use Rattle.c_entries.specs.EntryNumbers.{ofWordAt}
+use Rattle.c_entries_at.specs.EntryNumbers.{ofWordAt}
 use Rattle.c_boundary.proofs.Admitted.{stops, goes-on}
-use Rattle.c_entries.proofs.word_at.Statement.{statement}
-use Rattle.c_entries.proofs.word_at.Tie as tie
+use Rattle.c_entries_at.proofs.word_at.Statement.{statement}
+use Rattle.c_entries_at.proofs.word_at.Tie as tie
 
 pub word-at-spec : {M : Type 1} → statement M
 word-at-spec =

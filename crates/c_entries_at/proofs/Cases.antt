@@ -7,7 +7,7 @@ use mathlib.Core.List.{List, [], _∷_, map}
 use Prim.Native.Nat.{ℕ, _-_, _^_}
 use Rattle.format.proofs.Distinct.{distinct}
 use Rattle.c_boundary.specs.Status.{Answer, done}
-use Rattle.c_entries.specs.EntryNumbers.{wordAt, constantAt, upvalueAt, deltaAt, anchorAt, localAt, stringAt}
+use Rattle.c_entries_at.specs.EntryNumbers.{wordAt, constantAt, upvalueAt, deltaAt, anchorAt, localAt, stringAt}
 
 abbrev ceilings : List ℕ
 ceilings = 16777216 ∷ 200 ∷ 16777216 ∷ 16777216 ∷ 16777216 ∷ 16777216 ∷ 16777216 ∷ 16777216 ∷ 10000 ∷ []

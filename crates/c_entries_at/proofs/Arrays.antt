@@ -7,7 +7,7 @@ use lib.ListN.{length, getD}
 use borrow.Author.Tests.{le-ltb}
 use mir.Syntax.{w8}
 use mir.Facts.{toZ-pos}
-use Rattle.c_entries.specs.EntryNumbers.{upTo, deltaNumber}
+use Rattle.c_entries_at.specs.EntryNumbers.{upTo, deltaNumber}
 
 pub up-to-two : (n : List ℕ) (x : ℕ) → length n ≡ 2 → getD n 0 0 ∷ getD n 1 0 ∷ x ∷ [] ≡ upTo n x
 up-to-two [] x e = absurd (omega (arith, e))

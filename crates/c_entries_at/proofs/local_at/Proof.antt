@@ -1,4 +1,4 @@
--- `c_entries::local_at` meets its contract: by the test of 21 and 22, then by what was read. Assumes nothing.
+-- `c_entries_at::local_at` meets its contract: by the test of 21 and 22, then by what was read. Assumes nothing.
 use mathlib.Core.Path.{refl}
 use borrow.Author.Needs.{needs}
 use lib.ListN.{drop}
@@ -6,10 +6,10 @@ use Rattle.read_entry.specs.Readers.{rawLocal}
 use Rattle.read_entry.specs.Shown.{localResult}
 use Rattle.c_boundary.specs.Status.{limitsOf}
 use Rattle.c_boundary.proofs.Calls.{call-refuses, call-answers}
-use Rattle.c_entries.specs.EntryNumbers.{ofLocalAt}
+use Rattle.c_entries_at.specs.EntryNumbers.{ofLocalAt}
 use Rattle.c_boundary.proofs.Admitted.{stops, goes-on}
-use Rattle.c_entries.proofs.local_at.Statement.{statement}
-use Rattle.c_entries.proofs.local_at.Tie as tie
+use Rattle.c_entries_at.proofs.local_at.Statement.{statement}
+use Rattle.c_entries_at.proofs.local_at.Tie as tie
 
 pub local-at-spec : {M : Type 1} → statement M
 local-at-spec =

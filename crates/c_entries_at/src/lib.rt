@@ -4,7 +4,7 @@
 // chunk there are none.
 ghost use mathlib.Core.Path.{_≡_};
 ghost use Rattle.c_boundary.specs.Status.{status, written};
-ghost use Rattle.c_entries.specs.EntryNumbers.{upTo, deltaNumber, localNumbersAt, wordAt, constantAt, upvalueAt, deltaAt, anchorAt, localAt, stringAt};
+ghost use Rattle.c_entries_at.specs.EntryNumbers.{upTo, deltaNumber, localNumbersAt, wordAt, constantAt, upvalueAt, deltaAt, anchorAt, localAt, stringAt};
 use c_boundary::limits_of;
 use c_boundary::refused;
 use c_boundary::tested;

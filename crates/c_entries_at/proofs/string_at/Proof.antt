@@ -1,4 +1,4 @@
--- `c_entries::string_at` meets its contract: by the test of 21 and 22, then by what was read. Assumes nothing.
+-- `c_entries_at::string_at` meets its contract: by the test of 21 and 22, then by what was read. Assumes nothing.
 use mathlib.Core.Path.{refl, _∙_, ap}
 use borrow.Author.Needs.{needs}
 use lib.ListN.{drop}
@@ -6,10 +6,10 @@ use Rattle.format.specs.ReadFields.{string}
 use Rattle.read_field.specs.Shown.{stringResult}
 use Rattle.c_boundary.specs.Status.{limitsOf}
 use Rattle.c_boundary.proofs.Calls.{call-refuses, call-answers}
-use Rattle.c_entries.specs.EntryNumbers.{upTo, ofStringAt}
+use Rattle.c_entries_at.specs.EntryNumbers.{upTo, ofStringAt}
 use Rattle.c_boundary.proofs.Admitted.{stops, goes-on}
-use Rattle.c_entries.proofs.string_at.Statement.{statement}
-use Rattle.c_entries.proofs.string_at.Tie as tie
+use Rattle.c_entries_at.proofs.string_at.Statement.{statement}
+use Rattle.c_entries_at.proofs.string_at.Tie as tie
 
 pub string-at-spec : {M : Type 1} → statement M
 string-at-spec =
