@@ -1,6 +1,6 @@
 -- DEMAND 2, the calls behind C (crates/lafzimdo/src, include/lafzimdo.h): a theorem for each, which states its whole contract and is met by the code. How to read one is said in Demand2.antt; what it means, in Promise.antt.
 --     Answered r out out′ a     of the answer a: the number that is returned, 0 or the refusal, and what then stands in the array out that the caller lends: the answer's numbers, or on a refusal what stood there before
--- a is that of the Rattle call in Demand2.antt (`shown..`), in numbers (`of..`, crates/lafzimdo/specs/Answers.antt), or of a part at a place (crates/c_parts/specs/PartNumbers.antt).
+-- a is that of the Rattle call in Demand2.antt (`shown..`), in numbers (`of..`, crates/lafzimdo/specs/Answers.antt), or of a part at a place (crates/c_parts/specs/PartNumbers.antt, crates/c_entries_at/specs/EntryNumbers.antt).
 -- Compared: the static library with the kept answers (compare/kept.py) and with the Rust (compare/run).
 -- Assumes nothing.
 use mathlib.Core.Path.{_≡_}
@@ -25,7 +25,8 @@ use Rattle.c_boundary.specs.Status.{Answer, limitsOf, status, written}
 use Rattle.lafzimdo.specs.Answers.{ofSummary, ofFields, ofWord, ofConstant, ofUpvalue, ofDelta, ofAnchor, ofName, ofLocal, ofIndex, ofLine, ofCopy, ofVerdict, ofCount}
 use Rattle.c_words.specs.Words.{wordNumbers, spelt, ofEncoded}
 use Rattle.c_findings.specs.FindingNumbers.{ofFindings, numbersWritten}
-use Rattle.c_parts.specs.PartNumbers.{headAt, tailAt, wordAt, constantAt, upvalueAt, deltaAt, anchorAt, localAt, stringAt}
+use Rattle.c_parts.specs.PartNumbers.{headAt, tailAt}
+use Rattle.c_entries_at.specs.EntryNumbers.{wordAt, constantAt, upvalueAt, deltaAt, anchorAt, localAt, stringAt}
 use Rattle.lafzimdo.proofs.summary.lafzimdo_summary as summary-call
 use Rattle.lafzimdo.proofs.function.lafzimdo_function as function-call
 use Rattle.lafzimdo.proofs.entry.lafzimdo_instruction as instruction-call

@@ -28,8 +28,10 @@ use Rattle.read_nth.specs.Shown.{upvalueResult}
 use Rattle.read_prototype.specs.Parts as parts
 use Rattle.read_prototype.specs.PartsShown.{headResult, tailResult}
 use Rattle.c_boundary.specs.Status.{limitsOf, Answer, refuses}
-use Rattle.c_parts.specs.PartNumbers.{ofHead, ofTail, ofWordAt, ofConstantAt, ofUpvalueAt, ofDeltaAt, ofAnchorAt, ofLocalAt, ofStringAt}
-use Rattle.c_parts.specs.PartNumbers.{headAt, tailAt, wordAt, constantAt, upvalueAt, deltaAt, anchorAt, localAt, stringAt}
+use Rattle.c_parts.specs.PartNumbers.{ofHead, ofTail}
+use Rattle.c_entries_at.specs.EntryNumbers.{ofWordAt, ofConstantAt, ofUpvalueAt, ofDeltaAt, ofAnchorAt, ofLocalAt, ofStringAt}
+use Rattle.c_parts.specs.PartNumbers.{headAt, tailAt}
+use Rattle.c_entries_at.specs.EntryNumbers.{wordAt, constantAt, upvalueAt, deltaAt, anchorAt, localAt, stringAt}
 use Rattle.demands.proofs.Refused.{alone, unless, first, byReader}
 use Rattle.demands.proofs.ByC.{inAnswer, InC, law}
 

@@ -1,4 +1,4 @@
--- The calls at a place (crates/c_parts/specs/PartNumbers.antt) show a chunk that is read. For function k of its reading, p:
+-- The calls at a place (crates/c_parts/specs/PartNumbers.antt, crates/c_entries_at/specs/EntryNumbers.antt) show a chunk that is read. For function k of its reading, p:
 --     head      at `start`, `head_at` shows p's source as it is spelt, its lines, its three bytes, and count and place of its words, constants, upvalues and nested functions
 --     source    the source as it is spelt: absent where p's is that of its parent (main, which has none before it, has its own or none); one that is spelt stands in p, behind its start (`own`)
 --     tail      behind the functions that nest in p (`lastEnd`: at the end of the last one; where there is none, where they would begin), `tail_at` shows count and place of its deltas, anchors, locals and names, and p's end
@@ -43,7 +43,8 @@ use Rattle.read_prototype.specs.Parts.{head, tail}
 use Rattle.read_prototype.specs.PartsShown.{headResult, tailResult}
 use Rattle.c_boundary.specs.Status.{limitsOf, Answer, done, refuses, complement, admitted}
 use Rattle.c_entries.specs.EntryNumbers.{presentNumber, placeNumber, lengthNumber, stringNumbers, constantNumbers}
-use Rattle.c_parts.specs.PartNumbers.{upTo, localNumbersAt, ofHead, ofTail, ofWordAt, ofConstantAt, ofUpvalueAt, ofDeltaAt, ofAnchorAt, ofLocalAt, ofStringAt, headAt, tailAt, wordAt, constantAt, upvalueAt, deltaAt, anchorAt, localAt, stringAt}
+use Rattle.c_parts.specs.PartNumbers.{ofHead, ofTail, headAt, tailAt}
+use Rattle.c_entries_at.specs.EntryNumbers.{upTo, localNumbersAt, ofWordAt, ofConstantAt, ofUpvalueAt, ofDeltaAt, ofAnchorAt, ofLocalAt, ofStringAt, wordAt, constantAt, upvalueAt, deltaAt, anchorAt, localAt, stringAt}
 use Rattle.demands.proofs.Calls as calls
 use Rattle.demands.proofs.SpeltHere.{Behind, head-behind}
 use Rattle.demands.proofs.Nested.{lastEnd, Parted, all-parted}
@@ -104,7 +105,7 @@ tailInNumbers p =
 abbrev pub Numbered : {A : Type 0} → (A → List ℕ) → A → Answer → Type 0
 Numbered numbers x a = a ≡ done (upTo (numbers x) (behind a))
 
--- a local variable, with its name as it is spelt: an absent one reads as `?`, at the place behind it. (Whether a `?` was spelt is not said here; crates/c_parts/proofs/Cases.antt has one of each)
+-- a local variable, with its name as it is spelt: an absent one reads as `?`, at the place behind it. (Whether a `?` was spelt is not said here; crates/c_entries_at/proofs/Cases.antt has one of each)
 pub record LocalNumbered (l : LocalVar) (a : Answer) : Type 0 where
   pub spelt : Option LuaString
   pub after-name : ℕ

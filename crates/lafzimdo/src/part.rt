@@ -1,16 +1,17 @@
-// Parts at a place: each tests 21 and 22 first, takes no pass over the chunk, and costs what its part costs. What each answers is in specs/PartNumbers.antt of crate c_parts.
+// Parts at a place: each tests 21 and 22 first, takes no pass over the chunk, and costs what its part costs. What each answers is in specs/ of crates c_parts and c_entries_at.
 ghost use mathlib.Core.Path.{_≡_};
 ghost use Rattle.c_boundary.specs.Status.{status, written};
-ghost use Rattle.c_parts.specs.PartNumbers.{headAt, tailAt, wordAt, constantAt, upvalueAt, deltaAt, anchorAt, localAt, stringAt};
-use c_parts::entry::anchor_at;
-use c_parts::entry::constant_at;
-use c_parts::entry::delta_at;
-use c_parts::entry::local_at;
-use c_parts::entry::string_at;
-use c_parts::entry::upvalue_at;
-use c_parts::entry::word_at;
-use c_parts::function::head_at;
-use c_parts::function::tail_at;
+ghost use Rattle.c_entries_at.specs.EntryNumbers.{wordAt, constantAt, upvalueAt, deltaAt, anchorAt, localAt, stringAt};
+ghost use Rattle.c_parts.specs.PartNumbers.{headAt, tailAt};
+use c_entries_at::anchor_at;
+use c_entries_at::constant_at;
+use c_entries_at::delta_at;
+use c_entries_at::local_at;
+use c_entries_at::string_at;
+use c_entries_at::upvalue_at;
+use c_entries_at::word_at;
+use c_parts::head_at;
+use c_parts::tail_at;
 
 // The function that begins there, up to the functions that nest in it. Ruled out: the fields of the function around it, an array that is touched where the answer is a refusal.
 #[no_mangle]

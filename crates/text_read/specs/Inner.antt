@@ -1,4 +1,3 @@
 pub mod Hex
-pub mod Lines
 pub mod Numbers
 pub mod Tokens

@@ -2,7 +2,7 @@
 ghost use Prim.Native.Nat.{_+_, _*_, _≤_, _<_};
 ghost use lib.ListN.{length};
 ghost use Rattle.text_read.specs.Inner.Hex.{Fitting};
-use crate::number::digit;
+use crate::number::pair;
 
 // How many bytes were read, or none: the word spells no bytes, or more than there is room for.
 pub enum Length {
@@ -39,15 +39,11 @@ fn pairs(word: &[u8], n: usize, space: &mut [u8]) -> Length
 {
     let mut i = 0;
     while i < n {
-        let high = digit(word[i * 2]);
-        let low = digit(word[i * 2 + 1]);
-        if 15 < high {
+        let byte = pair(word[i * 2], word[i * 2 + 1]);
+        if 255 < byte {
             return Length::None;
         }
-        if 15 < low {
-            return Length::None;
-        }
-        space[i] = high * 16 + low;
+        space[i] = byte as u8;
         i += 1;
     }
     Length::Value(n)

@@ -1,7 +1,5 @@
-// Requests as text: the lines of standard input, their words and numbers.
+// What a line of a request spells: its words, numbers and bytes.
 pub mod hex;
-pub mod line;
-pub mod list;
 mod number;
 pub mod spelt;
 pub mod token;

@@ -27,6 +27,19 @@ pub fn digit(b: u8) -> u8
     255
 }
 
+// The byte that two digits spell, and 256 where one of them is none.
+pub fn pair(high: u8, low: u8) -> u64 {
+    let high = digit(high);
+    if 15 < high {
+        return 256;
+    }
+    let low = digit(low);
+    if 15 < low {
+        return 256;
+    }
+    (high * 16 + low) as u64
+}
+
 // The number that s spells in base, where it is at most `most`. Zeros in front are free.
 pub fn unsigned(s: &[u8], base: u64, most: u64) -> Number
     requires { ⌜ (0 < base) × (base ≤ most) ⌝ }

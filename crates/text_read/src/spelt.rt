@@ -1,9 +1,8 @@
 // The numbers of a line, from a place on: decimal; `x` and hexadecimal digits stand for a number for each byte; behind `=` stand those that are wanted.
-use crate::list;
-use crate::list::Numbers;
-use crate::number::digit;
+use crate::number::pair;
 use crate::token;
 use crate::token::NumberAt;
+use text_list::Numbers;
 
 // How far the line is read, how many numbers stand before the `=`, and how many there are in all. Where there is no `=`, or a word spells none, `from` is more than any list has.
 pub struct Spelt {
@@ -13,7 +12,7 @@ pub struct Spelt {
 }
 
 // No list is so long.
-pub const BAD: usize = list::ROOM + 1;
+pub const BAD: usize = text_list::ROOM + 1;
 
 // Reads the numbers of a line, from `start` on, into `want`: in each turn a word or a space.
 pub fn numbers(line: &[u8], start: usize, want: &mut Numbers) -> Spelt {
@@ -57,7 +56,7 @@ fn word(line: &[u8], want: &mut Numbers, s: Spelt) -> Spelt {
     let number = token::unsigned(line, at, u64::MAX);
     match number {
         NumberAt::Value(n, next) => {
-            let to = list::push(want, s.to, n);
+            let to = text_list::push(want, s.to, n);
             Spelt {
                 at: next,
                 from: s.from,
@@ -91,15 +90,11 @@ fn pairs(line: &[u8], start: usize, want: &mut Numbers, s: Spelt) -> Spelt {
         if line.len() - at < 2 {
             return bad(line);
         }
-        let high = digit(line[at]);
-        let low = digit(line[at + 1]);
-        if 15 < high {
+        let byte = pair(line[at], line[at + 1]);
+        if 255 < byte {
             return bad(line);
         }
-        if 15 < low {
-            return bad(line);
-        }
-        to = list::push(want, to, list::wide(high * 16 + low));
+        to = text_list::push(want, to, byte);
         at += 2;
     }
     Spelt {

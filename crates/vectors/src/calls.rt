@@ -1,8 +1,6 @@
-// The exported calls on a chunk as a whole and on a function, their answers as numbers: what a call returns, and where that is 0 its array. A string stands as its length and its bytes,
-// since the Rust shows no place.
+// The exported calls on a chunk as a whole and on a function, their answers as numbers (crate vectors_answer).
 use crate::entries;
 use crate::lent;
-use crate::records;
 use crate::words;
 use lafzimdo::function::lafzimdo_function;
 use lafzimdo::function::lafzimdo_line;
@@ -10,89 +8,45 @@ use lafzimdo::summary::lafzimdo_summary;
 use lafzimdo::whole::lafzimdo_copy_length;
 use lafzimdo::whole::lafzimdo_finding_count;
 use lafzimdo::whole::lafzimdo_verdict;
-use text_read::list;
-use text_read::list::Numbers;
-
-// What is returned, and where that is 0 the number behind it.
-pub fn one(got: &mut Numbers, at: usize, status: u64, a: u64) -> usize {
-    let at = list::push(got, at, status);
-    if status == 0 {
-        return list::push(got, at, a);
-    }
-    at
-}
-
-// The same with two numbers.
-pub fn two(got: &mut Numbers, at: usize, status: u64, a: u64, b: u64) -> usize {
-    let at = one(got, at, status, a);
-    if status == 0 {
-        return list::push(got, at, b);
-    }
-    at
-}
-
-// The same with three numbers.
-pub fn three(got: &mut Numbers, at: usize, status: u64, a: u64, b: u64, c: u64) -> usize {
-    let at = two(got, at, status, a, b);
-    if status == 0 {
-        return list::push(got, at, c);
-    }
-    at
-}
-
-// A string: its length, then its bytes, which are taken from the chunk.
-pub fn string(got: &mut Numbers, at: usize, chunk: &[u8], place: u64, len: u64) -> usize {
-    let at = list::push(got, at, len);
-    list::bytes(got, at, chunk, place as usize, len as usize)
-}
+use text_list::Numbers;
+use vectors_answer::answer;
+use vectors_answer::answer::one;
 
 fn summary(chunk: &[u8], limits: &[u64; 9], got: &mut Numbers) -> usize {
     let mut out = [0u64; 14];
     let status = lafzimdo_summary(chunk, limits, &mut out);
-    summary_numbers(chunk, status, &out, got)
-}
-
-// The array, and the trailing bytes.
-fn summary_numbers(chunk: &[u8], status: u64, out: &[u64; 14], got: &mut Numbers) -> usize {
-    let at = list::push(got, 0, status);
-    if status != 0 {
-        return at;
-    }
-    let at = list::longs(got, at, out, 0, 14);
-    list::bytes(got, at, chunk, out[8] as usize, out[9] as usize)
+    answer::summary(got, chunk, status, &out)
 }
 
 // The verdict and the number of findings.
 fn totals(chunk: &[u8], limits: &[u64; 9], got: &mut Numbers) -> usize {
+    let at = verdict(chunk, limits, got);
+    finding_count(chunk, limits, got, at)
+}
+
+fn verdict(chunk: &[u8], limits: &[u64; 9], got: &mut Numbers) -> usize {
     let mut out = [0u64; 1];
     let status = lafzimdo_verdict(chunk, limits, &mut out);
-    let at = one(got, 0, status, out[0]);
+    one(got, 0, status, &out)
+}
+
+fn finding_count(chunk: &[u8], limits: &[u64; 9], got: &mut Numbers, at: usize) -> usize {
+    let mut out = [0u64; 1];
     let status = lafzimdo_finding_count(chunk, limits, &mut out);
-    one(got, at, status, out[0])
+    one(got, at, status, &out)
 }
 
 // The length of the copy.
 fn measure(chunk: &[u8], limits: &[u64; 9], got: &mut Numbers) -> usize {
     let mut out = [0u64; 1];
     let status = lafzimdo_copy_length(chunk, limits, &mut out);
-    one(got, 0, status, out[0])
+    one(got, 0, status, &out)
 }
 
 fn function(chunk: &[u8], limits: &[u64; 9], f: usize, got: &mut Numbers) -> usize {
     let mut out = [0u64; 18];
     let status = lafzimdo_function(chunk, limits, f, &mut out);
-    function_numbers(chunk, status, &out, got)
-}
-
-// The array, with the bytes of the source.
-fn function_numbers(chunk: &[u8], status: u64, out: &[u64; 18], got: &mut Numbers) -> usize {
-    let at = list::push(got, 0, status);
-    if status != 0 {
-        return at;
-    }
-    let at = list::longs(got, at, out, 0, 3);
-    let at = string(got, at, chunk, out[3], out[4]);
-    list::longs(got, at, out, 5, 13)
+    answer::function(got, chunk, status, &out)
 }
 
 fn line(
@@ -105,7 +59,7 @@ fn line(
 ) -> usize {
     let mut out = [0u64; 1];
     let status = lafzimdo_line(chunk, limits, f, pc, &mut out);
-    one(got, at, status, out[0])
+    one(got, at, status, &out)
 }
 
 // The lines of `count` instructions, from one on.
@@ -140,23 +94,50 @@ fn far_lines(chunk: &[u8], limits: &[u64; 9], f: usize, got: &mut Numbers) -> us
 
 // What a letter asks, with its arguments: how many numbers the answer has, more than any has where the letter means no call.
 pub fn ask(kind: u8, chunk: &[u8], limits: &[u64; 9], args: &Numbers, got: &mut Numbers) -> usize {
-    let a = args[0] as usize;
-    let b = args[1] as usize;
-    let c = args[2] as usize;
     match kind {
         b's' => summary(chunk, limits, got),
         b't' => totals(chunk, limits, got),
         b'm' => measure(chunk, limits, got),
-        b'f' => function(chunk, limits, a, got),
+        b'g' => vectors_records::findings(chunk, limits, got),
+        _ => ask_word(kind, chunk, limits, args, got),
+    }
+}
+
+// The letters that are about an instruction word.
+fn ask_word(kind: u8, chunk: &[u8], limits: &[u64; 9], args: &Numbers, got: &mut Numbers) -> usize {
+    match kind {
+        b'w' => words::decode(args, got),
+        b'e' => words::encode(args, got),
+        _ => ask_range(kind, chunk, limits, args, got),
+    }
+}
+
+// The letters with two or three arguments.
+fn ask_range(
+    kind: u8,
+    chunk: &[u8],
+    limits: &[u64; 9],
+    args: &Numbers,
+    got: &mut Numbers,
+) -> usize {
+    let a = args[0] as usize;
+    let b = args[1] as usize;
+    let c = args[2] as usize;
+    match kind {
         b'p' => lines(chunk, limits, a, b, c, got),
-        b'o' => far_lines(chunk, limits, a, got),
         b'l' => lent::locals(chunk, limits, a, b, got),
         b'c' => lent::copy(chunk, limits, a, b, c, got),
         b'r' => lent::index(chunk, limits, a, b, c, got),
         b'v' => lent::findings(chunk, limits, a, b, c, got),
-        b'g' => records::findings(chunk, limits, got),
-        b'w' => words::decode(args, got),
-        b'e' => words::encode(args, got),
-        _ => entries::entries(kind, chunk, limits, a, got),
+        _ => ask_function(kind, chunk, limits, a, got),
+    }
+}
+
+// The letters with a function.
+fn ask_function(kind: u8, chunk: &[u8], limits: &[u64; 9], f: usize, got: &mut Numbers) -> usize {
+    match kind {
+        b'f' => function(chunk, limits, f, got),
+        b'o' => far_lines(chunk, limits, f, got),
+        _ => entries::entries(kind, chunk, limits, f, got),
     }
 }

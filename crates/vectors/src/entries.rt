@@ -1,17 +1,19 @@
 // The entries of a function's lists, from the first up to the refusal behind the last.
-use crate::calls::one;
-use crate::calls::string;
-use crate::calls::three;
-use crate::calls::two;
 use lafzimdo::entry::lafzimdo_anchor;
 use lafzimdo::entry::lafzimdo_constant;
 use lafzimdo::entry::lafzimdo_delta;
 use lafzimdo::entry::lafzimdo_instruction;
 use lafzimdo::entry::lafzimdo_upvalue;
 use lafzimdo::entry::lafzimdo_upvalue_name;
-use text_read::list;
-use text_read::list::Numbers;
-use text_read::spelt::BAD;
+use text_list::Numbers;
+use text_list::ROOM;
+use vectors_answer::answer;
+use vectors_answer::answer::one;
+use vectors_answer::answer::three;
+use vectors_answer::answer::two;
+
+// No list is so long.
+const BAD: usize = ROOM + 1;
 
 fn instruction(
     chunk: &[u8],
@@ -23,7 +25,7 @@ fn instruction(
 ) -> usize {
     let mut out = [0u64; 1];
     let status = lafzimdo_instruction(chunk, limits, f, e, &mut out);
-    one(got, at, status, out[0])
+    one(got, at, status, &out)
 }
 
 fn constant(
@@ -36,14 +38,7 @@ fn constant(
 ) -> usize {
     let mut out = [0u64; 3];
     let status = lafzimdo_constant(chunk, limits, f, e, &mut out);
-    let at = one(got, at, status, out[0]);
-    if status != 0 {
-        return at;
-    }
-    if out[0] % 16 == 4 {
-        return string(got, at, chunk, out[1], out[2]);
-    }
-    list::push(got, at, out[1])
+    answer::constant(got, at, chunk, status, &out)
 }
 
 fn upvalue(
@@ -56,7 +51,7 @@ fn upvalue(
 ) -> usize {
     let mut out = [0u64; 3];
     let status = lafzimdo_upvalue(chunk, limits, f, e, &mut out);
-    three(got, at, status, out[0], out[1], out[2])
+    three(got, at, status, &out)
 }
 
 fn delta(
@@ -69,7 +64,7 @@ fn delta(
 ) -> usize {
     let mut out = [0u64; 1];
     let status = lafzimdo_delta(chunk, limits, f, e, &mut out);
-    one(got, at, status, out[0])
+    one(got, at, status, &out)
 }
 
 fn anchor(
@@ -82,7 +77,7 @@ fn anchor(
 ) -> usize {
     let mut out = [0u64; 2];
     let status = lafzimdo_anchor(chunk, limits, f, e, &mut out);
-    two(got, at, status, out[0], out[1])
+    two(got, at, status, &out)
 }
 
 fn name(
@@ -95,11 +90,7 @@ fn name(
 ) -> usize {
     let mut out = [0u64; 3];
     let status = lafzimdo_upvalue_name(chunk, limits, f, e, &mut out);
-    let at = one(got, at, status, out[0]);
-    if status != 0 {
-        return at;
-    }
-    string(got, at, chunk, out[1], out[2])
+    answer::name(got, at, chunk, status, &out)
 }
 
 // One entry of the list that a letter means.
@@ -127,13 +118,13 @@ fn entry(
 pub fn entries(kind: u8, chunk: &[u8], limits: &[u64; 9], f: usize, got: &mut Numbers) -> usize {
     let mut at = 0;
     let mut e = 0;
-    while e < list::ROOM {
+    while e < ROOM {
         let start = at;
         at = entry(kind, chunk, limits, f, e, got, start);
-        if at >= list::ROOM {
+        if at >= ROOM {
             return at;
         }
-        if start >= list::ROOM {
+        if start >= ROOM {
             return at;
         }
         if got[start] != 0 {

@@ -1,13 +1,14 @@
 // The calls that write into lent memory. What is lent is the front of 65,536 places, each 165 before the call; behind the answer stand some of the places, and how many were written.
-use crate::calls::one;
-use crate::calls::three;
-use crate::calls::two;
 use lafzimdo::finding::lafzimdo_findings;
 use lafzimdo::space::lafzimdo_copy;
 use lafzimdo::space::lafzimdo_index;
 use lafzimdo::space::lafzimdo_local;
-use text_read::list;
-use text_read::list::Numbers;
+use text_list::Numbers;
+use text_list::ROOM;
+use vectors_answer::answer::one;
+use vectors_answer::answer::three;
+use vectors_answer::answer::two;
+use vectors_answer::lent as shown;
 
 // The archive copy, written into `lent` bytes; then `count` places from `from` on, and how many were written.
 pub fn copy(
@@ -18,10 +19,9 @@ pub fn copy(
     count: usize,
     got: &mut Numbers,
 ) -> usize {
-    let mut memory = [165u8; list::ROOM];
+    let mut memory = [165u8; ROOM];
     let at = copy_in(chunk, limits, &mut memory, lent, got);
-    let at = list::bytes(got, at, &memory, from, count);
-    list::push(got, at, list::written_bytes(&memory, lent))
+    shown::bytes(got, at, &memory, lent, from, count)
 }
 
 fn copy_in(
@@ -32,11 +32,11 @@ fn copy_in(
     got: &mut Numbers,
 ) -> usize {
     if memory.len() < lent {
-        return list::ROOM;
+        return ROOM;
     }
     let mut out = [0u64; 1];
     let status = lafzimdo_copy(chunk, limits, &mut memory[..lent], &mut out);
-    one(got, 0, status, out[0])
+    one(got, 0, status, &out)
 }
 
 // The index, in the same way, written into `lent` numbers of 32 bits.
@@ -48,10 +48,9 @@ pub fn index(
     count: usize,
     got: &mut Numbers,
 ) -> usize {
-    let mut memory = [165u32; list::ROOM];
+    let mut memory = [165u32; ROOM];
     let at = index_in(chunk, limits, &mut memory, lent, got);
-    let at = list::words(got, at, &memory, from, count);
-    list::push(got, at, list::written_words(&memory, lent))
+    shown::words(got, at, &memory, lent, from, count)
 }
 
 fn index_in(
@@ -62,11 +61,11 @@ fn index_in(
     got: &mut Numbers,
 ) -> usize {
     if memory.len() < lent {
-        return list::ROOM;
+        return ROOM;
     }
     let mut out = [0u64; 1];
     let status = lafzimdo_index(chunk, limits, &mut memory[..lent], &mut out);
-    one(got, 0, status, out[0])
+    one(got, 0, status, &out)
 }
 
 // The findings, in the same way, written into `lent` numbers of 64 bits.
@@ -78,10 +77,9 @@ pub fn findings(
     count: usize,
     got: &mut Numbers,
 ) -> usize {
-    let mut memory = [165u64; list::ROOM];
+    let mut memory = [165u64; ROOM];
     let at = findings_in(chunk, limits, &mut memory, lent, got);
-    let at = list::longs(got, at, &memory, from, count);
-    list::push(got, at, list::written_longs(&memory, lent))
+    shown::longs(got, at, &memory, lent, from, count)
 }
 
 fn findings_in(
@@ -92,11 +90,11 @@ fn findings_in(
     got: &mut Numbers,
 ) -> usize {
     if memory.len() < lent {
-        return list::ROOM;
+        return ROOM;
     }
     let mut out = [0u64; 2];
     let status = lafzimdo_findings(chunk, limits, &mut memory[..lent], &mut out);
-    two(got, 0, status, out[0], out[1])
+    two(got, 0, status, &out)
 }
 
 fn local(
@@ -108,9 +106,8 @@ fn local(
     got: &mut Numbers,
     at: usize,
 ) -> usize {
-    let mut memory = [165u8; list::ROOM];
-    let at = local_in(chunk, limits, f, e, &mut memory, lent, got, at);
-    list::push(got, at, list::written_bytes(&memory, lent))
+    let mut memory = [165u8; ROOM];
+    local_in(chunk, limits, f, e, &mut memory, lent, got, at)
 }
 
 fn local_in(
@@ -124,22 +121,22 @@ fn local_in(
     at: usize,
 ) -> usize {
     if memory.len() < lent {
-        return list::ROOM;
+        return ROOM;
     }
     let mut out = [0u64; 3];
     let status = lafzimdo_local(chunk, limits, f, e, &mut memory[..lent], &mut out);
-    let at = three(got, at, status, out[0], out[1], out[2]);
-    list::bytes(got, at, memory, 0, out[0] as usize)
+    let at = three(got, at, status, &out);
+    shown::bytes(got, at, memory, lent, 0, out[0] as usize)
 }
 
 // The local variables of a function, from the first up to a refusal that is not for want of memory.
 pub fn locals(chunk: &[u8], limits: &[u64; 9], f: usize, lent: usize, got: &mut Numbers) -> usize {
     let mut at = 0;
     let mut e = 0;
-    while e < list::ROOM {
+    while e < ROOM {
         let start = at;
         at = local(chunk, limits, f, e, lent, got, start);
-        if start >= list::ROOM {
+        if start >= ROOM {
             return at;
         }
         let status = got[start];

@@ -1,44 +1,18 @@
 // Instruction words.
-use crate::calls::one;
 use lafzimdo::word::lafzimdo_decode;
 use lafzimdo::word::lafzimdo_encode;
-use text_read::list;
-use text_read::list::Numbers;
-
-// An argument, and its low bits.
-fn argument(f: &Numbers, i: usize) -> u64 {
-    if i < list::ROOM {
-        return f[i];
-    }
-    0
-}
-
-fn byte(f: &Numbers, i: usize) -> u8 {
-    (argument(f, i) % 256) as u8
-}
-
-fn low(f: &Numbers, i: usize) -> u32 {
-    (argument(f, i) % 4294967296) as u32
-}
-
-fn low_signed(f: &Numbers, i: usize) -> i32 {
-    signed(argument(f, i))
-}
-
-fn signed(x: u64) -> i32 {
-    let n = x % 4294967296;
-    if n < 2147483648 {
-        return n as i32;
-    }
-    -1 - (4294967295 - n) as i32
-}
+use text_list::Numbers;
+use vectors_answer::answer::array;
+use vectors_answer::answer::one;
+use vectors_answer::argument::byte;
+use vectors_answer::argument::low;
+use vectors_answer::argument::low_signed;
 
 // The fields of a word.
 pub fn decode(f: &Numbers, got: &mut Numbers) -> usize {
     let mut out = [0u64; 12];
     let status = lafzimdo_decode(low(f, 0), &mut out);
-    let at = list::push(got, 0, status);
-    list::longs(got, at, &out, 0, 12)
+    array(got, 0, status, &out)
 }
 
 // The word that fields make.
@@ -56,5 +30,5 @@ pub fn encode(f: &Numbers, got: &mut Numbers) -> usize {
         low_signed(f, 8),
         &mut out,
     );
-    one(got, 0, status, out[0])
+    one(got, 0, status, &out)
 }

@@ -2,7 +2,7 @@
 use mathlib.Core.Path.{_≡_, refl, _∙_}
 use borrow.Author.Needs.{needs}
 use lib.ListN.{length}
-use Rattle.text_read.specs.Inner.Lines.{Held}
+use Rattle.text_line.specs.Inner.Lines.{Held}
 use Rattle.vectors.proofs.respond_all.Statement.{statement}
 use Rattle.vectors.proofs.respond_all.Tie as tie
 
