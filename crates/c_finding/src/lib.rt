@@ -1,12 +1,24 @@
-// One finding as four numbers, stored into a list that is lent: what crate `c_findings` writes for each finding of a chunk.
+// A verdict as a number; one finding as four numbers, stored into a list that is lent: what crate `c_findings` writes for each finding of a chunk.
 ghost use mathlib.Core.Path.{_≡_};
 ghost use Prim.Native.Nat.{_+_, _≤_};
 ghost use lib.ListN.{length};
 ghost use Rattle.slice.specs.Inner.Splice.{splice};
-ghost use Rattle.c_finding.specs.FindingNumbers.{ruleNumber, offendingNumber, findingNumbers};
+ghost use Rattle.c_finding.specs.FindingNumbers.{verdictNumber, ruleNumber, offendingNumber, findingNumbers};
 use c_boundary::signed::complement_of;
 use validate_rules::finding::Finding;
 use validate_rules::finding::Rule;
+use validate_rules::finding::Verdict;
+
+// The number of a verdict, for C.
+pub fn verdict_number(v: Verdict) -> u64
+    ensures { λ r. ⌜ r ≡ verdictNumber v ⌝ }
+{
+    match v {
+        Verdict::ValidForAnalysis => 0,
+        Verdict::Invalid => 1,
+        Verdict::Incomplete => 2,
+    }
+}
 
 // Rules are numbered from 1, in the order of `Rule`.
 fn rule_number(rule: Rule) -> u64

@@ -1,5 +1,4 @@
 -- The findings of a chunk as numbers in a lent list, four each.
---     verdictNumber v          of a verdict
 --     listNumbers              of findings, one behind the other
 --     ofFindings               the verdict, and how many findings there are
 --     numbersWritten old o     what then stands in the list that held `old`
@@ -8,22 +7,15 @@ use Prim.Native.Nat.{ℕ}
 use Rattle.format.specs.ReadChunk.{Outcome, shown, refusal}
 use Rattle.slice.specs.Over.{over}
 use Rattle.validate_rules.specs.declared.finding.Finding.{Finding}
-use Rattle.validate_rules.specs.declared.finding.Verdict.{Verdict}
-use Rattle.validate_rules.specs.declared.finding.Verdict.the-variants.{ValidForAnalysis, Invalid, Incomplete}
 use Rattle.validate_rules.specs.Findings.{chunkFindings}
 use Rattle.validate_plan.specs.declared.FindingsAnswer.{FindingsAnswer}
 use Rattle.validate_plan.specs.declared.FindingsAnswer.the-variants as answer
 use Rattle.c_boundary.specs.Status.{Answer, done, refuses}
-use Rattle.c_finding.specs.FindingNumbers.{findingNumbers}
+use Rattle.c_finding.specs.FindingNumbers.{verdictNumber, findingNumbers}
 
 unfoldable pub listNumbers : List Finding → List ℕ
 listNumbers [] = []
 listNumbers (f ∷ fs) = findingNumbers f ++ listNumbers fs
-
-abbrev pub verdictNumber : Verdict → ℕ
-verdictNumber ValidForAnalysis = 0
-verdictNumber Invalid = 1
-verdictNumber Incomplete = 2
 
 abbrev pub ofFindings : FindingsAnswer → Answer
 ofFindings (answer.Ok v n) = done (verdictNumber v ∷ n ∷ [])

@@ -9,28 +9,17 @@ ghost use Rattle.validate_rules.specs.Findings.{MAX-DIAGNOSTICS};
 ghost use Rattle.validate_search.specs.Inner.Position.{outOf};
 ghost use Rattle.validate_plan.specs.Validated.{shownFindings};
 ghost use Rattle.c_boundary.specs.Status.{limitsOf, status, written};
-ghost use Rattle.c_findings.specs.FindingNumbers.{verdictNumber, listNumbers, ofFindings, numbersWritten};
+ghost use Rattle.c_findings.specs.FindingNumbers.{listNumbers, ofFindings, numbersWritten};
 use c_boundary::limits_of;
 use c_boundary::refused;
 use c_boundary::two;
 use c_finding::put_finding;
+use c_finding::verdict_number;
 use format::limits::ResourceLimits;
 use validate_plan::FindingsAnswer;
 use validate_plan::forward;
 use validate_plan::prepare;
-use validate_rules::finding::Verdict;
 use validate_search::search::Position;
-
-// The number of a verdict, for C.
-pub fn verdict_number(v: Verdict) -> u64
-    ensures { λ r. ⌜ r ≡ verdictNumber v ⌝ }
-{
-    match v {
-        Verdict::ValidForAnalysis => 0,
-        Verdict::Invalid => 1,
-        Verdict::Incomplete => 2,
-    }
-}
 
 // The first `count` findings from a position on, at the front of the list.
 fn write_findings(

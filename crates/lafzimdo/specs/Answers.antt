@@ -30,7 +30,7 @@ use Rattle.validate_verdict.specs.declared.verdict.CountAnswer.{CountAnswer}
 use Rattle.validate_verdict.specs.declared.verdict.CountAnswer.the-variants as count
 use Rattle.c_boundary.specs.Status.{Answer, done, refuses, complement}
 use Rattle.c_entries.specs.EntryNumbers.{stringNumbers, constantNumbers, upvalueNumbers, anchorNumbers, localNumbers}
-use Rattle.c_findings.specs.FindingNumbers.{verdictNumber}
+use Rattle.c_finding.specs.FindingNumbers.{verdictNumber}
 use Rattle.c_numbers.specs.Numbers.{summaryNumbers, fieldsNumbers}
 
 abbrev pub ofSummary : SummaryAnswer → Answer

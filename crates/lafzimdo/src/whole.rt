@@ -8,7 +8,7 @@ ghost use Rattle.lafzimdo.specs.Answers.{ofCopy, ofVerdict, ofCount};
 use c_boundary::limits_of;
 use c_boundary::one;
 use c_boundary::refused;
-use c_findings::verdict_number;
+use c_finding::verdict_number;
 use copy::copy_length;
 use copy::whole::CopyAnswer;
 use validate_verdict::verdict::CountAnswer;

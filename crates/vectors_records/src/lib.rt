@@ -2,7 +2,7 @@
 use c_boundary::limits_of;
 use c_boundary::refused;
 use c_boundary::signed::complement_of;
-use c_findings::verdict_number;
+use c_finding::verdict_number;
 use text_list::Numbers;
 use validate_findings::array::chunk_findings;
 use validate_plan::FindingsAnswer;
