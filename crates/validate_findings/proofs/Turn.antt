@@ -1,4 +1,4 @@
--- The numbers of a turn of the loop that writes findings: sums and places that stay in range. Assumes nothing.
+-- The numbers of a turn of the writer's loop: the place i, below the count of the findings, in a list of n records of 32 bytes.
 --     none-yet     no place is below 0
 --     any          there is a place, so the count is not 0
 --     goes-on      the next place is a number of 64 bits
