@@ -1,0 +1,5 @@
+pub mod Sums
+pub mod PaddedFirst
+pub mod SpellingLaws
+pub mod Few
+pub mod SpellingCases
