@@ -38,9 +38,12 @@ pub few-none : {A : Type 0} {F : Form A} → Few (tally.none {F = F})
 unfolding tally.none
 few-none = record { few = λ at bytes x d. record { padded = omega arith; filled = omega arith; sources = omega arith } }
 
+either-one : (b : Bool) {m n : ℕ} → m ≤ 1 → n ≤ 1 → cond b m n ≤ 1
+either-one true h k = h
+either-one false h k = k
+
 at-most-one : (b : Bool) → cond b 1 0 ≤ 1
-at-most-one true = omega arith
-at-most-one false = omega arith
+at-most-one b = either-one b (omega arith) (omega arith)
 
 pub few-number : Few tally.number
 unfolding tally.number
@@ -91,13 +94,9 @@ filling-small : (t : Option LuaString) → Small (filling t)
 filling-small option.none = record { padded = refl; filled = omega arith; sources = omega arith }
 filling-small (option.some t) = record { padded = refl; filled = omega arith; sources = omega arith }
 
-none-or-one : (b : Bool) → cond b 0 1 ≤ 1
-none-or-one true = omega arith
-none-or-one false = omega arith
-
 dropping-small : (w : Where) (t : Option LuaString) → Small (dropping w t)
 dropping-small w option.none = record { padded = refl; filled = omega arith; sources = omega arith }
-dropping-small w (option.some t) = record { padded = refl; filled = omega arith; sources = none-or-one (eqb (w .number) 0) }
+dropping-small w (option.some t) = record { padded = refl; filled = omega arith; sources = either-one (eqb (w .number) 0) (omega arith) (omega arith) }
 
 few-besides : (limit : ℕ) (f : Option LuaString → Spelling) → ((t : Option LuaString) → Small (f t)) → Few (tally.besides (tally.string limit) f)
 unfolding tally.besides tally.string tally.both tally.none tally.number
