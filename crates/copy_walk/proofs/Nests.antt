@@ -19,7 +19,7 @@ use Rattle.format.specs.GrammarChunk.{inherit, Where, after}
 use Rattle.format.specs.Read.{Reader}
 use Rattle.format.specs.ReadChunk.{forest, function}
 use Rattle.format.specs.Copy.{optionBytes, behindSource, nest}
-use Rattle.format.proofs.CopyFunctions.{inherit-none}
+use Rattle.format.proofs.Sources.{inherit-none}
 use Rattle.format.proofs.Exact.{Exact, exact-atMost}
 use Rattle.format.proofs.ExactChunk.{exact-forest}
 use Rattle.format.proofs.Located.{AtPlace, at-give, at-here, at-then, at-refuse}

@@ -40,8 +40,8 @@ use Rattle.format.specs.Shortest.{shortest}
 use Rattle.format.specs.Copy.{copy}
 use Rattle.format.proofs.ShortestLaws.{shortest-least}
 use Rattle.format.proofs.WiderChunk.{main-wider, above, above-left, above-right}
-use Rattle.format.proofs.CopyChunk.{copy-belongs, copy-same, copy-below}
-use Rattle.format.proofs.CopyChunk as copies
+use Rattle.format_copy.proofs.CopyChunk.{copy-belongs, copy-same, copy-below}
+use Rattle.format_copy.proofs.CopyChunk as copies
 use Rattle.format.proofs.ReadChunkLaws.{read-sound, read-within, read-complete, chunk-unique}
 use Rattle.c_boundary.specs.Status.{limitsOf}
 use Rattle.read_chunk.specs.declared.summary.Summary.{Summary}

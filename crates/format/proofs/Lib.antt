@@ -27,10 +27,5 @@ pub mod Build
 pub mod FieldBytes
 pub mod Wider
 pub mod WiderChunk
-pub mod Copies
-pub mod CopyEntries
-pub mod CopyForest
-pub mod CopyFunctions
+pub mod Sources
 pub mod KeptCopy
-pub mod CopyMain
-pub mod CopyChunk

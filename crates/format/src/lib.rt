@@ -3,3 +3,4 @@ pub mod entry;
 pub mod header;
 pub mod limits;
 pub mod refusal;
+pub mod spelling;

@@ -25,8 +25,7 @@ use Rattle.format.specs.GrammarHeader.{Headed, Header, headerOf, formatWarnings
 use Rattle.format.specs.Reading.{ConstantValue, nil, boolean, integer, float, short-string, long-string, LocalVar, Prototype, Reading}
 use Rattle.format.specs.GrammarChunk.{Counted, CountedUpTo, Always, Constant, Anchor, Local, inherit, Where, after, within, Forest, Body, Function, Loaded, outermost, Main, Chunk}
 use Rattle.format_lua.specs.LundumpFunctions.{LoadSize, LoadInt, Content, LoadStringN, NotNull, LoadString, LoadCounted, LoadConstant, LoadAbsLineInfo, LoadVarName, LoadLocVar, LoadProtos, LoadFunction, CheckHeader, Undump}
-use Rattle.format.proofs.Below.{below-split}
-use Rattle.format.proofs.Copies.{parts}
+use Rattle.format.proofs.Below.{below-split, parts}
 use Rattle.format.proofs.Every.{Any, any, every-run, every-many, All, all-any, all-split}
 use Rattle.format.proofs.Wider.{opened, grouped}
 use Rattle.format_lua.proofs.WiderIf.{WiderIf, seen-as, learnt, unasked, none-if}

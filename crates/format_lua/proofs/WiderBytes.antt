@@ -13,7 +13,7 @@ use Prim.Native.Nat.{ℕ, zero, suc}
 use native.Mathlib.Nat.{add-zero}
 use Rattle.format.specs.Form.{Bytes, Below, Form, Then, Is, Here, Given, When, Many}
 use Rattle.format.proofs.Build.{skip}
-use Rattle.format.proofs.Copies.{parts}
+use Rattle.format.proofs.Below.{parts}
 use Rattle.format.proofs.Every.{Every, All}
 use Rattle.format.proofs.Wider.{Wider}
 use Rattle.format_lua.proofs.WiderIf.{WiderIf, seen-as, ends, learns, tested, knows, untested}

@@ -8,12 +8,14 @@ use mathlib.Core.List.{List, [], _∷_, _++_, append-nil, map, foldr, flatten, f
 use mathlib.Core.Option.{Option}
 use Prim.Native.Nat.{ℕ, zero, suc, _+_}
 use lib.ListN.{length, length-map}
 use Rattle.format.specs.Form.{Bytes, Form}
 use Rattle.format.specs.GrammarFields.{LuaString}
 use Rattle.format.specs.Reading.{Prototype}
 use Rattle.format.specs.GrammarChunk.{instructionsOf, Where, after, within, Forest}
 use Rattle.format.specs.Copy.{nest, keptNested}
-use Rattle.format.proofs.Copies.{Copies, then-copies, is-copies}
+use Rattle.format_spelling.specs.Spelling.{Tally}
+use Rattle.format_spelling.specs.Spelling as tally
+use Rattle.format_copy.proofs.Copies.{Copies, then-copies, is-copies}
 
 -- one function: its bytes are what the copy makes of it and all that nest in it, whatever follows them
 pub record Once (ps ps′ : List Prototype) (b : Bytes) : Type 0 where
@@ -55,7 +57,7 @@ around-within w v s t n m e a = record {
   parent = a .number;
 }
 
-each-cons : (n : ℕ) (ps ps′ more more′ : List Prototype) (b c : Bytes) → Once ps ps′ b → Each n more more′ c → Each (suc n) (ps ++ more) (ps′ ++ more′) (b ++ (c ++ []))
+pub each-cons : (n : ℕ) (ps ps′ more more′ : List Prototype) (b c : Bytes) → Once ps ps′ b → Each n more more′ c → Each (suc n) (ps ++ more) (ps′ ++ more′) (b ++ (c ++ []))
 unfolding flatten
 each-cons n ps ps′ more more′ b c r q = record {
   pieces = b ∷ q .pieces;
@@ -65,8 +67,8 @@ each-cons n ps ps′ more more′ b c r q = record {
   stack = λ later. foldr-append nest later ps more ∙ ap (λ l. foldr nest l ps) (q .stack later) ∙ r .stack (q .pieces ++ later);
 }
 
-pub forest-copies : {F : Where → Form (List Prototype)} (n : ℕ) (w v : Where) → Around w v → ((w v : Where) → Around w v → Copies (F w) (F v) Once) → Copies (Forest n F w) (Forest n F v) (Each n)
-unfolding flatten
+pub forest-copies : {F : Where → Form (List Prototype)} {p : (w : Where) → Tally (F w)} (n : ℕ) (w v : Where) → Around w v → ((w v : Where) → Around w v → Copies (F w) (F v) (p v) Once) → Copies (Forest n F w) (Forest n F v) (tally.forest n p v) (Each n)
+unfolding flatten tally.forest
 forest-copies zero w v a one = is-copies (record { pieces = []; joined = refl; count = refl; alike = refl; stack = λ later. refl })
 forest-copies (suc n) w v a one =
     then-copies (one w v a) λ ps ps′ b r.

@@ -12,16 +12,18 @@ use mathlib.Core.Logic.{_↔_}
 use Prim.Native.Nat.{_≤_}
 use native.Mathlib.Omega.{arith}
 use lib.ListN.{length}
 use Rattle.format.specs.declared.limits.ResourceLimits.{ResourceLimits}
 use Rattle.format.specs.Form.{Bytes, Below}
 use Rattle.format.specs.Reading.{Reading}
 use Rattle.format.specs.GrammarChunk.{Loaded, reading, Chunk}
+use Rattle.format_spelling.specs.Spelling.{same, spellingOf}
 use Rattle.format.specs.Copy.{copy, keptFunctions, kept}
 use Rattle.format.proofs.Below.{below-split, below-join}
 use Rattle.format.proofs.WiderChunk.{AtMostEach, main-wider, above, above-left, above-right}
-use Rattle.format.proofs.CopyMain.{standard, frontBytes, main-copied}
+use Rattle.format_copy.proofs.CopyMain.{standard, frontBytes, main-copied}
 use Rattle.format.proofs.KeptCopy.{kept-copy}
 use Rattle.format.proofs.ReadChunkLaws.{chunk-unique}
+use Rattle.format_spelling.proofs.SpellingLaws.{spelling-unique}
 
 -- ## Under the same limits, if they allow a string of one byte: an absent local name is written as `?`
 -- only functions and trailing bytes are kept
@@ -30,8 +32,8 @@ unfolding kept
 kept-by r q e f = rw (e, f)
 
 module _ (L : ResourceLimits) (l : 1 ≤ L .«max_string_bytes») (s : Bytes) (r : Reading) (c : Chunk L s r) (h : Below 256 s) where
-  copied : Below 256 (copy r) × ((q : Reading) × Chunk L (copy r) q × (kept q ≡ kept r))
-  unfolding copy
+  copied : Below 256 (copy r) × ((q : Reading) × (d : Chunk L (copy r) q) × (kept q ≡ kept r) × (spellingOf d ≡ same))
+  unfolding copy spellingOf
   copied =
       let k = below-split 256 (c .front) (c .trailing) (rw (c .whole) at h) in
       let z = main-copied L l (c .front) (c .value) (k .0) (c .main) in
@@ -43,11 +45,16 @@ module _ (L : ResourceLimits) (l : 1 ≤ L .«max_string_bytes») (s : Bytes) (r
           reading L m (length front) (c .trailing),
           record { front = front; trailing = c .trailing; whole = refl; value = m; main = z .main; shows = refl },
           kept-by _ _ (z .alike) refl,
+          z .tidy,
         ),
       )
 
 pub copy-belongs : (L : ResourceLimits) (s : Bytes) (r : Reading) → Chunk L s r → Below 256 s → 1 ≤ L .«max_string_bytes» → (q : Reading) × Chunk L (copy r) q × (kept q ≡ kept r)
-copy-belongs L s r c h l = copied L l s r c h .1
+copy-belongs L s r c h l = let (q, d, e, _) = copied L l s r c h .1 in (q, d, e)
+
+-- and it is spelt as a copy is, however it is read
+pub copy-tidy : (L : ResourceLimits) (s : Bytes) (r : Reading) → Chunk L s r → Below 256 s → 1 ≤ L .«max_string_bytes» → (q : Reading) (d : Chunk L (copy r) q) → spellingOf d ≡ same
+copy-tidy L s r c h l q d = let (_, e, _, none) = copied L l s r c h .1 in spelling-unique d e ∙ none
 
 -- ## Under any limits: what is read under some is read under larger ones, and in what is kept it is the same
 larger : (L N : ResourceLimits) → AtMostEach L N → (s : Bytes) (r : Reading) → Chunk L s r → (q : Reading) × Chunk N s q × (kept q ≡ kept r)

@@ -8,40 +8,43 @@ use mathlib.Core.Option.{Option, none, some, Option·map}
 use Prim.Native.Nat.{ℕ, zero, suc, _≤_}
 use lib.ListN.{length}
 use lib.Seq.{take-at, drop-at}
 use Rattle.format.specs.declared.limits.ResourceLimits.{ResourceLimits}
 use Rattle.format.specs.Form.{Bytes, Form}
 use Rattle.format.specs.GrammarFields.{LuaString, String}
 use Rattle.format.specs.Reading.{Prototype}
 use Rattle.format.specs.GrammarChunk.{inherit, Where, Body, Function, outermost}
+use Rattle.format_spelling.specs.Spelling.{Tally}
+use Rattle.format_spelling.specs.Spelling as tally
 use Rattle.format.specs.Copy.{fieldBytes, optionBytes, behindSource, nest, functionsBytes, keptFunction, keptFunctions, keptString}
-use Rattle.format.proofs.Copies.{Copies, As, then-copies, is-copies, none-copies, here-copies, given-copies, number-copies, field-copies, run-copies, many-copies, weaken}
-use Rattle.format.proofs.CopyEntries.{string-copies, absent-copies, constant-copies, upvalue-copies, anchor-copies, local-copies, field-again, as-list, counted-copies, upTo-copies, unmap}
-use Rattle.format.proofs.CopyForest.{Once, Each, Around, around-within, forest-copies}
+use Rattle.format.proofs.Sources.{inherit-none}
+use Rattle.format_copy.proofs.Copies.{Copies, As, then-copies, is-copies, none-copies, here-copies, given-copies, number-copies, field-copies, run-copies, many-copies, uncounted, weaken}
+use Rattle.format_copy.proofs.CopyEntries.{string-copies, source-copies, absent-copies, constant-copies, upvalue-copies, anchor-copies, local-copies, field-again, as-list, counted-copies, upTo-copies, unmap}
+use Rattle.format_copy.proofs.CopyForest.{Once, Each, Around, around-within, forest-copies}
 
 -- ## One function, by how its source is copied
-record Behind (R : Option LuaString → Option LuaString → Bytes → Type 0) (w v : Where) (ps ps′ : List Prototype) (b : Bytes) : Type 0 where
-  p : Prototype
-  p′ : Prototype
-  inner : List Prototype
-  inner′ : List Prototype
-  old : ps ≡ p ∷ inner
-  new : ps′ ≡ p′ ∷ inner′
-  nested : Bytes
-  each : Each (p .protos) inner inner′ nested
-  alike : (source : Option LuaString) → keptFunction source p′ ≡ keptFunction source p
-  spelt : Option LuaString
-  spelt′ : Option LuaString
-  source : p .source-name ≡ inherit spelt (w .source)
-  source′ : p′ .source-name ≡ inherit spelt′ (v .source)
-  front : Bytes
-  related : R spelt spelt′ front
-  joined : b ≡ front ++ behindSource p nested
+pub record Behind (R : Option LuaString → Option LuaString → Bytes → Type 0) (w v : Where) (ps ps′ : List Prototype) (b : Bytes) : Type 0 where
+  pub p : Prototype
+  pub p′ : Prototype
+  pub inner : List Prototype
+  pub inner′ : List Prototype
+  pub old : ps ≡ p ∷ inner
+  pub new : ps′ ≡ p′ ∷ inner′
+  pub nested : Bytes
+  pub each : Each (p .protos) inner inner′ nested
+  pub alike : (source : Option LuaString) → keptFunction source p′ ≡ keptFunction source p
+  pub spelt : Option LuaString
+  pub spelt′ : Option LuaString
+  pub source : p .source-name ≡ inherit spelt (w .source)
+  pub source′ : p′ .source-name ≡ inherit spelt′ (v .source)
+  pub front : Bytes
+  pub related : R spelt spelt′ front
+  pub joined : b ≡ front ++ behindSource p nested
 
-body-copies : (L : ResourceLimits) → 1 ≤ L .«max_string_bytes» → {F : Where → Form (List Prototype)} {R : Option LuaString → Option LuaString → Bytes → Type 0}
-    → Copies (String (L .«max_string_bytes»)) (String (L .«max_string_bytes»)) R → ((w v : Where) → Around w v → Copies (F w) (F v) Once) → (w v : Where) → Around w v
-    → Copies (Body L F w) (Body L F v) (Behind R w v)
-unfolding Body behindSource
-body-copies L l src one w v a =
+body-copies : (L : ResourceLimits) → 1 ≤ L .«max_string_bytes» → {F : Where → Form (List Prototype)} {p : (w : Where) → Tally (F w)} {R : Option LuaString → Option LuaString → Bytes → Type 0}
+    → ((w v : Where) → Around w v → Copies (F w) (F v) (p v) Once) → (w v : Where) → Copies (String (L .«max_string_bytes»)) (String (L .«max_string_bytes»)) (tally.source (L .«max_string_bytes») v) R → Around w v
+    → Copies (Body L F w) (Body L F v) (tally.body L p v) (Behind R w v)
+unfolding Body behindSource tally.body
+body-copies L l one w v src a =
     here-copies λ start start′.
     then-copies src λ spelt spelt′ front r.
     number-copies λ line-defined.
@@ -53,7 +56,7 @@ body-copies L l src one w v a =
     given-copies (λ h. h) (
     given-copies (λ h. rw (← a .instructions) h) (
     here-copies λ instructions-at instructions-at′.
-    then-copies (many-copies size (field-again 4)) λ instructions instructions′ b₁ q₁.
+    then-copies (uncounted (many-copies size (field-again 4))) λ instructions instructions′ b₁ q₁.
     then-copies (upTo-copies (constant-copies (L .«max_string_bytes»)) (L .«max_constants_per_proto»)) λ constants constants′ b₂ q₂.
     then-copies (upTo-copies upvalue-copies (L .«max_upvalues_per_proto»)) λ upvalues upvalues′ b₃ q₃.
     number-copies λ protos.
@@ -66,7 +69,7 @@ body-copies L l src one w v a =
     then-copies (counted-copies anchor-copies) λ abs-line-info abs-line-info′ b₄ q₄.
     then-copies (counted-copies (local-copies (L .«max_string_bytes») l)) λ loc-vars loc-vars′ b₅ q₅.
     then-copies (counted-copies (string-copies (L .«max_string_bytes»))) λ upvalue-names upvalue-names′ b₆ q₆.
-    here-copies λ end end′.
+    uncounted (here-copies λ end end′.
     is-copies (record {
       p = _;
       p′ = _;
@@ -93,36 +96,32 @@ body-copies L l src one w v a =
       front = _;
       related = r;
       joined = rw (as-list (fieldBytes 4) size instructions b₁ _ (q₁ .0) (q₁ .2), append-nil, q₂ .bytes-are, q₃ .bytes-are, q₄ .bytes-are, q₅ .bytes-are, q₆ .bytes-are, h);
-    }))))
+    })))))
 
 -- ## Nested functions: the source is absent
 nest-each : (p : Prototype) (ps ps′ : List Prototype) (b : Bytes) (later : List Bytes) → Each (p .protos) ps ps′ b → foldr nest later (p ∷ ps) ≡ (optionBytes none ++ behindSource p b) ∷ later
 nest-each p ps ps′ b later e =
     rw (e .stack later, take-at (e .pieces) later (p .protos) (e .count), drop-at (e .pieces) later (p .protos) (e .count), ← e .joined)
 
-once : (w v : Where) (ps ps′ : List Prototype) (b : Bytes) → Behind (λ t t′ b. b ≡ optionBytes none) w v ps ps′ b → Once ps ps′ b
+pub once : (w v : Where) (ps ps′ : List Prototype) (b : Bytes) → Behind (λ t t′ b. b ≡ optionBytes none) w v ps ps′ b → Once ps ps′ b
 once w v ps ps′ b s = record {
   alike = rw (s .new, s .old) (ap₂ _∷_ (s .alike none) (s .each .alike));
   stack = λ later. rw (s .old, s .joined, s .related) (nest-each (s .p) (s .inner) (s .inner′) (s .nested) later (s .each));
 }
 
 module _ (L : ResourceLimits) (l : 1 ≤ L .«max_string_bytes») where
-  function-copies : (left : ℕ) (w v : Where) → Around w v → Copies (Function L left w) (Function L left v) Once
-  unfolding Function
-  function-copies zero w v a = weaken (once w v) (body-copies L l (absent-copies _) (λ w v a. none-copies) w v a)
+  function-copies : (left : ℕ) (w v : Where) → Around w v → Copies (Function L left w) (Function L left v) (tally.function L left v) Once
+  unfolding Function tally.function
+  function-copies zero w v a = weaken (once w v) (body-copies L l (λ w v a. none-copies) w v (absent-copies _ v) a)
   function-copies (suc left) w v a =
-      weaken (once w v) (body-copies L l (absent-copies _) (λ w v a. given-copies (λ h. rw (← a .number) h) (function-copies left w v a)) w v a)
+      weaken (once w v) (body-copies L l (λ w v a. given-copies (λ h. rw (← a .number) h) (function-copies left w v a)) w v (absent-copies _ v) a)
 
 -- ## Main: its source is kept
-pub inherit-none : (t : Option LuaString) → inherit t none ≡ t
-inherit-none none = refl
-inherit-none (some t) = refl
-
 pub record Whole (ps ps′ : List Prototype) (b : Bytes) : Type 0 where
   pub alike : keptFunctions ps′ ≡ keptFunctions ps
   pub joined : b ≡ functionsBytes ps
 
-whole : (ps ps′ : List Prototype) (b : Bytes) → Behind (As optionBytes (Option·map keptString)) outermost outermost ps ps′ b → Whole ps ps′ b
+pub whole : (ps ps′ : List Prototype) (b : Bytes) → Behind (As optionBytes (Option·map keptString)) outermost outermost ps ps′ b → Whole ps ps′ b
 whole ps ps′ b s =
     let source : s .p .source-name ≡ s .spelt = s .source ∙ inherit-none (s .spelt) in
     let source′ : s .p′ .source-name ≡ s .spelt′ = s .source′ ∙ inherit-none (s .spelt′) in
@@ -136,8 +135,8 @@ around-main : Around outermost outermost
 around-main = record { number = refl; instructions = refl; depth = refl; parent = refl }
 
 module _ (L : ResourceLimits) (l : 1 ≤ L .«max_string_bytes») where
-  pub function-whole : (left : ℕ) → Copies (Function L left outermost) (Function L left outermost) Whole
-  unfolding Function
-  function-whole zero = weaken whole (body-copies L l (string-copies _) (λ w v a. none-copies) outermost outermost around-main)
+  pub function-whole : (left : ℕ) → Copies (Function L left outermost) (Function L left outermost) (tally.function L left outermost) Whole
+  unfolding Function tally.function
+  function-whole zero = weaken whole (body-copies L l (λ w v a. none-copies) outermost outermost (source-copies _) around-main)
   function-whole (suc left) =
-      weaken whole (body-copies L l (string-copies _) (λ w v a. given-copies (λ h. rw (← a .number) h) (function-copies L l left w v a)) outermost outermost around-main)
+      weaken whole (body-copies L l (λ w v a. given-copies (λ h. rw (← a .number) h) (function-copies L l left w v a)) outermost outermost (source-copies _) around-main)

@@ -1,0 +1,10 @@
+pub mod BuiltSpelling
+pub mod Copies
+pub mod CopyEntries
+pub mod CopyForest
+pub mod CopyFunctions
+pub mod CopyMain
+pub mod CopyChunk
+pub mod Own
+pub mod OwnChunk
+pub mod PlainCopy

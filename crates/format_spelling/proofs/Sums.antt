@@ -1,0 +1,15 @@
+-- Spellings joined.
+-- Assumes nothing.
+use mathlib.Core.Path.{_≡_}
+use native.Mathlib.Nat.{add-zero, zero-add, add-assoc}
+use Rattle.format.specs.declared.spelling.Spelling.{Spelling}
+use Rattle.format_spelling.specs.Spelling.{same, _⊕_}
+
+pub join-same : (a : Spelling) → a ⊕ same ≡ a
+join-same a = rw (add-zero (a .padded), add-zero (a .filled), add-zero (a .sources))
+
+pub same-join : (a : Spelling) → same ⊕ a ≡ a
+same-join a = rw (zero-add (a .padded), zero-add (a .filled), zero-add (a .sources))
+
+pub join-assoc : (a b c : Spelling) → a ⊕ b ⊕ c ≡ a ⊕ (b ⊕ c)
+join-assoc a b c = rw (add-assoc (a .padded) (b .padded) (c .padded), add-assoc (a .filled) (b .filled) (c .filled), add-assoc (a .sources) (b .sources) (c .sources))
