@@ -2,4 +2,6 @@ pub mod Sums
 pub mod PaddedFirst
 pub mod SpellingLaws
 pub mod Few
+pub mod Covers
+pub mod Passing
 pub mod SpellingCases
