@@ -25,12 +25,12 @@ pub between-join : {a b : Spelling} {at mid to : ℕ} → Between a at mid → B
 between-join x y = record { padded = omega (arith, x .padded, y .padded); filled = omega (arith, x .filled, y .filled); sources = omega (arith, x .sources, y .sources) }
 
 pub record Covers {A : Type 0} (r : Reader A) (c : Count) : Type 0 where
-  pub covers : {at : ℕ} {s : Bytes} {x : A} {to : ℕ} {rest : Bytes} → r at s ≡ ok x to rest → Between (c at s) at to
+  pub covers : (at : ℕ) (s : Bytes) {x : A} {to : ℕ} {rest : Bytes} → r at s ≡ ok x to rest → Between (c at s) at to
 
 pub covers-few : {A : Type 0} {r : Reader A} {F : Form A} {c : Count} {p : Tally F} → Exact r F → Tells c p → Few p → Covers r c
 covers-few exact tells few = record {
-  covers = λ e.
-      let b = bounded exact tells few e in
+  covers = λ at s e.
+      let b = bounded exact tells few {at = at} {s = s} e in
       let k = b .2 in
       record { padded = omega (arith, b .1, k .padded); filled = omega (arith, b .1, k .filled); sources = omega (arith, b .1, k .sources) };
 }
@@ -46,20 +46,20 @@ covers-number exact = covers-few exact (tells-last tells-number) (few-both few-n
 -- one reader behind another
 module _ {A B : Type 0} {r : Reader A} {c : Count} {f : A → Reader B} {d : A → Count} (one : Covers r c) (two : (x : A) → Covers (f x) (d x)) where
   pub covers-then : Covers (r >>= f) (plus r c d)
-  covers-then = record { covers = λ {at} {s} e. by (r at s) refl e }
+  covers-then = record { covers = λ at s e. by at s (r at s) refl e }
     where
-      by : {at : ℕ} {s : Bytes} {y : B} {to : ℕ} {rest : Bytes} (o : Read A) → r at s ≡ o → next o f ≡ ok y to rest → Between (c at s ⊕ behind o d) at to
-      by (ok x mid t) is e = between-join (one .covers is) (two x .covers e)
-      by (refused q) is e = absurd (never e)
+      by : (at : ℕ) (s : Bytes) {y : B} {to : ℕ} {rest : Bytes} (o : Read A) → r at s ≡ o → next o f ≡ ok y to rest → Between (c at s ⊕ behind o d) at to
+      by at s (ok x mid t) is e = between-join (one .covers at s is) (two x .covers mid t e)
+      by at s (refused q) is e = absurd (never e)
 
 -- the same, where the second is not counted
 module _ {A B : Type 0} {r : Reader A} {c : Count} {f : A → Reader B} (one : Covers r c) (two : (x : A) → Covers (f x) none) where
   pub covers-last : Covers (r >>= f) c
-  covers-last = record { covers = λ {at} {s} e. by (r at s) refl e }
+  covers-last = record { covers = λ at s e. by at s (r at s) refl e }
     where
-      by : {at : ℕ} {s : Bytes} {y : B} {to : ℕ} {rest : Bytes} (o : Read A) → r at s ≡ o → next o f ≡ ok y to rest → Between (c at s) at to
-      by (ok x mid t) is e =
-          let a = one .covers is in
-          let b = two x .covers e in
+      by : (at : ℕ) (s : Bytes) {y : B} {to : ℕ} {rest : Bytes} (o : Read A) → r at s ≡ o → next o f ≡ ok y to rest → Between (c at s) at to
+      by at s (ok x mid t) is e =
+          let a = one .covers at s is in
+          let b = two x .covers mid t e in
           record { padded = omega (arith, a .padded, b .padded); filled = omega (arith, a .filled, b .filled); sources = omega (arith, a .sources, b .sources) }
-      by (refused q) is e = absurd (never e)
+      by at s (refused q) is e = absurd (never e)

@@ -35,7 +35,7 @@ covers-names limit = covers-few (exact-counted (exact-string limit)) (tells-coun
 pub covers-lines : Covers lines spelt.lines
 covers-lines = covers-then (covers-few exact-number tells-number few-number) λ _. covers-last (covers-few exact-number tells-number few-number) λ _. covers-none (exact-give _)
 
-covers-sizes : Covers sizes count.none
+pub covers-sizes : Covers sizes count.none
 covers-sizes = covers-last (covers-none (exact-field 1)) λ _. covers-last (covers-none (exact-field 1)) λ _. covers-last (covers-none (exact-field 1)) λ _. covers-none (exact-give _)
 
 pub covers-front : (limit : ℕ) → Covers (front limit) (spelt.front limit)
