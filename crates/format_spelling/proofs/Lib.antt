@@ -3,4 +3,6 @@ pub mod PaddedFirst
 pub mod SpellingLaws
 pub mod Few
 pub mod PaddedCases
+pub mod Covers
+pub mod Passing
 pub mod SpellingCases

@@ -13,3 +13,7 @@ same-join a = rw (zero-add (a .padded), zero-add (a .filled), zero-add (a .sourc
 
 pub join-assoc : (a b c : Spelling) → a ⊕ b ⊕ c ≡ a ⊕ (b ⊕ c)
 join-assoc a b c = rw (add-assoc (a .padded) (b .padded) (c .padded), add-assoc (a .filled) (b .filled) (c .filled), add-assoc (a .sources) (b .sources) (c .sources))
+
+-- by each sort
+pub spelling-path : (a b : Spelling) → a .padded ≡ b .padded → a .filled ≡ b .filled → a .sources ≡ b .sources → a ≡ b
+spelling-path a b p q r = λ i. record { padded = p i; filled = q i; sources = r i }

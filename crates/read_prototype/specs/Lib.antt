@@ -1,4 +1,5 @@
 pub mod Front
 pub mod Parts
 pub mod PartsShown
+pub mod PartsSpelt
 pub mod Inner

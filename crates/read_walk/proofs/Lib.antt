@@ -4,3 +4,4 @@ pub mod OneFunction
 pub mod Passes
 pub mod SoFar
 pub mod Main
+pub mod Spelt
