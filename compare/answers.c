@@ -216,13 +216,13 @@ static void whole(void) {
     static const char *const names[] = {"", "HEADER-003", "CHUNK-001"};
     uint64_t s[OUT];
     fill();
-    if (!answered(lafzimdo_summary(chunk, len, limits, out), 14)) return;
+    if (!answered(lafzimdo_summary(chunk, len, limits, out), LAFZIMDO_SUMMARY_NUMBERS)) return;
     memcpy(s, out, sizeof out);
     printf("header %02" PRIx64 " %02" PRIx64 " %" PRIu64 " %" PRIu64 " %" PRIu64 " %" PRIu64 " 22136 %016" PRIx64 "\n", s[0], s[1], s[2], s[3], s[4], s[5], s[6]);
     printf("warnings %d\n", (s[10] != 0) + (s[12] != 0));
     if (s[10]) printf("warning %s %" PRIu64 "\n", names[s[10]], s[11]);
     if (s[12]) printf("warning %s %" PRIu64 "\n", names[s[12]], s[13]);
-    printf("functions %" PRIu64 "\ntrailing %" PRIu64 " ", s[7], s[8]);
+    printf("functions %" PRIu64 "\npadded %" PRIu64 "\ntrailing %" PRIu64 " ", s[7], s[14], s[8]);
     if (s[9]) hex(chunk + s[8], s[9]);
     else printf("-");
     printf("\n");

@@ -70,7 +70,7 @@ class Library:
     # ---- One call each
 
     def summary(self):
-        numbers = self.on_chunk("summary", 14)
+        numbers = self.on_chunk("summary", 15)
         return numbers if numbers[0] else [*numbers, *self.bytes[numbers[9]:numbers[9] + numbers[10]]]
 
     def totals(self):

@@ -64,7 +64,7 @@ GIVEN |= {field: "0" for field in "word op a k b c bx sbx ax sj".split()}
 
 def arguments(call, parameters):
     """What a call is given, by its parameters' names; memory that is lent is followed by its length."""
-    split = [re.fullmatch(r"(.*?)(\w+)(\[\d+\])?", p.strip()).groups() for p in parameters.split(",")]
+    split = [re.fullmatch(r"(.*?)(\w+)(\[\w+\])?", p.strip()).groups() for p in parameters.split(",")]
     for (kind, name, _), (_, behind, _) in zip(split, split[1:] + [(None, None, None)]):
         if name in GIVEN:
             yield GIVEN[name]
@@ -91,7 +91,7 @@ def build():
     runs, rows = [], []
     for call, parameters in declared().items():
         runs.append(f"static uint64_t run_{call}(void) {{ return {call}({', '.join(arguments(call, parameters))}); }}\n")
-        names = re.findall(r"\w+(?=\s*(?:\[\d+\])?\s*(?:,|$))", parameters)
+        names = re.findall(r"\w+(?=\s*(?:\[\w+\])?\s*(?:,|$))", parameters)
         takes = [bool({"function"} & set(names)), bool({"entry", "pc"} & set(names)), "place" in names]
         rows.append(f'    {{"{call}", run_{call}, {", ".join(str(int(t)) for t in takes)}}},\n')
     (out / "stack_calls.h").write_text("".join(runs) + "static const struct call calls[] = {\n" + "".join(rows) + "};\n")

@@ -28,12 +28,14 @@ PROMISES = {
     'demand 2': ['demands/Demand2', 'demands/Demand2C', 'demands/Promise', 'format_lua/LundumpBack:as-loaded read-is-loaded', 'format_lua/LdumpWhole:copy-as-dumped copy-as-stripped',
                  'word_fields/Macros', 'word_fields/Created', 'word_opcodes/Opcodes', 'line_lookup/Ldebug:same-line'],
     'demand 3': ['demands/Demand3', 'demands/ShownAt:shown-at', 'demands/Same:header-fixed same-exactly', 'demands/Complete'],
+    'request 1': ['demands/Request01'],
 }
 # the table of docs/PROOF.md: what a group of files says, and the files; what is reached and named nowhere here comes last
 GROUPS = [
     ('the grammar of a chunk under limits, and the reading; no reader in it', 'format/specs: Form GrammarFields GrammarHeader Reading GrammarChunk Limits'),
     ("the Rust's reader as a function, with every refusal and place", 'format/specs: Read ReadFields ReadHeader ReadChunk Refusals Warnings'),
     ('the archive copy', 'format/specs: Shortest Copy'),
+    ('how a chunk is spelt, counted along the grammar; the same along the reader, for contracts', 'format_spelling/specs: Spelling ReadSpelling'),
     ('what each call on a chunk answers, and leaves in lent memory', 'show_row/specs: Asked; show_chunk/specs: Summaries Fields; show_entry/specs: Entries; show_local/specs: Locals; index/specs: Index; copy/specs: Copied; slice/specs: Over'),
     ("how the code's values show places, strings, constants, warnings", 'slice/specs: Shown; read_field/specs: Shown; read_header/specs: Shown; read_entry/specs: Shown; read_nth/specs: Shown; read_chunk/specs: Decoded'),
     ('the line of an instruction', 'line_lookup/specs: Lines'),
@@ -44,7 +46,7 @@ GROUPS = [
     ("Lua's own loader, dumper and line lookup, close to the C", 'format_lua/specs: Lundump LundumpFunctions Ldump LdumpFunctions; line_lookup/specs: Ldebug; format_lua/proofs: LundumpParts LundumpChunk LundumpBack LdumpChunk LdumpWhole; format/proofs: Every'),
     ("words of demand 1's statements: a call's conditions in order; what a refusal is about", 'demands/proofs: Refused Causes InOrder Early Order AtOneByte CutShort Continued ByLimits Exactly Accepted ByC RefusedAt PartsInOrder Printed Demand1; format/proofs: RefusalNumbers'),
     ("words of demand 2's statements: a whole contract", 'demands/proofs: Promise Demand2 Demand2C'),
-    ("words of demand 3's statements: what is shown, what is set aside", 'demands/proofs: Demand3 Calls Written Same Alike Together Complete ShownAt SpeltHere EntriesAt Nested; format/proofs: Located OrderCases; read_nth/proofs: Strings'),
+    ("words of demand 3's and request 1's statements: what is shown, what is set aside", 'demands/proofs: Request01 Demand3 Calls Written Same Alike Together Complete ShownAt SpeltHere EntriesAt Nested; format/proofs: Located OrderCases; read_nth/proofs: Strings'),
 ]
 WORD = re.compile(r'[^\s(){};,\[\]]+')
 HEAD = re.compile(r'^( *)(abbrev |unfoldable )?(pub )?(record |data )?(\S+)')

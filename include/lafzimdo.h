@@ -4,7 +4,7 @@
  * memory that is lent beside it. It returns 0, or a refusal as one number, and then `out` and lent memory are as they were. What each call promises is its contract in crates/lafzimdo/src.
  * A pointer must be good for the length that goes with it and must not be null, also where the length is 0; `out` and lent memory must overlap nothing else.
  * A negative number stands in `out` as its two's complement: cast it to int64_t.
- * Stack: a call takes at most 496 bytes for each level of nesting (448 where it copies), of which there are at most 200, and 101 kB in all. Measured by compare/stack.py, not proved.
+ * Stack: a call takes at most 496 bytes for each level of nesting (464 where it copies), of which there are at most 200, and 102 kB in all. Measured by compare/stack.py, not proved.
  */
 #ifndef LAFZIMDO_H
 #define LAFZIMDO_H
@@ -25,9 +25,13 @@ extern "C" {
  * upvalues of a prototype, bytes of a string, diagnostics. Above a ceiling is refusal 21. */
 #define LAFZIMDO_CEILINGS {16777216, 200, 16777216, 16777216, 16777216, 16777216, 16777216, 16777216, 10000}
 
+/* How many numbers a summary has. It has grown (before: 14), so that an array of 14 would be overrun: declare it by this name. */
+#define LAFZIMDO_SUMMARY_NUMBERS 15
+
 /* version, format, instruction size, integer size, size_t size, number size, the test number's bits; functions; place and length of the trailing bytes;
- * code and place of the first warning, code and place of the second (0: none, 1: L54-HEADER-003, 2: L54-CHUNK-001) */
-uint64_t lafzimdo_summary(const uint8_t *chunk, size_t len, const uint64_t limits[9], uint64_t out[14]);
+ * code and place of the first warning, code and place of the second (0: none, 1: L54-HEADER-003, 2: L54-CHUNK-001);
+ * how many of the chunk's numbers, string sizes and counts among them, are padded: not in their shortest form */
+uint64_t lafzimdo_summary(const uint8_t *chunk, size_t len, const uint64_t limits[9], uint64_t out[LAFZIMDO_SUMMARY_NUMBERS]);
 
 /* depth, parent; whether there is a source, its place, its length; first line, last line; parameters, vararg, stack; how many instructions, constants,
  * upvalues, nested functions, deltas, anchors, locals, upvalue names */

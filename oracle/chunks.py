@@ -6,7 +6,7 @@ import sys
 
 sys.dont_write_bytecode = True
 
-from kept import bounds, copies, damage, fields, lines, nesting, overflow, real, stops, synthetic, validation
+from kept import bounds, copies, damage, fields, lines, nesting, overflow, padded, real, stops, synthetic, validation
 from kept.ask import Requests
 
 GROUPS = (
@@ -14,7 +14,7 @@ GROUPS = (
     fields.numbers_in_turn, fields.others_in_turn, fields.header, fields.number_values, fields.tags, fields.constants,
     bounds.at_each, bounds.ceilings, bounds.input_lengths, bounds.counts, bounds.strings,
     nesting.depths, nesting.totals, nesting.first_of_two, nesting.totals_of_code, overflow.overflow,
-    copies.names, copies.sources, copies.header_bytes, copies.lengths,
+    copies.names, copies.sources, copies.header_bytes, copies.lengths, padded.smallest, padded.every_kind, padded.values,
     lines.worked, lines.anchors, lines.as_many, lines.marks, lines.huge, lines.functions, lines.pcs,
     validation.stacks, validation.opcodes, validation.indices, validation.both, validation.jumps, validation.families, stops.kept, stops.verdicts,
     damage.every_byte,

@@ -36,7 +36,7 @@ macro_rules! calls {
 }
 
 calls! {
-    SUMMARY: Whole, 14, lafzimdo_summary;
+    SUMMARY: Whole, 15, lafzimdo_summary;
     COPY_LENGTH: Whole, 1, lafzimdo_copy_length;
     VERDICT: Whole, 1, lafzimdo_verdict;
     FINDING_COUNT: Whole, 1, lafzimdo_finding_count;

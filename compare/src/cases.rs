@@ -4,7 +4,7 @@ use crate::case::{Case, Limits};
 use crate::chance::Chance;
 use crate::damage::hurt;
 use crate::functions_made::{long_function, tree};
-use crate::make::{number, Made, Spelling, FORMAT, LARGEST};
+use crate::make::{number, Made, Padding, Spelling, FORMAT, LARGEST};
 
 /// One in so many stands near 10,000 findings: such a case takes long.
 const STOPS: usize = 2000;
@@ -100,7 +100,9 @@ fn spelt(chance: &mut Chance, main: &Made) -> Vec<u8> {
     let format = if chance.one_in(8) { chance.byte() } else { 0 };
     let byte_31 = if chance.one_in(2) { chance.byte() } else { main.upvalues.len() as u8 };
     let trailing = if chance.one_in(6) { (0..chance.below(6)).map(|_| chance.byte()).collect() } else { Vec::new() };
-    let mut spelling = Spelling::new(if chance.one_in(5) { Some(chance) } else { None });
+    // No number is padded, or many, or few.
+    let one_in = chance.of(&[0, 0, 0, 0, 0, 0, 0, 2, 2, 12]);
+    let mut spelling = Spelling::new(if one_in > 0 { Some(Padding { chance, one_in }) } else { None });
     spelling.bytes[FORMAT] = format;
     spelling.bytes.push(byte_31);
     spelling.function(main);

@@ -33,8 +33,9 @@ pub fn check(case: &Case, lender: &mut Lender, tally: &mut Tally) -> Result<(), 
             refused_chunk(&mut asked, refusal)?;
         }
         Ok(chunk) => {
-            let judged = judge("the Rust's answers", || Judged::of(&chunk, &case.chunk, &limits))?;
+            let mut judged = judge("the Rust's answers", || Judged::of(&chunk, &case.chunk, &limits))?;
             asked.tally.read(&judged);
+            judged.summary[14] -= asked.lender.left_out(&judged.padded);
             read_chunk(&mut asked, &judged)?;
             parts_in_order(&mut asked, &judged)?;
         }

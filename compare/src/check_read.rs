@@ -1,14 +1,20 @@
-// A chunk that is read: the summary, the index, the copy, verdict and findings, and by number each function's fields, entries and lines.
+// A chunk that is read: the summary, the index, the copy and its summary, verdict and findings, and by number each function's fields, entries and lines.
 use crate::calls::*;
+use crate::case::Case;
+use crate::chance::Chance;
 use crate::check::{judge, Asked};
 use crate::difference::Difference;
-use crate::judged::{constant, Judged};
-use crate::lender::Filled;
+use crate::judged::{constant, summary, Judged};
+use crate::lender::{coded, Filled};
+use crate::limits::read;
 use crate::lines::{is_refused, pcs};
+use crate::padded::Padded;
 
 /// Each call by number passes over the chunk. Where all of them together would pass over more bytes than this, some functions and entries are drawn.
 const BYTES_PASSED: usize = 150_000;
 const FUNCTIONS_DRAWN: usize = 6;
+/// In one of so many cases the copy is read too.
+const COPIES: usize = 4;
 
 pub fn read_chunk(asked: &mut Asked, judged: &Judged) -> Result<(), Difference> {
     let functions = judged.functions.len();
@@ -31,7 +37,25 @@ pub fn read_chunk(asked: &mut Asked, judged: &Judged) -> Result<(), Difference> 
         entries(asked, judged, function, all)?;
         lines(asked, judged, function, all)?;
     }
-    no_function(asked, functions)
+    no_function(asked, functions)?;
+    if asked.chance.one_in(COPIES) {
+        copied(asked, judged)?;
+    }
+    Ok(())
+}
+
+/// The copy under the same limits: its summary, which shows no padded number, or its refusal.
+fn copied(asked: &mut Asked, judged: &Judged) -> Result<(), Difference> {
+    let case = Case { chunk: judged.copy.clone(), ..*asked.case };
+    let expected = judge("the Rust's reading of its copy", || {
+        let copy = read(&case.resource_limits(), &case.chunk).map_err(coded)?;
+        let padded = Padded::of(&case.chunk, &copy.main_proto);
+        assert_eq!(padded.sum(), 0, "padded numbers of a copy");
+        Ok(summary(&copy, &case.chunk, &padded))
+    })?;
+    asked.tally.copies += u64::from(expected.is_ok());
+    let (lender, tally) = (&mut *asked.lender, &mut *asked.tally);
+    Asked { case: &case, lender, tally, chance: Chance::new(case.ask) }.whole(&SUMMARY, expected)
 }
 
 /// Lends exactly enough, more, and too little.

@@ -1,6 +1,7 @@
 // What the Rust answers to a chunk that is read, in the numbers of include/lafzimdo.h.
 use crate::findings::{findings, judged};
 use crate::functions::{functions, Function};
+use crate::padded::Padded;
 use crate::parts::{Head, Parts, Tail, Text};
 use luad_core::diagnostic::{Severity, Verdict};
 use luad_core::limits::ResourceLimits;
@@ -11,7 +12,8 @@ pub const RULES: [&str; 7] = ["OPCODE-001", "REG-001", "CONST-001", "UPVAL-001",
 pub const VERDICTS: [&str; 3] = ["valid-for-analysis", "invalid", "incomplete"];
 
 pub struct Judged<'a> {
-    pub summary: [u64; 14],
+    pub summary: [u64; 15],
+    pub padded: Padded,
     pub functions: Vec<Function<'a>>,
     pub heads: Vec<Head>,
     pub tails: Vec<Tail>,
@@ -32,8 +34,10 @@ impl<'a> Judged<'a> {
         let (heads, tails, behind) = heads_and_tails(bytes, limits, &functions);
         let sources = sources(bytes, &functions, &heads);
         let (verdict, list) = judged(chunk);
+        let padded = Padded::of(bytes, &chunk.main_proto);
         Judged {
-            summary: summary(chunk, bytes, &functions),
+            summary: summary(chunk, bytes, &padded),
+            padded,
             heads,
             tails,
             behind,
@@ -98,13 +102,15 @@ pub fn verdict_number(verdict: Verdict) -> u64 {
     }
 }
 
-fn summary(chunk: &Chunk, bytes: &[u8], functions: &[Function]) -> [u64; 14] {
+/// The numbers of `lafzimdo_summary`.
+pub fn summary(chunk: &Chunk, bytes: &[u8], padded: &Padded) -> [u64; 15] {
     let header = &chunk.header;
+    let functions = functions(&chunk.main_proto);
     let trailing = hex::decode(chunk.trailing_bytes.as_deref().unwrap_or("")).expect("hex");
     let place = functions[0].end;
     assert_eq!(trailing, bytes[place..], "the trailing bytes are those behind main");
     assert_eq!(header.luac_int, 0x5678);
-    let mut summary = [0; 14];
+    let mut summary = [0; 15];
     let fields = [
         header.version,
         header.format,
@@ -126,6 +132,7 @@ fn summary(chunk: &Chunk, bytes: &[u8], functions: &[Function]) -> [u64; 14] {
         };
         summary[11 + 2 * i] = warning.source.as_ref().expect("each warning has a place").byte_offset as u64;
     }
+    summary[14] = padded.sum();
     summary
 }
 

@@ -1,6 +1,7 @@
 // Asks a call of the library, and holds its answer and the memory lent to it against what is expected. Lent memory is filled beforehand: behind a
 // result, and all of it on a refusal, it must be as it was.
 use crate::difference::Difference;
+use crate::padded::Padded;
 use crate::refusals::Refusal;
 
 /// The numbers of an answer, or a refusal as the library codes it.
@@ -37,6 +38,8 @@ filled!(u8, u32, u64);
 pub enum Way {
     /// A number of the answer.
     Number(usize),
+    /// Not the answer, but what is expected: the padded numbers of one kind are left out.
+    Kind(usize),
     /// The refusal's number, and its place.
     Refusal,
     Place,
@@ -118,6 +121,14 @@ impl Lender {
     /// Whether the self-test changes this.
     pub fn alters(&self, what: &str) -> bool {
         self.alteration.is_some_and(|alteration| alteration.call == what)
+    }
+
+    /// How many of the padded numbers the self-test leaves out.
+    pub fn left_out(&self, padded: &Padded) -> u64 {
+        match self.alteration {
+            Some(Alteration { way: Way::Kind(kind), .. }) => padded.by_kind[kind],
+            _ => 0,
+        }
     }
 
     /// Changes the answer as the self-test asks.

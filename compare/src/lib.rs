@@ -9,6 +9,8 @@ mod limits;
 #[path = "../../oracle/src/lines.rs"]
 #[allow(dead_code)]
 mod lines;
+#[path = "../../oracle/src/padded.rs"]
+mod padded;
 #[path = "../../oracle/src/refusals.rs"]
 #[allow(dead_code)]
 mod refusals;

@@ -38,7 +38,13 @@ pub struct Made {
 /// Writes numbers, with leading zeros now and then where padded.
 pub struct Spelling<'a> {
     pub bytes: Vec<u8>,
-    padded: Option<&'a mut Chance>,
+    padded: Option<Padding<'a>>,
+}
+
+/// One number in so many is padded.
+pub struct Padding<'a> {
+    pub chance: &'a mut Chance,
+    pub one_in: usize,
 }
 
 /// The shortest spelling.
@@ -51,13 +57,13 @@ pub fn number(bytes: &mut Vec<u8>, value: u64) {
 }
 
 impl<'a> Spelling<'a> {
-    pub fn new(padded: Option<&'a mut Chance>) -> Spelling<'a> {
+    pub fn new(padded: Option<Padding<'a>>) -> Spelling<'a> {
         Spelling { bytes: HEADER.to_vec(), padded }
     }
 
     fn number(&mut self, value: u64) {
-        if let Some(chance) = &mut self.padded {
-            let zeros = chance.of(&[0, 0, 0, 1, 1, 2, 5, 12]);
+        if let Some(Padding { chance, one_in }) = &mut self.padded {
+            let zeros = if chance.one_in(*one_in) { chance.of(&[1, 1, 2, 5, 12]) } else { 0 };
             self.bytes.resize(self.bytes.len() + zeros, 0);
         }
         number(&mut self.bytes, value);

@@ -1,9 +1,10 @@
 // That each comparison can fail: every number of every call's answer, its refusal and place, and the memory lent to it are changed in turn before they are
-// compared, and a run of cases must find each change.
+// compared, and a run of cases must find each change. So it must where padded numbers of one kind are not counted.
 use crate::calls::CHUNK_CALLS;
 use crate::cases::Cases;
 use crate::check::{check, judge, CHUNK};
 use crate::lender::{Alteration, Lender, Way};
+use crate::padded::KINDS;
 use crate::tally::Tally;
 
 /// So many cases at most until a change is found.
@@ -24,6 +25,9 @@ fn ways(call: &str, numbers: usize) -> Vec<Way> {
     }
     if call != "lafzimdo_decode" && call != "lafzimdo_encode" {
         ways.push(Way::Place);
+    }
+    if call == "lafzimdo_summary" {
+        ways.extend((0..KINDS.len()).map(Way::Kind));
     }
     if LENDING.contains(&call) {
         ways.extend([Way::FirstItem, Way::LastItem, Way::BehindItems, Way::ItemsOnRefusal]);

@@ -1,5 +1,6 @@
 // What was asked, counted: cases by refusal, verdict and rule, and the answers compared.
 use crate::judged::{Judged, RULES, VERDICTS};
+use crate::padded::KINDS;
 
 #[derive(Default)]
 pub struct Tally {
@@ -12,12 +13,17 @@ pub struct Tally {
     cases_with: [u64; 7],
     warnings: [u64; 3],
     functions: u64,
+    /// Padded numbers of each kind, and cases that have one.
+    padded: [u64; KINDS.len()],
+    cases_padded: u64,
     /// Lines that are refused with 25 and at which the Rust itself stops: its sum leaves 64 bits.
     pub stopped_lines: u64,
     pub entries: u64,
     pub lines: u64,
     pub words: u64,
     pub parts: u64,
+    /// Copies that are read.
+    pub copies: u64,
 }
 
 impl Tally {
@@ -29,6 +35,8 @@ impl Tally {
         self.verdicts[judged.verdict as usize] += 1;
         self.warnings[usize::from(judged.summary[10] != 0) + usize::from(judged.summary[12] != 0)] += 1;
         self.functions += judged.functions.len() as u64;
+        self.padded.iter_mut().zip(judged.padded.by_kind).for_each(|(sum, count)| *sum += count);
+        self.cases_padded += u64::from(judged.padded.sum() > 0);
         let mut rules = [0; 7];
         for finding in judged.findings.chunks_exact(4) {
             rules[finding[2] as usize - 1] += 1;
@@ -46,17 +54,20 @@ impl Tally {
             (&mut self.findings, &other.findings),
             (&mut self.cases_with, &other.cases_with),
             (&mut self.warnings, &other.warnings),
+            (&mut self.padded, &other.padded),
         ];
         for (sums, counts) in lists {
             sums.iter_mut().zip(counts).for_each(|(sum, count)| *sum += count);
         }
         self.cases += other.cases;
         self.functions += other.functions;
+        self.cases_padded += other.cases_padded;
         self.stopped_lines += other.stopped_lines;
         self.entries += other.entries;
         self.lines += other.lines;
         self.words += other.words;
         self.parts += other.parts;
+        self.copies += other.copies;
     }
 
     pub fn print(&self) {
@@ -77,9 +88,11 @@ impl Tally {
                 .map(|(name, (cases, all))| format!("{name}: {cases} ({all})"))
                 .collect(),
         );
+        println!("padded     cases: {}", self.cases_padded);
+        row("", KINDS.iter().zip(self.padded).map(|(kind, count)| format!("{kind}: {count}")).collect());
         println!(
-            "compared   functions: {}  entries by number: {}  parts at a place: {}  lines: {}  words: {}",
-            self.functions, self.entries, self.parts, self.lines, self.words
+            "compared   functions: {}  entries by number: {}  parts at a place: {}  lines: {}  words: {}  copies: {}",
+            self.functions, self.entries, self.parts, self.lines, self.words, self.copies
         );
     }
 }

@@ -133,7 +133,8 @@ def summary(of, functions):
     warnings = [n for name, at in of.get("warning", []) for n in (WARNINGS[name], at)]
     assert len(warnings) == 2 * int(of["warnings"][0][0])
     version_format = [int(digits, 16) for digits in bytes_[:2]]
-    return line("s", [], [0, *version_format, *bytes_[2:], int(bits, 16), functions, place, len(data(trailing)), *(warnings + [0] * 4)[:4], data(trailing)])
+    (padded,) = of["padded"][0]
+    return line("s", [], [0, *version_format, *bytes_[2:], int(bits, 16), functions, place, len(data(trailing)), *(warnings + [0] * 4)[:4], padded, data(trailing)])
 
 
 def function(answer, row, looked_up):

@@ -3,6 +3,7 @@ use crate::findings::{put_findings, put_verdict};
 use crate::functions::{functions, Function};
 use crate::limits::read;
 use crate::lines::put_line;
+use crate::padded::Padded;
 use crate::text::{put, put_str};
 use luad_core::limits::ResourceLimits;
 use luad_core::model::{Chunk, ConstantValue, LuaString, Prototype};
@@ -13,7 +14,7 @@ pub fn put_chunk(out: &mut String, limits: &ResourceLimits, bytes: &[u8]) {
         return;
     };
     let functions = functions(&chunk.main_proto);
-    put_summary(out, &chunk, &functions);
+    put_summary(out, &chunk, &functions, bytes);
     for (number, function) in functions.iter().enumerate() {
         put_function(out, number, function);
     }
@@ -46,8 +47,8 @@ fn read_or_refuse(out: &mut String, limits: &ResourceLimits, bytes: &[u8]) -> Op
     }
 }
 
-/// Header, warnings, number of functions, trailing bytes.
-fn put_summary(out: &mut String, chunk: &Chunk, functions: &[Function]) {
+/// Header, warnings, number of functions and of padded numbers, trailing bytes.
+fn put_summary(out: &mut String, chunk: &Chunk, functions: &[Function], bytes: &[u8]) {
     let header = &chunk.header;
     put!(out, "header {:02x} {:02x}", header.version, header.format);
     put!(out, " {} {}", header.instruction_size, header.lua_integer_size);
@@ -60,6 +61,7 @@ fn put_summary(out: &mut String, chunk: &Chunk, functions: &[Function]) {
         put!(out, "warning {code} {}\n", source.byte_offset);
     }
     put!(out, "functions {}\n", functions.len());
+    put!(out, "padded {}\n", Padded::of(bytes, &chunk.main_proto).sum());
     put!(out, "trailing {} {}\n", functions[0].end, chunk.trailing_bytes.as_deref().unwrap_or("-"));
 }
 

@@ -4,6 +4,7 @@ mod findings;
 mod functions;
 mod limits;
 mod lines;
+mod padded;
 mod refusals;
 mod request;
 mod text;

@@ -26,6 +26,7 @@ pub struct Chunk<'a> {
     warnings: [Option<Warning>; 2],
     functions: usize,
     trailing: (u64, u64),
+    padded: usize,
     index: OnceLock<Index>,
 }
 
@@ -34,14 +35,15 @@ impl<'a> Chunk<'a> {
     pub fn read(bytes: &'a [u8], limits: Limits) -> Result<Chunk<'a>, Refusal> {
         let input = Input { bytes, limits: limits.numbers() };
         let summary = ffi::summary(input.bytes, &input.limits)?;
-        let [version, format, isize, intsize, sizet, numsize, num, functions, place, len, warnings @ ..] = summary;
-        let [code1, place1, code2, place2] = warnings;
+        let [version, format, isize, intsize, sizet, numsize, num, functions, place, len, rest @ ..] = summary;
+        let [code1, place1, code2, place2, padded] = rest;
         Ok(Chunk {
             input,
             header: Header::of_numbers([version, format, isize, intsize, sizet, numsize, num]),
             warnings: [Warning::of_numbers(code1, place1), Warning::of_numbers(code2, place2)],
             functions: functions as usize,
             trailing: (place, len),
+            padded: padded as usize,
             index: OnceLock::new(),
         })
     }
@@ -69,6 +71,11 @@ impl<'a> Chunk<'a> {
     /// How many functions there are: one at least.
     pub fn function_count(&self) -> usize {
         self.functions
+    }
+
+    /// How many of its numbers, string sizes and counts among them, are padded: spelt with more bytes than their shortest form takes. The archive copy has none.
+    pub fn padded_numbers(&self) -> usize {
+        self.padded
     }
 
     /// The bytes behind the main function.

@@ -33,8 +33,17 @@ fn rust_type(c: &str) -> String {
     }
 }
 
-fn of_header() -> Calls {
+/// The header, with numbers in place of the names that it gives to lengths of arrays.
+fn header() -> String {
     let header = common::text("include/lafzimdo.h");
+    let names = header.lines().filter_map(|line| line.strip_prefix("#define LAFZIMDO_")?.split_once("_NUMBERS "));
+    names.fold(header.clone(), |text, (name, len)| {
+        text.replace(&format!("[LAFZIMDO_{name}_NUMBERS]"), &format!("[{len}]"))
+    })
+}
+
+fn of_header() -> Calls {
+    let header = header();
     let declarations = header.split("uint64_t lafzimdo_").skip(1);
     let calls = declarations.map(|text| {
         let (name, rest) = text.split_once('(').unwrap();
@@ -44,7 +53,7 @@ fn of_header() -> Calls {
     calls.collect()
 }
 
-/// The calls of the table, `summary lafzimdo_summary() 14;`, and those that are declared in full.
+/// The calls of the table, `summary lafzimdo_summary() 15;`, and those that are declared in full.
 fn of_ours() -> Calls {
     let source = include_str!("../src/ffi.rs");
     let (_, table) = source.split_once("\ncalls! {").unwrap();

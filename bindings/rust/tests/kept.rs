@@ -114,6 +114,7 @@ fn summary(chunk: &Chunk<'_>) -> Vec<String> {
     ];
     shown.extend(chunk.warnings().map(|warning| format!("warning {} {}", &warning.code()[4..], warning.place())));
     shown.push(format!("functions {}", chunk.function_count()));
+    shown.push(format!("padded {}", chunk.padded_numbers()));
     shown.push(format!("trailing {} {}", chunk.trailing_place(), hex(chunk.trailing_bytes())));
     shown
 }

@@ -6,7 +6,7 @@ use Rattle.read_header.specs.declared.OptionWarning.the-variants as option
 use Rattle.format.specs.declared.header.WarningCode.{WarningCode}
 use Rattle.format.specs.declared.header.WarningCode.the-variants.{L54Header003, L54Chunk001}
 use Rattle.format.specs.Warnings.{warned}
-use Rattle.read_chunk.specs.declared.summary.Summary.{Summary}
+use Rattle.show_chunk.specs.declared.summary.ChunkSummary.{ChunkSummary}
 use Rattle.show_chunk.specs.declared.fields.FunctionFields.{FunctionFields}
 use Rattle.c_entries.specs.EntryNumbers.{presentNumber, placeNumber, lengthNumber}
 
@@ -25,8 +25,9 @@ warningPlace option.None = 0
 warningPlace (option.Some w) = warned w .place
 
 -- (`luac_int` is 22,136 in every chunk that is read)
-abbrev pub summaryNumbers : Summary → List ℕ
-summaryNumbers y =
+abbrev pub summaryNumbers : ChunkSummary → List ℕ
+summaryNumbers shown =
+    let y = shown .summary in
     y .header .version
     ∷ y .header .format
     ∷ y .header .«instruction_size»
@@ -41,6 +42,7 @@ summaryNumbers y =
     ∷ warningPlace (y .warnings .first)
     ∷ warningCode (y .warnings .second)
     ∷ warningPlace (y .warnings .second)
+    ∷ shown .«padded_numbers»
     ∷ []
 
 abbrev pub fieldsNumbers : FunctionFields → List ℕ

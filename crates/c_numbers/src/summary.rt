@@ -2,8 +2,8 @@
 ghost use mathlib.Core.Path.{_≡_};
 ghost use Rattle.c_numbers.specs.Numbers.{warningCode, warningPlace, summaryNumbers};
 use format::header::Warning;
-use read_chunk::summary::Summary;
 use read_header::OptionWarning;
+use show_chunk::summary::ChunkSummary;
 
 fn warning_code(w: OptionWarning) -> u64
     ensures { λ r. ⌜ r ≡ warningCode w ⌝ }
@@ -29,10 +29,11 @@ fn warning_place(w: OptionWarning) -> u64
     }
 }
 
-// The numbers of a summary, for C.
-pub fn summary_numbers(y: Summary) -> [u64; 14]
-    ensures { λ r. ⌜ r ≡ summaryNumbers y ⌝ }
+// The numbers of a summary, for C. Ruled out: the number of functions for that of padded numbers.
+pub fn summary_numbers(shown: ChunkSummary) -> [u64; 15]
+    ensures { λ r. ⌜ r ≡ summaryNumbers shown ⌝ }
 {
+    let y = shown.summary;
     let header = y.header;
     let warnings = y.warnings;
     let first = warnings.first;
@@ -52,5 +53,6 @@ pub fn summary_numbers(y: Summary) -> [u64; 14]
         warning_place(first),
         warning_code(second),
         warning_place(second),
+        shown.padded_numbers as u64,
     ]
 }

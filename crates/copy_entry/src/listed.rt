@@ -14,7 +14,7 @@ use crate::list::copy_locals;
 use crate::list::copy_names;
 use format::refusal::Refusal;
 use read_field::field::U64Result;
-use read_field::varint::read_varint_lua54;
+use read_field::varint::read_value;
 use read_list::ListResult;
 use read_list::count_up_to;
 use read_list::listed;
@@ -38,7 +38,14 @@ pub fn copy_constants_list(
     ensures { λ r. ⌜ r .list ≡ listResult (spec.countedUpTo «max_constants» Constants (spec.constant «max_string_bytes») (cursor .at) (drop (cursor .at) (now (s .entry)))) ⌝ }
     ensures { λ r. ⌜ (Below 256 (now (s .entry)) → PutsListed (spec.constant «max_string_bytes») constantBytes (now (s .entry)) (r .list) at (now (out .entry)) (r .behind) (now (out .exit))) ⌝ }
 {
-    let read = count_up_to(s, cursor, max_constants, Refusal::Constants(cursor.at));
+    let mut unused = [0usize; 3];
+    let read = count_up_to(
+        s,
+        cursor,
+        max_constants,
+        Refusal::Constants(cursor.at),
+        &mut unused,
+    );
     match read {
         U64Result::Err(refusal) => Listed {
             list: ListResult::Err(refusal),
@@ -62,7 +69,7 @@ pub fn copy_anchors_list(s: &[u8], cursor: Cursor, out: &mut [u8], at: usize) ->
     ensures { λ r. ⌜ r .list ≡ listResult (spec.counted spec.anchor (cursor .at) (drop (cursor .at) (now (s .entry)))) ⌝ }
     ensures { λ r. ⌜ PutsListed spec.anchor anchorBytes (now (s .entry)) (r .list) at (now (out .entry)) (r .behind) (now (out .exit)) ⌝ }
 {
-    let read = read_varint_lua54(s, cursor);
+    let read = read_value(s, cursor);
     match read {
         U64Result::Err(refusal) => Listed {
             list: ListResult::Err(refusal),
@@ -92,7 +99,7 @@ pub fn copy_locals_list(
     ensures { λ r. ⌜ r .list ≡ listResult (spec.counted (spec.local «max_string_bytes») (cursor .at) (drop (cursor .at) (now (s .entry)))) ⌝ }
     ensures { λ r. ⌜ PutsListed (spec.local «max_string_bytes») localBytes (now (s .entry)) (r .list) at (now (out .entry)) (r .behind) (now (out .exit)) ⌝ }
 {
-    let read = read_varint_lua54(s, cursor);
+    let read = read_value(s, cursor);
     match read {
         U64Result::Err(refusal) => Listed {
             list: ListResult::Err(refusal),
@@ -122,7 +129,7 @@ pub fn copy_names_list(
     ensures { λ r. ⌜ r .list ≡ listResult (spec.counted (string «max_string_bytes») (cursor .at) (drop (cursor .at) (now (s .entry)))) ⌝ }
     ensures { λ r. ⌜ PutsListed (string «max_string_bytes») optionBytes (now (s .entry)) (r .list) at (now (out .entry)) (r .behind) (now (out .exit)) ⌝ }
 {
-    let read = read_varint_lua54(s, cursor);
+    let read = read_value(s, cursor);
     match read {
         U64Result::Err(refusal) => Listed {
             list: ListResult::Err(refusal),

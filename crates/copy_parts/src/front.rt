@@ -21,7 +21,7 @@ use read_field::field::read_u8;
 use read_field::string::OptionString;
 use read_field::string::StringResult;
 use read_field::string::read_string_lua54;
-use read_field::varint::read_varint_lua54;
+use read_field::varint::read_value;
 use read_prototype::front::Lines;
 use read_prototype::front::Sizes;
 use slice::cursor::Cursor;
@@ -48,7 +48,7 @@ fn copy_lines(s: &[u8], cursor: Cursor, out: &mut [u8], at: usize) -> Passed
     ensures { λ r. ⌜ r .read ≡ linesRead (linesResult (spec.lines (cursor .at) (drop (cursor .at) (now (s .entry))))) ⌝ }
     ensures { λ r. ⌜ PutsLines (linesResult (spec.lines (cursor .at) (drop (cursor .at) (now (s .entry))))) at (now (out .entry)) (r .behind) (now (out .exit)) ⌝ }
 {
-    let first = read_varint_lua54(s, cursor);
+    let first = read_value(s, cursor);
     match first {
         U64Result::Err(refusal) => Passed {
             read: CursorResult::Err(refusal),
@@ -58,7 +58,7 @@ fn copy_lines(s: &[u8], cursor: Cursor, out: &mut [u8], at: usize) -> Passed
             value: line_defined,
             next: further,
         } => {
-            let last = read_varint_lua54(s, further);
+            let last = read_value(s, further);
             match last {
                 U64Result::Err(refusal) => Passed {
                     read: CursorResult::Err(refusal),

@@ -46,12 +46,14 @@ fn copy_lists(
     ensures { λ r. ⌜ r .lists ≡ listsCounted (headListsResult (parts.headLists limits before (cursor .at) (drop (cursor .at) (now (s .entry))))) ⌝ }
     ensures { λ r. ⌜ PutsLists limits (now (s .entry)) (headListsResult (parts.headLists limits before (cursor .at) (drop (cursor .at) (now (s .entry))))) at (now (out .entry)) (r .behind) (now (out .exit)) ⌝ }
 {
+    let mut unused = [0usize; 3];
     let code = instructions_list(
         s,
         cursor,
         limits.max_instructions_per_proto,
         before,
         limits.max_total_instructions,
+        &mut unused,
     );
     match code {
         ListResult::Err(refusal) => ListsCopied {
@@ -83,7 +85,8 @@ fn copy_lists(
                     place: _,
                     next: next2,
                 } => {
-                    let u = upvalues_list(s, next2, limits.max_upvalues_per_proto);
+                    let mut unused = [0usize; 3];
+                    let u = upvalues_list(s, next2, limits.max_upvalues_per_proto, &mut unused);
                     match u {
                         ListResult::Err(refusal) => ListsCopied {
                             lists: ListCountsResult::Err(refusal),
@@ -157,7 +160,8 @@ pub fn copy_head(
                     upvalues: upvalues,
                     next: further,
                 } => {
-                    let nested = protos_count(s, further, limits.max_total_prototypes);
+                    let mut unused = [0usize; 3];
+                    let nested = protos_count(s, further, limits.max_total_prototypes, &mut unused);
                     match nested {
                         ListResult::Err(refusal) => HeadCopied {
                             begins: CountsResult::Err(refusal),

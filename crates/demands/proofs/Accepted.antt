@@ -25,6 +25,7 @@ use Rattle.format.specs.Form.{Bytes}
 use Rattle.format.specs.Reading.{Reading, Prototype, LocalVar}
 use Rattle.format.specs.ReadChunk.{Outcome, shown, refusal, read}
 use Rattle.format.specs.Copy.{copy}
+use Rattle.format_spelling.specs.ReadSpelling.{spelling}
 use Rattle.read_field.specs.Shown.{optionString}
 use Rattle.read_entry.specs.Shown.{constantValue}
 use Rattle.show_row.specs.Asked.{Asked, found, orRefuse, functionOf, entryIn, entryOf}
@@ -104,8 +105,8 @@ module _ (L : ResourceLimits) (s : Bytes) where
     whole : {B : Type 0} (answer : Outcome → B) → Accepted L s (λ r. answer (read L s) ≡ answer (shown r))
     whole answer = let a = chunk-read fine in record { reading = a .reading; is = a .is; shows = ap answer (a .is) }
 
-    pub summary : Accepted L s (λ r. shownSummary (read L s) ≡ summary-answer.Ok (summaryOf r))
-    summary = whole shownSummary
+    pub summary : Accepted L s (λ r. shownSummary (spelling L s) (read L s) ≡ summary-answer.Ok (record { summary = summaryOf r; «padded_numbers» = spelling L s .padded }))
+    summary = whole (shownSummary (spelling L s))
 
     pub trailing : Accepted L s (λ r. trailingOf (read L s) ≡ r .trailing)
     trailing = whole trailingOf

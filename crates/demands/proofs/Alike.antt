@@ -1,5 +1,5 @@
 -- When calls answer alike on two chunks, and when two readings are equal in what these calls show: the definitions of `Together.antt`.
---     AnswerAlike L s M t      on the chunk s under L and on t under M the summary, the trailing bytes, the fields, every entry of every function, a local's name as it is written into lent space, are alike;
+--     AnswerAlike L s M t      on the chunk s under L and on t under M the summary but for its count of padded numbers, the trailing bytes, the fields, every entry of every function, a local's name as it is written into lent space, are alike;
 --                              and where an answer has a string, as place and length, so is what `string_bytes` shows by that place and length (01: 'A string is shown as place, just after its size, and length, its bytes as a
 --                              part of the caller's chunk')
 --     EqualAsShown r q         the readings are equal but for what none of these calls shows: of a function its start and its end and where its lists begin; of a local variable where its name stands
@@ -13,12 +13,15 @@ use Rattle.format.specs.declared.limits.ResourceLimits.{ResourceLimits}
 use Rattle.format.specs.Form.{Bytes}
 use Rattle.format.specs.Reading.{Reading, Prototype}
 use Rattle.format.specs.ReadChunk.{read}
+use Rattle.format_spelling.specs.ReadSpelling.{spelling}
 use Rattle.read_field.specs.declared.string.StringAt.{StringAt}
 use Rattle.read_field.specs.declared.string.OptionString.{OptionString}
 use Rattle.read_field.specs.declared.string.OptionString.the-variants as option
 use Rattle.read_entry.specs.declared.constant.ConstantValue.{ConstantValue}
 use Rattle.read_entry.specs.declared.constant.ConstantValue.the-variants as constant
 use Rattle.show_row.specs.Asked.{functionOf, entryOf}
+use Rattle.show_chunk.specs.declared.summary.SummaryAnswer.{SummaryAnswer}
+use Rattle.show_chunk.specs.declared.summary.SummaryAnswer.the-variants as summary-answer
 use Rattle.show_chunk.specs.declared.fields.FieldsAnswer.{FieldsAnswer}
 use Rattle.show_chunk.specs.declared.fields.FieldsAnswer.the-variants as fields-answer
 use Rattle.show_chunk.specs.Summaries.{shownSummary, trailingOf}
@@ -60,9 +63,14 @@ abbrev pub nameShown : Bytes → NameAnswer → Bytes
 nameShown s (name-answer.Ok t) = optionShown s t
 nameShown s (name-answer.Err q) = []
 
+-- ## A summary without the number of padded numbers: it is no part of the reading (02, item 1), and two chunks of one reading may differ in it (`Request01.antt`)
+abbrev pub withoutCount : SummaryAnswer → SummaryAnswer
+withoutCount (summary-answer.Ok y) = summary-answer.Ok (record { summary = y .summary; «padded_numbers» = 0 })
+withoutCount (summary-answer.Err q) = summary-answer.Err q
+
 -- ## The calls answer alike
 pub record AnswerAlike (L : ResourceLimits) (s : Bytes) (M : ResourceLimits) (t : Bytes) : Type 0 where
-  pub summary : shownSummary (read L s) ≡ shownSummary (read M t)
+  pub summary : withoutCount (shownSummary (spelling L s) (read L s)) ≡ withoutCount (shownSummary (spelling M t) (read M t))
   pub trailing : trailingOf (read L s) ≡ trailingOf (read M t)
   pub fields : (f : ℕ) → shownFields (functionOf f (read L s)) ≡ shownFields (functionOf f (read M t))
   pub source-bytes : (f : ℕ) → sourceShown s (shownFields (functionOf f (read L s))) ≡ sourceShown t (shownFields (functionOf f (read M t)))

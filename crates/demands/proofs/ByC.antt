@@ -21,6 +21,7 @@ use Rattle.format.specs.Refusals.{reported}
 use Rattle.format.specs.Form.{Bytes}
 use Rattle.format.specs.ReadChunk.{Outcome, shown, refusal, read}
 use Rattle.format.specs.Copy.{copy}
+use Rattle.format_spelling.specs.ReadSpelling.{spelling}
 use Rattle.show_row.specs.Asked.{functionOf, entryOf}
 use Rattle.index.specs.declared.IndexAnswer.{IndexAnswer}
 use Rattle.index.specs.declared.IndexAnswer.the-variants as index-answer
@@ -164,8 +165,8 @@ module _ (limits : List ℕ) (s : Bytes) where
   abbrev L : ResourceLimits
   L = limitsOf limits
 
-  pub lafzimdo-summary : InC (ofSummary (shownSummary (read L s))) (forChunk L s)
-  lafzimdo-summary = law _ _ (of-summary (shownSummary (read L s)) ∙ calls.summary L s)
+  pub lafzimdo-summary : InC (ofSummary (shownSummary (spelling L s) (read L s))) (forChunk L s)
+  lafzimdo-summary = law _ _ (of-summary (shownSummary (spelling L s) (read L s)) ∙ calls.summary L s)
 
   pub lafzimdo-copy-length : InC (ofCopy (shownLength (read L s))) (forChunk L s)
   lafzimdo-copy-length = law _ _ (of-copy (shownLength (read L s)) ∙ calls.copy-length L s)

@@ -1,5 +1,5 @@
 -- What the exported calls show of a chunk that belongs to the grammar: each shows its part of the reading. The calls' contracts (README, The calls) say that
---     chunk_summary           answers    shownSummary (read L s)
+--     chunk_summary           answers    shownSummary (spelling L s) (read L s): beside the reading, how many numbers are padded (02, item 1: `Request01.antt`)
 --     trailing_bytes          shows      trailingOf (read L s)
 --     string_bytes            shows      take len (drop place s)
 --     function_fields         answers    shownFields (functionOf f (read L s))
@@ -31,6 +31,7 @@ use Rattle.format.specs.Reading.{Reading, Prototype, ConstantValue, LocalVar}
 use Rattle.format.specs.ReadFields.{string}
 use Rattle.format.specs.ReadChunk.{constant, shown, refusal, read}
 use Rattle.format.specs.Copy.{copy}
+use Rattle.format_spelling.specs.ReadSpelling.{spelling}
 use Rattle.format.proofs.Located.{Located, StandsIf}
 use Rattle.read_nth.proofs.Items.{many-nth}
 use Rattle.read_nth.proofs.Strings.{ConstantStands, constant-stands, name-stands}
@@ -119,7 +120,7 @@ refuses-function L s f q is = record {
 
 -- ## What is shown of a chunk
 pub record Shows (L : ResourceLimits) (s : Bytes) (r : Reading) : Type 0 where
-  pub summary : shownSummary (read L s) ≡ summary-answer.Ok (summaryOf r)
+  pub summary : shownSummary (spelling L s) (read L s) ≡ summary-answer.Ok (record { summary = summaryOf r; «padded_numbers» = spelling L s .padded })
   pub trailing : trailingOf (read L s) ≡ r .trailing
   pub function : (f : ℕ) (p : Prototype) → getElem? (r .functions) f ≡ some p → ShowsFunction L s f p
   -- refusal 23
@@ -192,7 +193,7 @@ module _ (L : ResourceLimits) (s : Bytes) (r : Reading) (is : read L s ≡ shown
 
   pub shows : Shows L s r
   shows = record {
-    summary = ap shownSummary is;
+    summary = ap (shownSummary (spelling L s)) is;
     trailing = ap trailingOf is;
     function = function-shown;
     no-function = λ f e. refuses-function L s f NoFunction (ap (functionOf f) is ∙ ap (orRefuse NoFunction) e);
@@ -210,7 +211,7 @@ module _ (L : ResourceLimits) (s : Bytes) (r : Reading) (is : read L s ≡ shown
 
 -- ## A chunk that is refused: every call answers with the same refusal, and lent memory stays as it was
 pub record Refuses (L : ResourceLimits) (s : Bytes) (q : Refusal) : Type 0 where
-  pub summary : shownSummary (read L s) ≡ summary-answer.Err q
+  pub summary : shownSummary (spelling L s) (read L s) ≡ summary-answer.Err q
   pub trailing : trailingOf (read L s) ≡ []
   pub function : (f : ℕ) → RefusesFunction L s f q
   pub index-rows : (old : List ℕ) → (shownIndex (length old) (read L s) ≡ index-answer.Err q) × (indexWritten old (read L s) ≡ old)
@@ -223,7 +224,7 @@ pub record Refuses (L : ResourceLimits) (s : Bytes) (q : Refusal) : Type 0 where
 
 pub refuses : (L : ResourceLimits) (s : Bytes) (q : Refusal) → read L s ≡ refusal q → Refuses L s q
 refuses L s q is = record {
-  summary = ap shownSummary is;
+  summary = ap (shownSummary (spelling L s)) is;
   trailing = ap trailingOf is;
   function = λ f. refuses-function L s f q (ap (functionOf f) is);
   index-rows = λ old. (ap (shownIndex (length old)) is, ap (indexWritten old) is);

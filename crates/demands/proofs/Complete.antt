@@ -1,4 +1,5 @@
--- `Shows` and `Refuses` (`Calls.antt`) leave no call out: whatever two chunks show one reading, or are refused for one reason, every call answers alike on both, whatever is asked of it and whatever space it is lent.
+-- `Shows` and `Refuses` (`Calls.antt`) leave no call out: whatever two chunks show one reading, or are refused for one reason, every call answers alike on both (the summary but for its count of padded
+-- numbers, which is no part of the reading), whatever is asked of it and whatever space it is lent.
 --     RestAlike            the calls that `AnswerAlike` (`Alike.antt`) does not name: lines, the index, verdict and findings, the copy
 --     shown-alike          both show the same reading
 --     refused-alike        both are refused for the same reason
@@ -30,7 +31,7 @@ use Rattle.index.specs.Index.{index, shownIndex, indexWritten}
 use Rattle.copy.specs.Copied.{shownLength, shownCopy, copyWritten}
 use Rattle.show_local.specs.Locals.{shownLocal, nameWritten}
 use Rattle.demands.proofs.Calls.{ShowsFunction, RefusesFunction, Shows, Refuses}
-use Rattle.demands.proofs.Alike.{sourceShown, constantShown, nameShown, AnswerAlike, IndexAlike}
+use Rattle.demands.proofs.Alike.{withoutCount, sourceShown, constantShown, nameShown, AnswerAlike, IndexAlike}
 use Rattle.demands.proofs.ShownEqual.{option-shown, value-shown, name-shown}
 
 pub record RestAlike (L : ResourceLimits) (s : Bytes) (M : ResourceLimits) (t : Bytes) : Type 0 where
@@ -84,7 +85,7 @@ module _ (L M : ResourceLimits) (s t : Bytes) where
     pub shown-alike : AnswerAlike L s M t × RestAlike L s M t
     shown-alike = (
       record {
-        summary = via (x .summary) (y .summary);
+        summary = via (ap withoutCount (x .summary)) (ap withoutCount (y .summary));
         trailing = via (x .trailing) (y .trailing);
         fields = λ f. function f (λ p a b. via (a .fields) (b .fields)) (λ q a b. via (a .fields) (b .fields));
         source-bytes = λ f. function f
@@ -122,7 +123,7 @@ module _ (L M : ResourceLimits) (s t : Bytes) where
     pub refused-alike : AnswerAlike L s M t × RestAlike L s M t
     refused-alike = (
       record {
-        summary = via (x .summary) (y .summary);
+        summary = via (ap withoutCount (x .summary)) (ap withoutCount (y .summary));
         trailing = via (x .trailing) (y .trailing);
         fields = λ f. via (x .function f .fields) (y .function f .fields);
         source-bytes = λ f. via (ap (sourceShown s) (x .function f .fields)) (ap (sourceShown t) (y .function f .fields));

@@ -32,6 +32,7 @@ use Rattle.format.specs.GrammarChunk.{Loaded}
 use Rattle.format.specs.Read.{Read, ok, refused}
 use Rattle.format.specs.ReadChunk.{Outcome, shown, refusal, main, outcome, read}
 use Rattle.format.specs.Copy.{copy}
+use Rattle.format_spelling.specs.ReadSpelling.{spelling}
 use Rattle.show_row.specs.Asked.{Asked, found, orRefuse, functionOf, entryIn, entryOf}
 use Rattle.show_row.specs.Asked as asked
 use Rattle.index.specs.Index.{index, shownIndex, indexWritten}
@@ -156,8 +157,8 @@ module _ (L : ResourceLimits) (s : Bytes) where
 
   -- ## The calls
   -- chunk_summary, chunk_verdict, finding_count, copy_length: 21, 22, 1 to 20
-  pub summary : inSummary (shownSummary (read L s)) ≡ first (forChunk L s)
-  summary = whole-chunk shownSummary inSummary (λ r. refl) (λ q. refl)
+  pub summary : inSummary (shownSummary (spelling L s) (read L s)) ≡ first (forChunk L s)
+  summary = whole-chunk (shownSummary (spelling L s)) inSummary (λ r. refl) (λ q. refl)
 
   pub verdict : inVerdict (shownVerdict (read L s)) ≡ first (forChunk L s)
   verdict = whole-chunk shownVerdict inVerdict (λ r. refl) (λ q. refl)
@@ -172,7 +173,7 @@ module _ (L : ResourceLimits) (s : Bytes) where
   pub no-trailing : (q : Report) → first (forChunk L s) ≡ some q → trailingOf (read L s) ≡ []
   no-trailing q e = go (read L s) (summary ∙ e)
     where
-      go : (o : Outcome) → inSummary (shownSummary o) ≡ some q → trailingOf o ≡ []
+      go : (o : Outcome) → inSummary (shownSummary (spelling L s) o) ≡ some q → trailingOf o ≡ []
       go (shown r) e = never e
       go (refusal q) e = refl
 

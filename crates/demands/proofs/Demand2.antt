@@ -55,6 +55,7 @@ use Rattle.text_print.specs.Output.{waiting, puts}
 use Rattle.chunklist_listing.specs.Listing as listings
 use Rattle.format.proofs.limits.ResourceLimits.ceilings as ceilings-call
 use Rattle.format.proofs.limits.ResourceLimits.within_ceilings as within-ceilings-call
+use Rattle.format_spelling.specs.ReadSpelling.{spelling}
 use Rattle.format_report.proofs.report_refusal as report-refusal-call
 use Rattle.format_report.proofs.report_warning as report-warning-call
 use Rattle.show_chunk.proofs.summary.chunk_summary as chunk-summary-call
@@ -83,9 +84,9 @@ use Rattle.demands.proofs.Written.{Writes, written-is-copy}
 use Rattle.demands.proofs.Promise.{Promise, PromiseWhere}
 use Rattle.slice.specs.Over.{over}
 
--- ## Chunks. Compared: 5,391 chunks, each with its summary, every field and entry, the index, the copy and the lines (crates/vectors); 150,000 more were asked once (docs/DIFFERENCES.md).
+-- ## Chunks. (The Rust has no count of padded numbers: `Request01.antt`.) Compared: 5,488 chunks, each with its summary, every field and entry, the index, the copy and the lines (crates/vectors); 150,000 more were asked once (docs/DIFFERENCES.md).
 pub chunk-summary : Promise chunk-summary-call.ended chunk-summary-call.Symbol.routine (λ _ chunk limits r.
-    (r ≡ shownSummary (read limits (now chunk)))
+    (r ≡ shownSummary (spelling limits (now chunk)) (read limits (now chunk)))
     ∷ [])
 chunk-summary _ = chunk-summary-call.Met.met
 
@@ -164,7 +165,7 @@ pub encode-chunk-lua54 : Promise encode-chunk-lua54-call.ended encode-chunk-lua5
     ∷ [])
 encode-chunk-lua54 _ = encode-chunk-lua54-call.Met.met
 
--- ## Validation: the verdict, the number of findings, and the findings in a lent list. Compared: 5,391 chunks and 31 requests for a verdict alone (crates/vectors); the lent list on 5,534 chunks (oracle/findings).
+-- ## Validation: the verdict, the number of findings, and the findings in a lent list. Compared: 5,488 chunks and 31 requests for a verdict alone (crates/vectors); the lent list on 5,534 chunks (oracle/findings).
 pub chunk-verdict : Promise chunk-verdict-call.ended chunk-verdict-call.Symbol.routine (λ _ chunk limits r.
     (r ≡ shownVerdict (read limits (now chunk)))
     ∷ [])

@@ -10,6 +10,7 @@ use lib.ListN.{length}
 use denote.Ref.{RefT, now}
 use Rattle.format.specs.ReadChunk.{Outcome, read}
 use Rattle.format.specs.Form.{Bytes}
+use Rattle.format_spelling.specs.ReadSpelling.{spelling}
 use Rattle.show_row.specs.Asked.{functionOf, entryOf}
 use Rattle.index.specs.Index.{shownIndex, indexWritten}
 use Rattle.line_lookup.specs.Lines.{shownLine}
@@ -65,7 +66,7 @@ readIn limits chunk = read (limitsOf (now limits)) (now chunk)
 
 -- ## Chunks
 pub summary : Promise summary-call.ended summary-call.Symbol.routine (λ _ chunk limits out out′ r.
-    Answered r out out′ (ofSummary (shownSummary (readIn limits chunk))))
+    Answered r out out′ (ofSummary (shownSummary (spelling (limitsOf (now limits)) (now chunk)) (readIn limits chunk))))
 summary _ = summary-call.Met.met
 
 pub function : Promise function-call.ended function-call.Symbol.routine (λ _ chunk limits function out out′ r.

@@ -43,8 +43,9 @@ use Rattle.format.proofs.WiderChunk.{main-wider, above, above-left, above-right
 use Rattle.format_copy.proofs.CopyChunk.{copy-belongs, copy-same, copy-below}
 use Rattle.format_copy.proofs.CopyChunk as copies
 use Rattle.format.proofs.ReadChunkLaws.{read-sound, read-within, read-complete, chunk-unique}
+use Rattle.format_spelling.specs.ReadSpelling.{spelling}
 use Rattle.c_boundary.specs.Status.{limitsOf}
-use Rattle.read_chunk.specs.declared.summary.Summary.{Summary}
+use Rattle.show_chunk.specs.declared.summary.ChunkSummary.{ChunkSummary}
 use Rattle.show_chunk.specs.declared.summary.SummaryAnswer.{SummaryAnswer}
 use Rattle.show_chunk.specs.declared.summary.SummaryAnswer.the-variants as summary-answer
 use Rattle.show_chunk.specs.Summaries.{shownSummary}
@@ -52,7 +53,7 @@ use Rattle.demands.proofs.Calls.{Shows, shows, Refuses, refuses}
 use Rattle.copy.specs.declared.whole.CopyAnswer.{CopyAnswer}
 use Rattle.demands.proofs.Written.{Copying, Writes, by-reading, written-is-copy, writes}
 use Rattle.demands.proofs.Same.{SameButFor, same-exactly}
-use Rattle.demands.proofs.Alike.{AnswerAlike, EqualAsShown}
+use Rattle.demands.proofs.Alike.{withoutCount, AnswerAlike, EqualAsShown}
 use Rattle.demands.proofs.Together.{Summarised, alike-exactly}
 use Rattle.demands.proofs.ShownAt.{ShownAt, shown-at}
 
@@ -82,14 +83,14 @@ given {L} {chunk} b = read-complete L chunk (b .reading) (b .ceilings) (b .input
 
 -- `chunk_summary` answers with a summary, so meets no refusal
 pub record SummaryGiven (L : ResourceLimits) (chunk : Bytes) : Type 0 where
-  pub summary : Summary
-  pub answers : shownSummary (read L chunk) ≡ summary-answer.Ok summary
+  pub summary : ChunkSummary
+  pub answers : shownSummary (spelling L chunk) (read L chunk) ≡ summary-answer.Ok summary
 
 -- And so does the call.
 pub summary-exactly : (L : ResourceLimits) (chunk : Bytes) → SummaryGiven L chunk ↔ Belongs L chunk
-summary-exactly L chunk = (λ g. read-exactly L chunk .0 (from (read L chunk) refl (g .summary) (g .answers)), λ b. record { summary = _; answers = ap shownSummary (given b) })
+summary-exactly L chunk = (λ g. read-exactly L chunk .0 (from (read L chunk) refl (g .summary) (g .answers)), λ b. record { summary = _; answers = ap (shownSummary (spelling L chunk)) (given b) })
   where
-    from : (o : Outcome) → read L chunk ≡ o → (x : Summary) → shownSummary o ≡ summary-answer.Ok x → IsRead L chunk
+    from : (o : Outcome) → read L chunk ≡ o → (x : ChunkSummary) → shownSummary (spelling L chunk) o ≡ summary-answer.Ok x → IsRead L chunk
     from (shown r) is x e = record { reading = r; is = is }
     from (refusal q) is x e = absurd (let z : _≡_ {A = ℕ} 0 1 = cc in omega arith)
 
@@ -99,9 +100,9 @@ pub record RefusedByAll (L : ResourceLimits) (chunk : Bytes) : Type 0 where
   pub by-all : Refuses L chunk reason
 
 pub refused-exactly : (L : ResourceLimits) (chunk : Bytes) → RefusedByAll L chunk ↔ ¬ Belongs L chunk
-refused-exactly L chunk = (λ f b. never (f .by-all .summary) (ap shownSummary (given b)), λ out. from (read L chunk) refl out)
+refused-exactly L chunk = (λ f b. never (f .by-all .summary) (ap (shownSummary (spelling L chunk)) (given b)), λ out. from (read L chunk) refl out)
   where
-    never : {q : Refusal} {x : Summary} → shownSummary (read L chunk) ≡ summary-answer.Err q → shownSummary (read L chunk) ≡ summary-answer.Ok x → ⊥
+    never : {q : Refusal} {x : ChunkSummary} → shownSummary (spelling L chunk) (read L chunk) ≡ summary-answer.Err q → shownSummary (spelling L chunk) (read L chunk) ≡ summary-answer.Ok x → ⊥
     never e f = let z : _≡_ {A = ℕ} 0 1 = cc in omega arith
 
     from : (o : Outcome) → read L chunk ≡ o → ¬ Belongs L chunk → RefusedByAll L chunk
@@ -125,7 +126,11 @@ together L M s t x y one two b d = alike-exactly L M s t (one .below) (two .belo
 
 -- and then both are read, or none
 pub together-read : (L M : ResourceLimits) (s t : Bytes) → AnswerAlike L s M t → Belongs L s → Belongs M t
-together-read L M s t alike b = summary-exactly M t .0 (record { summary = _; answers = sym (alike .summary) ∙ ap shownSummary (given b) })
+together-read L M s t alike b = from (read M t) refl (sym (alike .summary) ∙ ap (λ o. withoutCount (shownSummary (spelling L s) o)) (given b))
+  where
+    from : (o : Outcome) → read M t ≡ o → {x : ChunkSummary} → withoutCount (shownSummary (spelling M t) o) ≡ summary-answer.Ok x → Belongs M t
+    from (shown q) is e = read-exactly M t .0 (record { reading = q; is = is })
+    from (refusal q) is e = absurd (let z : _≡_ {A = ℕ} 0 1 = cc in omega arith)
 
 -- ## 3. Any two readings that the grammar allows the bytes are equal.
 pub reading-unique : (L : ResourceLimits) (chunk : Bytes) (r q : Reading) → Chunk L chunk r → Chunk L chunk q → r ≡ q

@@ -35,3 +35,4 @@ pub mod Nested
 pub mod EntriesAt
 pub mod SpeltHere
 pub mod ShownAt
+pub mod Request01

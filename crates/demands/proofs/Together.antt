@@ -29,13 +29,16 @@ use Rattle.format.specs.Form.{Bytes, Below}
 use Rattle.format.specs.Reading.{Reading, Prototype}
 use Rattle.format.specs.ReadChunk.{shown, read}
 use Rattle.format.proofs.ReadChunkLaws.{read-sound}
+use Rattle.format_spelling.specs.ReadSpelling.{spelling}
 use Rattle.show_row.specs.Asked.{Asked, found, refused, orRefuse, functionOf, entryOf, entryIn}
+use Rattle.show_chunk.specs.declared.summary.ChunkSummary.{ChunkSummary}
 use Rattle.show_chunk.specs.declared.summary.SummaryAnswer.{SummaryAnswer}
 use Rattle.show_chunk.specs.declared.summary.SummaryAnswer.the-variants as summary-answer
 use Rattle.show_chunk.proofs.summary.chunk_summary as call
 use Rattle.show_chunk.proofs.summary.chunk_summary.Symbol as symbol
 use Rattle.show_chunk.proofs.summary.chunk_summary.Met as theorem
 use Rattle.show_chunk.specs.declared.fields.FieldsAnswer.the-variants as fields-answer
+use Rattle.read_chunk.specs.declared.summary.Summary.{Summary}
 use Rattle.read_chunk.specs.Decoded.{summaryOf}
 use Rattle.show_chunk.specs.Summaries.{shownSummary, trailingOf}
 use Rattle.show_chunk.specs.Fields.{fieldsOf, shownFields}
@@ -47,9 +50,12 @@ use Rattle.demands.proofs.Slices.{bytes-known}
 use Rattle.demands.proofs.Calls.{ShowsFunction, shows, entry-is, located}
 use Rattle.demands.proofs.Same.{Pairwise, SameLocal}
 use Rattle.demands.proofs.Fits.{integers-fit, deltas-fit}
-use Rattle.demands.proofs.Alike.{sourceShown, constantShown, nameShown, AnswerAlike, EqualFunction, EqualAsShown, SamePlaces, IndexAlike}
+use Rattle.demands.proofs.Alike.{withoutCount, sourceShown, constantShown, nameShown, AnswerAlike, EqualFunction, EqualAsShown, SamePlaces, IndexAlike}
 use Rattle.demands.proofs.ReadBack.{Related, by-entries, entries-of, related, shown-list, option-same, value-same, front-same, locals-same, warnings-same, few-warnings}
 use Rattle.demands.proofs.ShownEqual.{same-summaries, fields-equal, optionOf, option-shown, valueOf, value-shown, nameOf, name-shown, locals-shown, locals-written}
+
+abbrev uncounted : Summary → ChunkSummary
+uncounted y = record { summary = y; «padded_numbers» = 0 }
 
 -- ## Alike, so equal
 module _ (L M : ResourceLimits) (s t : Bytes) (below : Below 256 s) (below′ : Below 256 t) (r q : Reading) (is : read L s ≡ shown r) (is′ : read M t ≡ shown q) where
@@ -104,7 +110,10 @@ module _ (L M : ResourceLimits) (s t : Bytes) (below : Below 256 s) (below′ : 
       }
 
     same-summary : summaryOf r ≡ summaryOf q
-    same-summary = let both = sym (ap shownSummary is) ∙ alike .summary ∙ ap shownSummary is′ in cc
+    same-summary =
+        let both = sym (ap (λ o. withoutCount (shownSummary (spelling L s) o)) is) ∙ alike .summary ∙ ap (λ o. withoutCount (shownSummary (spelling M t) o)) is′ in
+        let parts : uncounted (summaryOf r) ≡ uncounted (summaryOf q) = cc in
+        ap (λ y. y .summary) parts
 
     alike-equal : EqualAsShown r q
     alike-equal = record {
@@ -132,7 +141,7 @@ module _ (L M : ResourceLimits) (s t : Bytes) (below : Below 256 s) (below′ : 
 
     equal-alike : AnswerAlike L s M t
     equal-alike = record {
-      summary = ap shownSummary is ∙ ap summary-answer.Ok (same-summaries r q equal) ∙ sym (ap shownSummary is′);
+      summary = ap (λ o. withoutCount (shownSummary (spelling L s) o)) is ∙ ap (λ y. summary-answer.Ok (uncounted y)) (same-summaries r q equal) ∙ sym (ap (λ o. withoutCount (shownSummary (spelling M t) o)) is′);
       trailing = ap trailingOf is ∙ equal .trailing ∙ sym (ap trailingOf is′);
       fields = by-function shownFields shownFields refl (λ f p p′ _ _ k. ap fields-answer.Ok (fields-equal p p′ k));
       source-bytes = by-function (λ a. sourceShown s (shownFields a)) (λ a. sourceShown t (shownFields a)) refl
@@ -191,7 +200,7 @@ index-alike L M s t r q is is′ alike = index-back (r .functions) (q .functions
 -- ## The chunk is bytes
 pub record Summarised (L : ResourceLimits) (chunk : Bytes) (r : SummaryAnswer) : Type 0 where
   pub below : Below 256 chunk
-  pub answers : r ≡ shownSummary (read L chunk)
+  pub answers : r ≡ shownSummary (spelling L chunk) (read L chunk)
 
 pub summary-met : {M : Type 1} (𝓤 : URA M) (H : Heap 𝓤) (𝓜 : Model 𝓤 H) (𝓖 : GhostRules 𝓤 H) (𝓡 : Running 𝓤 H 𝓜)
     → Meets 𝓤 H (𝓖 .A) call.signature (𝓡 .run symbol.routine) (λ κs a. record {

@@ -1,9 +1,8 @@
 -- No count exceeds the bytes that its reader passes over, for readers that are cut otherwise than the grammar is (`Few.antt`): one law for each way to make a reader.
---     Between a at to      from the one place to the other: of each sort at most so many
 --     Covers r c           so it is of whatever r passes over, of which c is the count
 -- Assumes nothing.
 use mathlib.Core.Path.{_≡_, refl}
-use Prim.Native.Nat.{ℕ, _+_, _≤_}
+use Prim.Native.Nat.{ℕ}
 use native.Mathlib.Omega.{arith}
 use Rattle.format.specs.Form.{Bytes, Form, Then}
 use Rattle.format.specs.GrammarFields.{Number}
@@ -12,14 +11,10 @@ use Rattle.format.specs.declared.spelling.Spelling.{Spelling}
 use Rattle.format_spelling.specs.Spelling.{_⊕_, Tally}
 use Rattle.format_spelling.specs.ReadSpelling.{Count, none, plus, behind}
 use Rattle.format_spelling.specs.ReadSpelling as count
+use Rattle.format_spelling.specs.Inner.Tally.{Between}
 use Rattle.format.proofs.Exact.{Exact, never}
 use Rattle.format_spelling.proofs.SpellingLaws.{Tells, tells-none, tells-last, tells-number}
 use Rattle.format_spelling.proofs.Few.{Few, few-none, few-both, few-number, bounded}
-
-pub record Between (a : Spelling) (at to : ℕ) : Type 0 where
-  pub padded : at + a .padded ≤ to
-  pub filled : at + a .filled ≤ to
-  pub sources : at + a .sources ≤ to
 
 pub between-join : {a b : Spelling} {at mid to : ℕ} → Between a at mid → Between b mid to → Between (a ⊕ b) at to
 between-join x y = record { padded = omega (arith, x .padded, y .padded); filled = omega (arith, x .filled, y .filled); sources = omega (arith, x .sources, y .sources) }

@@ -5,4 +5,5 @@ pub mod Few
 pub mod PaddedCases
 pub mod Covers
 pub mod Passing
+pub mod Tallies
 pub mod SpellingCases

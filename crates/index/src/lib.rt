@@ -38,7 +38,17 @@ pub fn function_index(s: &[u8], limits: ResourceLimits, rows: &mut [u32]) -> Ind
                 number: 0,
                 instructions: 0,
             };
-            write_function(s, limits, limits.max_nesting_depth, 0, 0, main, rows);
+            let mut unused = [0usize; 3];
+            write_function(
+                s,
+                limits,
+                limits.max_nesting_depth,
+                0,
+                0,
+                main,
+                rows,
+                &mut unused,
+            );
             IndexAnswer::Ok(functions)
         }
     }

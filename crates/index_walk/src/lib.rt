@@ -9,6 +9,7 @@ ghost use Rattle.read_walk.specs.Inner.Skim.{skimResult};
 ghost use Rattle.index_walk.specs.Inner.Written.{Wrote};
 use format::limits::ResourceLimits;
 use format::refusal::Refusal;
+use format_spelling::tally::Tally;
 use index_row::put_head;
 use index_row::put_tail;
 use read_prototype::pass::HeadCountsResult;
@@ -19,6 +20,7 @@ use read_walk::walk::SkimResult;
 use read_walk::walk::Skimmed;
 
 // Passes over a function and all that nest in it, as the judge does (read_walk), and writes the row of each. Ruled out: rows in the order in which functions end, a row left out.
+// Nothing is counted: `unused` is what the parts count in, lent once for all levels so that none keeps room for it.
 pub fn write_function(
     s: &[u8],
     limits: ResourceLimits,
@@ -27,12 +29,14 @@ pub fn write_function(
     parent: usize,
     from: Skimmed,
     rows: &mut [u32],
+    unused: &mut Tally,
 ) -> SkimResult
     requires { ⌜ Walkable limits × (from .number ≤ MOST) × (depth + left ≤ DEEPEST) ⌝ }
     ensures { λ r. ⌜ ((w : grammar.Where) → from .number ≡ w .number → from .instructions ≡ w .instructions → r ≡ skimResult w (function limits left w (from .next .at) (drop (from .next .at) (now (s .entry))))) ⌝ }
     ensures { λ _. ⌜ ((w : grammar.Where) → from .number ≡ w .number → from .instructions ≡ w .instructions → depth ≡ w .depth → parent ≡ w .parent → Wrote w (function limits left w (from .next .at) (drop (from .next .at) (now (s .entry)))) (now (rows .entry)) (now (rows .exit))) ⌝ }
 {
-    let begins = pass_head(s, limits, from.instructions, from.next);
+    *unused = [0usize; 3];
+    let begins = pass_head(s, limits, from.instructions, from.next, unused);
     match begins {
         HeadCountsResult::Err(refusal) => SkimResult::Err(refusal),
         HeadCountsResult::Ok {
@@ -54,7 +58,16 @@ pub fn write_function(
                 if limits.max_total_prototypes < nested.number {
                     return SkimResult::Err(Refusal::TotalPrototypes(at));
                 }
-                let one = write_function(s, limits, left - 1, depth + 1, from.number, nested, rows);
+                let one = write_function(
+                    s,
+                    limits,
+                    left - 1,
+                    depth + 1,
+                    from.number,
+                    nested,
+                    rows,
+                    unused,
+                );
                 match one {
                     SkimResult::Err(refusal) => return SkimResult::Err(refusal),
                     SkimResult::Ok(later) => {
@@ -63,7 +76,8 @@ pub fn write_function(
                 }
                 more -= 1;
             }
-            let ends = pass_tail(s, limits.max_string_bytes, nested.next);
+            *unused = [0usize; 3];
+            let ends = pass_tail(s, limits.max_string_bytes, nested.next, unused);
             match ends {
                 TailCountsResult::Err(refusal) => SkimResult::Err(refusal),
                 TailCountsResult::Ok {

@@ -1,5 +1,5 @@
 -- The numbers of answers for C, as include/lafzimdo.h lists them for each array: values in which all numbers differ, and one theorem over each list, which antt computes.
---     summary-holds    version, format, instruction size, integer size, size_t size, number size, the test number's bits; functions; trailing place and length; code and place of both warnings
+--     summary-holds    version, format, instruction size, integer size, size_t size, number size, the test number's bits; functions; trailing place and length; code and place of both warnings; padded numbers
 --     warnings-hold    1 is L54-HEADER-003, 2 L54-CHUNK-001; without a warning both numbers are 0
 --     fields-hold      function 4 of the chunk of crates/format/proofs/Distinct.antt: depth, parent; source; lines; three bytes; eight counts; a source that is absent
 --     constants-hold   the tag, value or place, length
@@ -18,6 +18,8 @@ use Rattle.format.specs.declared.header.Warning.the-variants.{NonStandardFormat
 use Rattle.format.specs.Limits.{ceilings}
 use Rattle.format.specs.ReadChunk.{body, function, read}
 use Rattle.format.proofs.Distinct.{distinct}
+use Rattle.format_spelling.specs.ReadSpelling.{spelling}
+use Rattle.format_spelling.specs.ReadSpelling as spelt
 use Rattle.read_field.specs.declared.string.OptionString.the-variants as string
 use Rattle.read_header.specs.declared.OptionWarning.{OptionWarning}
 use Rattle.read_header.specs.declared.OptionWarning.the-variants as option
@@ -62,17 +64,20 @@ use Rattle.lafzimdo.specs.Answers.{
 
 -- ## The summary
 summary-holds : ofSummary (summary.Ok (record {
-  header = record { version = 1; format = 2; «instruction_size» = 3; «lua_integer_size» = 4; «sizeof_sizet» = 5; «lua_number_size» = 6; «luac_int» = pos 99; «luac_num» = 7 };
-  warnings = record { first = option.Some (TrailingBytes 11); second = option.Some (NonStandardFormat 12) };
-  functions = 8;
-  «trailing_at» = 9;
-  «trailing_len» = 10;
-})) ≡ done (1 ∷ 2 ∷ 3 ∷ 4 ∷ 5 ∷ 6 ∷ 7 ∷ 8 ∷ 9 ∷ 10 ∷ 2 ∷ 11 ∷ 1 ∷ 12 ∷ [])
+  summary = record {
+    header = record { version = 1; format = 2; «instruction_size» = 3; «lua_integer_size» = 4; «sizeof_sizet» = 5; «lua_number_size» = 6; «luac_int» = pos 99; «luac_num» = 7 };
+    warnings = record { first = option.Some (TrailingBytes 11); second = option.Some (NonStandardFormat 12) };
+    functions = 8;
+    «trailing_at» = 9;
+    «trailing_len» = 10;
+  };
+  «padded_numbers» = 13;
+})) ≡ done (1 ∷ 2 ∷ 3 ∷ 4 ∷ 5 ∷ 6 ∷ 7 ∷ 8 ∷ 9 ∷ 10 ∷ 2 ∷ 11 ∷ 1 ∷ 12 ∷ 13 ∷ [])
 summary-holds = refl
 
 -- from the bytes of a chunk
-summary-read : ofSummary (shownSummary (read ceilings distinct)) ≡ done (0x54 ∷ 3 ∷ 4 ∷ 8 ∷ 8 ∷ 8 ∷ 0x4077280000000000 ∷ 9 ∷ 308 ∷ 3 ∷ 1 ∷ 5 ∷ 2 ∷ 308 ∷ [])
-unfolding distinct read body function
+summary-read : ofSummary (shownSummary (spelling ceilings distinct) (read ceilings distinct)) ≡ done (0x54 ∷ 3 ∷ 4 ∷ 8 ∷ 8 ∷ 8 ∷ 0x4077280000000000 ∷ 9 ∷ 308 ∷ 3 ∷ 1 ∷ 5 ∷ 2 ∷ 308 ∷ 0 ∷ [])
+unfolding distinct read body function spelling spelt.body spelt.function
 summary-read = refl
 
 -- a warning, its code and its place

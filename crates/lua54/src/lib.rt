@@ -20,6 +20,7 @@ pub use read_field::string::OptionString;
 pub use read_field::string::StringAt;
 pub use show_chunk::bytes::string_bytes;
 pub use show_chunk::bytes::trailing_bytes;
+pub use show_chunk::summary::ChunkSummary;
 pub use show_chunk::summary::SummaryAnswer;
 pub use show_chunk::summary::chunk_summary;
 

@@ -8,7 +8,7 @@ fn main() {
     let n = io::read_full(libc::STDIN_FILENO, &mut file);
     let answer = chunk_summary(&file[..n], ResourceLimits::ceilings());
     let functions = match answer {
-        SummaryAnswer::Ok(summary) => summary.functions,
+        SummaryAnswer::Ok(shown) => shown.summary.functions,
         SummaryAnswer::Err(_) => 0,
     };
     io::print_decimal(libc::STDOUT_FILENO, functions as u64);

@@ -2,7 +2,7 @@
 --     long-before          header and byte are 32 bytes
 --     was-opened           what is known where a chunk is opened: the reading goes on with the functions
 --     functions-refused    .. and ends with them
---     judged-read          .. or is shown, without a row
+--     spelt-read           .. or is shown, with how the chunk is spelt: as main is, and all that nest in it
 --     decoded-read         .. or with one
 -- Assumes nothing.
 use mathlib.Core.Path.{_≡_, refl, sym, _∙_, ap}
@@ -17,6 +17,7 @@ use lib.ListN.{length, take, drop, length-append}
 use Rattle.format.specs.declared.limits.ResourceLimits.{ResourceLimits}
 use Rattle.format.specs.declared.refusal.Refusal.{Refusal}
 use Rattle.format.specs.declared.refusal.Refusal.the-variants.{InputBytes, LimitAboveCeiling}
+use Rattle.format.specs.declared.spelling.Spelling.{Spelling}
 use Rattle.format.specs.Form.{Bytes, Form, Then, Is, Here, Spelt}
 use Rattle.format.specs.Limits.{withinCeilings}
 use Rattle.format.specs.Reading.{Prototype, Reading}
@@ -32,6 +33,11 @@ use Rattle.format.proofs.ExactFields.{exact-field}
 use Rattle.format.proofs.ExactHeader.{exact-header}
 use Rattle.format.proofs.ExactChunk.{exact-function}
 use Rattle.format.proofs.Left.{left}
+use Rattle.format_spelling.specs.Spelling.{same, _⊕_}
+use Rattle.format_spelling.specs.ReadSpelling.{spelling}
+use Rattle.format_spelling.specs.ReadSpelling as count
+use Rattle.format_spelling.specs.Inner.Tally.{counts, Adds}
+use Rattle.format_spelling.proofs.Sums.{same-join}
 use Rattle.slice.specs.Shown.{cursorAt}
 use Rattle.read_header.specs.Shown.{firstWarning}
 use Rattle.read_prototype.specs.Inner.Row.{shownRow, lookup}
@@ -45,10 +51,10 @@ use Rattle.read_find.specs.Inner.Find.{findResult}
 use Rattle.read_chunk.specs.declared.Opening.{Opening}
 use Rattle.read_chunk.specs.declared.OpeningResult.the-variants as begins
 use Rattle.read_chunk.specs.declared.summary.DecodedResult.the-variants as decoded
-use Rattle.read_chunk.specs.declared.summary.JudgedResult.the-variants as judged
+use Rattle.read_chunk.specs.declared.summary.SpeltResult.the-variants as spelt
 use Rattle.read_chunk.specs.Inner.Opening.{beforeMain, opened, openingResult}
 use Rattle.read_chunk.specs.Decoded.{shownWarnings, summaryOf}
-use Rattle.read_chunk.specs.Inner.Decoded.{judgedResult, decodedResult, listOf, summaryShown}
+use Rattle.read_chunk.specs.Inner.Decoded.{speltResult, decodedResult, listOf, summaryShown}
 use Rattle.read_chunk.proofs.Summaries.{AtMostOne, every-header}
 
 -- ## The header has 31 bytes
@@ -93,11 +99,16 @@ long-before = long-then long-header λ _. long-then long-byte λ _. long-is
 abbrev pub load : Headed → List Prototype → Reader Loaded
 load headed ps = give (record { headed = headed; functions = ps })
 
+-- how main is spelt, and all that nest in it
+abbrev pub functionsSpelt : ResourceLimits → ℕ → Bytes → Spelling
+functionsSpelt L = count.function L (L .«max_nesting_depth») outermost
+
 -- what is known of the beforeMain that was read
 pub record WasBefore (L : ResourceLimits) (s : Bytes) (headed : Headed) (to : ℕ) : Type 0 where
   pub place : to ≡ 32
   pub one : AtMostOne headed
   pub goes-on : main L 0 s ≡ next (function L (L .«max_nesting_depth») outermost to (drop to s)) (load headed)
+  pub spelt : spelling L s ≡ functionsSpelt L to (drop to s)
 
 abbrev by-functions : (L : ResourceLimits) → Headed → Reader Loaded
 by-functions L headed at b = next (function L (L .«max_nesting_depth») outermost at b) (load headed)
@@ -113,6 +124,18 @@ in-two L s = one (header 0 s)
     one (ok h a b) = two h (byte a b)
     one (refused q) = refl
 
+spelt-in-two : (L : ResourceLimits) (s : Bytes) → spelling L s ≡ count.behind (beforeMain 0 s) (λ _. functionsSpelt L)
+unfolding spelling
+spelt-in-two L s = one (header 0 s)
+  where
+    two : (h : Headed) (o : Read ℕ) → same ⊕ count.behind o (λ _. functionsSpelt L) ≡ count.behind (next o (λ _. give h)) (λ _. functionsSpelt L)
+    two h (ok v a b) = same-join _
+    two h (refused q) = refl
+
+    one : (o : Read Headed) → same ⊕ count.behind o (λ h a b. same ⊕ count.behind (byte a b) (λ _. functionsSpelt L)) ≡ count.behind (next o (λ h a b. next (byte a b) (λ _. give h))) (λ _. functionsSpelt L)
+    one (ok h a b) = same-join _ ∙ two h (byte a b)
+    one (refused q) = refl
+
 pub was-before : (L : ResourceLimits) (s : Bytes) {headed : Headed} {to : ℕ} {rest : Bytes} → beforeMain 0 s ≡ ok headed to rest → WasBefore L s headed to
 was-before L s {headed} {to} {rest} is =
     let split = exact-before .sound {at = 0} {s = s} is in
@@ -123,6 +146,7 @@ was-before L s {headed} {to} {rest} is =
       place = omega (arith, place, size);
       one = rw (← split .spelt .two .two .1) (every-header .holds 0 (split .spelt .front) (split .spelt .value) (split .spelt .one));
       goes-on = in-two L s ∙ ap (λ o. next o (by-functions L)) is ∙ ap (by-functions L headed to) behind;
+      spelt = spelt-in-two L s ∙ ap (λ o. count.behind o (λ _. functionsSpelt L)) is ∙ ap (functionsSpelt L to) behind;
     }
 
 pub before-refused : (L : ResourceLimits) (s : Bytes) {q : Refusal} → beforeMain 0 s ≡ refused q → main L 0 s ≡ refused q
@@ -148,6 +172,7 @@ pub record Opened (L : ResourceLimits) (s : Bytes) (f : Opening) : Type 0 where
   pub warning : f .warning ≡ firstWarning (value .warnings)
   pub one : AtMostOne value
   pub reads : read L s ≡ outcome L (next (function L (L .«max_nesting_depth») outermost (f .next .at) (drop (f .next .at) s)) (load value))
+  pub spelt : spelling L s ≡ functionsSpelt L (f .next .at) (drop (f .next .at) s)
 
 abbrev opens : Bool → Bool → Read Headed → Read Headed
 opens a b o = cond a (cond b o (refused InputBytes)) (refused LimitAboveCeiling)
@@ -176,6 +201,7 @@ was-opened L s f e = by (withinCeilings L) (leb (length s) (L .«max_input_bytes
           warning = ap (λ f. f .warning) all;
           one = w .one;
           reads = by-main L s p q ∙ ap (outcome L) (w .goes-on ∙ ap (λ at. next (function L (L .«max_nesting_depth») outermost at (drop at s)) (load h)) (sym at));
+          spelt = w .spelt ∙ ap (λ at. functionsSpelt L at (drop at s)) (sym at);
         }
     by true true (refused x) p q is e = absurd (not-both e)
     by true false o p q is e = absurd (not-both e)
@@ -224,19 +250,22 @@ module _ (L : ResourceLimits) (s : Bytes) (f : Opening) (e : begins.Ok f ≡ ope
           «trailing_len» = length (sym behind i);
         }
 
-  pub judged-refused : (q : Refusal) → skim.Err q ≡ skimResult outermost functions → judged.Err q ≡ judgedResult (read L s)
-  judged-refused q e = let is = skim-err outermost functions q e in sym (ap judgedResult (functions-refused q is))
+  pub spelt-refused : (q : Refusal) → skim.Err q ≡ skimResult outermost functions → spelt.Err q ≡ speltResult (spelling L s) (read L s)
+  spelt-refused q e = sym (ap (speltResult (spelling L s)) (functions-refused q (skim-err outermost functions q e)))
 
-  pub judged-read : (k : Skimmed) → skim.Ok k ≡ skimResult outermost functions → judged.Ok (summaryShown s (L .«max_diagnostics») f (k .next) (k .number)) ≡ judgedResult (read L s)
-  judged-read k e = by functions refl e
+  -- counted from nothing on
+  pub spelt-read : (k : Skimmed) → skim.Ok k ≡ skimResult outermost functions → (t t′ : List ℕ) → counts t ≡ same → Adds functions (functionsSpelt L (f .next .at) (drop (f .next .at) s)) t t′
+      → spelt.Ok (summaryShown s (L .«max_diagnostics») f (k .next) (k .number)) (counts t′) ≡ speltResult (spelling L s) (read L s)
+  spelt-read k e t t′ none adds = by functions refl e
     where
-      by : (o : Read (List Prototype)) → functions ≡ o → skim.Ok k ≡ skimResult outermost o → judged.Ok (summaryShown s (L .«max_diagnostics») f (k .next) (k .number)) ≡ judgedResult (read L s)
+      by : (o : Read (List Prototype)) → functions ≡ o → skim.Ok k ≡ skimResult outermost o → spelt.Ok (summaryShown s (L .«max_diagnostics») f (k .next) (k .number)) (counts t′) ≡ speltResult (spelling L s) (read L s)
       by (ok ps to rest) is e =
-          let all : k ≡ record { next = cursorAt to; number = 0 + length ps; instructions = 0 + instructionsOf ps } = cc in
-          ap (λ k. judged.Ok (summaryShown s (L .«max_diagnostics») f (k .next) (k .number))) all
-          ∙ ap (λ n. judged.Ok (summaryShown s (L .«max_diagnostics») f (cursorAt to) n)) (zero-add (length ps))
-          ∙ ap judged.Ok (sums ps to rest is)
-          ∙ sym (ap judgedResult (shows ps to rest is))
+          let all : k ≡ skimmedOf outermost ps to = cc in
+          let counted : counts t′ ≡ spelling L s = adds .adds is ∙ ap (λ a. a ⊕ functionsSpelt L (f .next .at) (drop (f .next .at) s)) none ∙ same-join _ ∙ sym (known .spelt) in
+          (λ i. spelt.Ok (summaryShown s (L .«max_diagnostics») f (all i .next) (all i .number)) (counted i))
+          ∙ ap (λ n. spelt.Ok (summaryShown s (L .«max_diagnostics») f (cursorAt to) n) (spelling L s)) (zero-add (length ps))
+          ∙ ap (λ y. spelt.Ok y (spelling L s)) (sums ps to rest is)
+          ∙ sym (ap (speltResult (spelling L s)) (shows ps to rest is))
       by (refused p) is e = absurd (let z : _≡_ {A = ℕ} 0 1 = cc in omega arith)
 
   module _ (wanted : ℕ) where

@@ -2,3 +2,4 @@ pub mod Answers
 pub mod Summaries
 pub mod BeforeMain
 pub mod MainAt
+pub mod Spelt

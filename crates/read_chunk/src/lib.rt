@@ -1,4 +1,4 @@
-// chunk.rs, `decode_chunk_lua54`: a whole chunk, judged in one pass, and the row of one function.
+// chunk.rs, `decode_chunk_lua54`: a whole chunk, judged in one pass, how it is spelt, and the row of one function.
 pub mod summary;
 
 ghost use mathlib.Core.Path.{_≡_};

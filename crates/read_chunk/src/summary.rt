@@ -1,4 +1,4 @@
-// What a whole chunk shows: its summary, and the row of one function.
+// What a whole chunk shows: its summary, how it is spelt, and the row of one function.
 ghost use mathlib.Core.Path.{_≡_};
 ghost use mathlib.Core.Bool.{cond};
 ghost use mathlib.Core.List.{_++_};
@@ -6,9 +6,10 @@ ghost use lib.Dec.{ltb, eqb};
 ghost use lib.ListN.{take};
 ghost use Rattle.format.specs.declared.header.Warning.the-variants as code;
 ghost use Rattle.format.specs.ReadChunk as format;
+ghost use Rattle.format_spelling.specs.ReadSpelling.{spelling};
 ghost use Rattle.read_header.specs.declared.OptionWarning.the-variants as option;
 ghost use Rattle.read_chunk.specs.Decoded.{shownWarnings};
-ghost use Rattle.read_chunk.specs.Inner.Decoded.{judgedResult, decodedResult, listOf, summaryShown};
+ghost use Rattle.read_chunk.specs.Inner.Decoded.{speltResult, judgedResult, decodedResult, listOf, summaryShown};
 use crate::Opening;
 use crate::OpeningResult;
 use crate::open_chunk;
@@ -16,6 +17,8 @@ use format::header::Header;
 use format::header::Warning;
 use format::limits::ResourceLimits;
 use format::refusal::Refusal;
+use format::spelling::Spelling;
+use format_spelling::tally::spelling_of;
 use read_find::find::FindResult;
 use read_find::find::find_row;
 use read_header::OptionWarning;
@@ -53,6 +56,15 @@ pub enum DecodedResult {
 
 pub enum JudgedResult {
     Ok(Summary),
+    Err(Refusal),
+}
+
+// The summary, and how the chunk is spelt.
+pub enum SpeltResult {
+    Ok {
+        summary: Summary,
+        spelling: Spelling,
+    },
     Err(Refusal),
 }
 
@@ -118,14 +130,14 @@ fn summarised(
     }
 }
 
-// Judges a whole chunk under limits, and shows no function: where it is read, main begins at byte 32 (proofs/MainAt.antt).
-// Ruled out: limits above their ceilings taken, trailing bytes that are shown and not warned of.
-pub fn judge_chunk(s: &[u8], limits: ResourceLimits) -> JudgedResult
-    ensures { λ r. ⌜ r ≡ judgedResult (format.read limits (now (s .entry))) ⌝ }
+// Judges a whole chunk under limits, in one pass, and shows how it is spelt, but no function: where it is read, main begins at byte 32 (proofs/MainAt.antt).
+// Ruled out: limits above their ceilings taken, trailing bytes that are shown and not warned of, how main alone is spelt.
+pub fn judge_spelling(s: &[u8], limits: ResourceLimits) -> SpeltResult
+    ensures { λ r. ⌜ r ≡ speltResult (spelling limits (now (s .entry))) (format.read limits (now (s .entry))) ⌝ }
 {
     let begins = open_chunk(s, limits);
     match begins {
-        OpeningResult::Err(refusal) => JudgedResult::Err(refusal),
+        OpeningResult::Err(refusal) => SpeltResult::Err(refusal),
         OpeningResult::Ok(opening) => {
             let first = opening.next;
             let from = Skimmed {
@@ -133,21 +145,41 @@ pub fn judge_chunk(s: &[u8], limits: ResourceLimits) -> JudgedResult
                 number: 0,
                 instructions: 0,
             };
-            let functions = skim_main(s, limits, limits.max_nesting_depth, from);
+            let mut tally = [0usize; 3];
+            let functions = skim_main(s, limits, limits.max_nesting_depth, from, &mut tally);
             match functions {
-                SkimResult::Err(refusal) => JudgedResult::Err(refusal),
+                SkimResult::Err(refusal) => SpeltResult::Err(refusal),
                 SkimResult::Ok(skimmed) => {
                     let next = skimmed.next;
-                    JudgedResult::Ok(summarised(
+                    let summary = summarised(
                         s,
                         limits.max_diagnostics,
                         opening,
                         next,
                         skimmed.number,
-                    ))
+                    );
+                    let spelling = spelling_of(&tally);
+                    SpeltResult::Ok {
+                        summary: summary,
+                        spelling: spelling,
+                    }
                 }
             }
         }
+    }
+}
+
+// The same, for callers that show nothing of the spelling. Ruled out: a chunk refused for how it is spelt.
+pub fn judge_chunk(s: &[u8], limits: ResourceLimits) -> JudgedResult
+    ensures { λ r. ⌜ r ≡ judgedResult (format.read limits (now (s .entry))) ⌝ }
+{
+    let spelt = judge_spelling(s, limits);
+    match spelt {
+        SpeltResult::Err(refusal) => JudgedResult::Err(refusal),
+        SpeltResult::Ok {
+            summary,
+            spelling: _,
+        } => JudgedResult::Ok(summary),
     }
 }
 

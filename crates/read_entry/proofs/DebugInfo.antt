@@ -8,13 +8,12 @@ use native.Mathlib.Omega.{arith}
 use lib.ListN.{drop}
 use Rattle.format.specs.declared.refusal.Refusal.{Refusal}
 use Rattle.format.specs.declared.entry.AbsLineInfo.{AbsLineInfo}
-use Rattle.format.specs.Form.{Bytes, Form, Then, Is, Here}
-use Rattle.format.specs.GrammarFields.{Number, LuaString, String}
+use Rattle.format.specs.Form.{Bytes}
+use Rattle.format.specs.GrammarFields.{LuaString}
 use Rattle.format.specs.Reading.{LocalVar}
 use Rattle.format.specs.Read.{Read, ok, refused, Reader, next, _>>=_, give, here}
 use Rattle.format.specs.ReadFields.{number, string}
 use Rattle.format.specs.ReadChunk.{anchor, local}
-use Rattle.format.proofs.Exact.{Exact, exact-give, exact-here, exact-then}
 use Rattle.format.proofs.ExactFields.{exact-number, exact-string}
 use Rattle.slice.specs.declared.cursor.Cursor.{Cursor}
 use Rattle.read_field.specs.declared.field.U64Result.the-variants as u64
@@ -91,7 +90,7 @@ module _ (name : Option LuaString) (behind : ℕ) where
 abbrev orUnknown : Option LuaString → Reader LuaString
 orUnknown name = here >>= λ place. give (Option·getD name (record { place = place; bytes = 63 ∷ [] }))
 
-abbrev numbers : LuaString → Reader LocalVar
+abbrev pub numbers : LuaString → Reader LocalVar
 numbers name = number >>= λ startpc. number >>= λ endpc. give (record { name = name; startpc = startpc; endpc = endpc })
 
 abbrev rawNumbers : Option LuaString → Reader RawLocal
@@ -103,18 +102,6 @@ local-named limit at s = go (string limit at s)
     go : (o : Read (Option LuaString)) → next (next o orUnknown) numbers ≡ next (next o rawNumbers) (λ l. give (named l))
     go (ok name to rest) = named-startpc name to (number to rest)
     go (refused q) = refl
-
--- the reader reads exactly a form
-abbrev pub RawLocalForm : ℕ → Form RawLocal
-RawLocalForm limit =
-    Then (String limit) λ name.
-    Then Here λ behind.
-    Then Number λ startpc.
-    Then Number λ endpc.
-    Is (record { name = name; behind = behind; startpc = startpc; endpc = endpc })
-
-pub exact-rawLocal : (limit : ℕ) → Exact (rawLocal limit) (RawLocalForm limit)
-exact-rawLocal limit = exact-then (exact-string limit) λ name. exact-then exact-here λ behind. exact-then exact-number λ startpc. exact-then exact-number λ endpc. exact-give _
 
 -- ## From what was shown back to what was read
 pub anchor-err : (o : Read AbsLineInfo) (q : Refusal) → anchor-answer.Err q ≡ anchorResult o → o ≡ refused q

@@ -43,7 +43,7 @@ module _ (w : ℕ) where
 -- one byte in front of what shows the same
 byte-more : {A B : Type 0} (o : Read ℕ) (f : ℕ → Reader A) (k : A → Reader B) (m : Reader (List ℕ)) → ((x at : ℕ) (s : Bytes) → cursorResult (next (f x at s) k) ≡ cursorResult (m at s))
     → cursorResult (next (next o f) k) ≡ cursorResult (next o (λ x. m >>= λ xs. give (x ∷ xs)))
-byte-more (ok x to rest) f k m same = same x to rest ∙ sym (same-end x (m to rest))
+byte-more (ok x to rest) f k m same = same x to rest ∙ sym (same-end _ (m to rest))
 byte-more (refused q) f k m same = refl
 
 upvalues-bytes : (n at : ℕ) (s : Bytes) → cursorResult (many n upvalue at s) ≡ cursorResult (many (n * 3) (field 1) at s)

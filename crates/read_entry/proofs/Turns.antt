@@ -1,7 +1,7 @@
 -- Passing over n items, one turn at a time: for any reader of an item.
 -- Assumes nothing.
 use mathlib.Core.Path.{_≡_, refl, _∙_, ap}
-use mathlib.Core.List.{List, _∷_}
+use mathlib.Core.List.{_∷_}
 use Prim.Native.Nat.{ℕ, suc, _-_, _≤_, _<_}
 use native.Mathlib.Omega.{arith}
 use lib.ListN.{drop}
@@ -14,16 +14,16 @@ use Rattle.slice.specs.Shown.{cursorAt}
 use Rattle.slice.specs.Inner.Results.{cursorResult}
 use Rattle.read_field.proofs.Shows.{Was, onward}
 
--- of one item more in front of the list only the end is shown
-pub same-end : {A : Type 0} (x : A) (o : Read (List A)) → cursorResult (next o (λ xs. give (x ∷ xs))) ≡ cursorResult o
-same-end x (ok xs to rest) = refl
-same-end x (refused q) = refl
+-- what is made of the value, as of a list with one item more in front, does not show
+pub same-end : {A B : Type 0} (g : A → ℕ → B) (o : Read A) → cursorResult (next o (λ x at s. ok (g x at) at s)) ≡ cursorResult o
+same-end g (ok x to rest) = refl
+same-end g (refused q) = refl
 
 -- what n items from a place on show, those left show, from another on: the invariant of a loop over items
 abbrev pub Rest : {A : Type 0} → Reader A → Bytes → ℕ → ℕ → ℕ → ℕ → Type 0
 Rest r s n from left at = cursorResult (many n r from (drop from s)) ≡ cursorResult (many left r at (drop at s))
 
-one-more : (left : ℕ) → 0 < left → left ≡ suc (left - 1)
+pub one-more : (left : ℕ) → 0 < left → left ≡ suc (left - 1)
 one-more left more = omega arith
 
 module _ {A : Type 0} (r : Reader A) (s : Bytes) (n from left at : ℕ) (inv : Rest r s n from left at) where
@@ -42,4 +42,4 @@ module _ {A : Type 0} (r : Reader A) (s : Bytes) (n from left at : ℕ) (inv : R
         inv
         ∙ ap (λ n. cursorResult (many n r at (drop at s))) (one-more left more)
         ∙ ap (λ o. cursorResult (next o (λ x. many (left - 1) r >>= λ xs. give (x ∷ xs)))) (onward exact s at w)
-        ∙ same-end x (many (left - 1) r to (drop to s))
+        ∙ same-end _ (many (left - 1) r to (drop to s))

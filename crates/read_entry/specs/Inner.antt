@@ -1,2 +1,3 @@
 pub mod Constants
 pub mod Counts
+pub mod Absent

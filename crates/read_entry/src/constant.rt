@@ -3,9 +3,7 @@ ghost use mathlib.Core.Path.{_≡_};
 ghost use lib.ListN.{drop};
 ghost use mir.Syntax.{w64};
 ghost use mir.Val.{toZ};
-ghost use Rattle.format.specs.Read.{many};
 ghost use Rattle.format.specs.ReadChunk as spec;
-ghost use Rattle.slice.specs.Inner.Results.{cursorResult};
 ghost use Rattle.read_entry.specs.Shown.{constantResult};
 ghost use Rattle.read_entry.specs.Inner.Constants.{orEmpty, integerOf, floatOf, shortStringOf, longStringOf};
 use format::refusal::Refusal;
@@ -18,7 +16,6 @@ use read_field::string::StringAt;
 use read_field::string::StringResult;
 use read_field::string::read_string_lua54;
 use slice::cursor::Cursor;
-use slice::cursor::CursorResult;
 
 // The Rust's `ConstantValue`: of a float the bits, of a string its place and length.
 pub enum ConstantValue {
@@ -147,26 +144,4 @@ pub fn read_constant(s: &[u8], cursor: Cursor, max_string_bytes: usize) -> Const
         U8Result::Err(refusal) => ConstantResult::Err(refusal),
         U8Result::Ok { value, next } => { read_tagged(s, next, max_string_bytes, cursor.at, value) }
     }
-}
-
-// Passes over n constants. Ruled out: a constant passed over by its tag alone, the last one left out.
-pub fn skip_constants(s: &[u8], cursor: Cursor, n: usize, max_string_bytes: usize) -> CursorResult
-    ensures { λ r. ⌜ r ≡ cursorResult (many n (spec.constant «max_string_bytes») (cursor .at) (drop (cursor .at) (now (s .entry)))) ⌝ }
-{
-    let mut next = cursor;
-    let mut left = n;
-    while left > 0 {
-        let read = read_constant(s, next, max_string_bytes);
-        match read {
-            ConstantResult::Err(refusal) => return CursorResult::Err(refusal),
-            ConstantResult::Ok {
-                value: _,
-                next: behind,
-            } => {
-                next = behind;
-            }
-        }
-        left -= 1;
-    }
-    CursorResult::Ok(next)
 }

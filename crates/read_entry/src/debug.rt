@@ -1,9 +1,7 @@
 // A function's debug information: anchors and local variables.
 ghost use mathlib.Core.Path.{_≡_};
 ghost use lib.ListN.{drop};
-ghost use Rattle.format.specs.Read.{many};
-ghost use Rattle.format.specs.ReadChunk.{anchor, local};
-ghost use Rattle.slice.specs.Inner.Results.{cursorResult};
+ghost use Rattle.format.specs.ReadChunk.{anchor};
 ghost use Rattle.read_entry.specs.Readers.{rawLocal};
 ghost use Rattle.read_entry.specs.Shown.{anchorResult, localResult};
 use format::entry::AbsLineInfo;
@@ -12,9 +10,8 @@ use read_field::field::U64Result;
 use read_field::string::OptionString;
 use read_field::string::StringResult;
 use read_field::string::read_string_lua54;
-use read_field::varint::read_varint_lua54;
+use read_field::varint::read_value;
 use slice::cursor::Cursor;
-use slice::cursor::CursorResult;
 
 pub enum AnchorResult {
     Ok { value: AbsLineInfo, next: Cursor },
@@ -36,11 +33,11 @@ pub enum LocalResult {
 pub fn read_anchor(s: &[u8], cursor: Cursor) -> AnchorResult
     ensures { λ r. ⌜ r ≡ anchorResult (anchor (cursor .at) (drop (cursor .at) (now (s .entry)))) ⌝ }
 {
-    let pc = read_varint_lua54(s, cursor);
+    let pc = read_value(s, cursor);
     match pc {
         U64Result::Err(refusal) => AnchorResult::Err(refusal),
         U64Result::Ok { value: first, next } => {
-            let line = read_varint_lua54(s, next);
+            let line = read_value(s, next);
             match line {
                 U64Result::Err(refusal) => AnchorResult::Err(refusal),
                 U64Result::Ok { value, next } => AnchorResult::Ok {
@@ -55,28 +52,6 @@ pub fn read_anchor(s: &[u8], cursor: Cursor) -> AnchorResult
     }
 }
 
-// Passes over n anchors. Ruled out: one number an anchor, the last anchor left out.
-pub fn skip_anchors(s: &[u8], cursor: Cursor, n: usize) -> CursorResult
-    ensures { λ r. ⌜ r ≡ cursorResult (many n anchor (cursor .at) (drop (cursor .at) (now (s .entry)))) ⌝ }
-{
-    let mut next = cursor;
-    let mut left = n;
-    while left > 0 {
-        let read = read_anchor(s, next);
-        match read {
-            AnchorResult::Err(refusal) => return CursorResult::Err(refusal),
-            AnchorResult::Ok {
-                value: _,
-                next: behind,
-            } => {
-                next = behind;
-            }
-        }
-        left -= 1;
-    }
-    CursorResult::Ok(next)
-}
-
 // Reads a local variable: its name and the two numbers between which it is live. Ruled out: an absent name given as an empty one, startpc and endpc exchanged.
 pub fn read_local(s: &[u8], cursor: Cursor, max_string_bytes: usize) -> LocalResult
     ensures { λ r. ⌜ r ≡ localResult (rawLocal «max_string_bytes» (cursor .at) (drop (cursor .at) (now (s .entry)))) ⌝ }
@@ -85,11 +60,11 @@ pub fn read_local(s: &[u8], cursor: Cursor, max_string_bytes: usize) -> LocalRes
     match name {
         StringResult::Err(refusal) => LocalResult::Err(refusal),
         StringResult::Ok { string, next } => {
-            let startpc = read_varint_lua54(s, next);
+            let startpc = read_value(s, next);
             match startpc {
                 U64Result::Err(refusal) => LocalResult::Err(refusal),
                 U64Result::Ok { value: start, next } => {
-                    let endpc = read_varint_lua54(s, next);
+                    let endpc = read_value(s, next);
                     match endpc {
                         U64Result::Err(refusal) => LocalResult::Err(refusal),
                         U64Result::Ok { value: end, next } => LocalResult::Ok {
@@ -103,28 +78,4 @@ pub fn read_local(s: &[u8], cursor: Cursor, max_string_bytes: usize) -> LocalRes
             }
         }
     }
-}
-
-// Passes over n local variables. Ruled out: an absent name that is refused, the name passed over without its bytes.
-pub fn skip_locals(s: &[u8], cursor: Cursor, n: usize, max_string_bytes: usize) -> CursorResult
-    ensures { λ r. ⌜ r ≡ cursorResult (many n (local «max_string_bytes») (cursor .at) (drop (cursor .at) (now (s .entry)))) ⌝ }
-{
-    let mut next = cursor;
-    let mut left = n;
-    while left > 0 {
-        let read = read_local(s, next, max_string_bytes);
-        match read {
-            LocalResult::Err(refusal) => return CursorResult::Err(refusal),
-            LocalResult::Ok {
-                name: _,
-                startpc: _,
-                endpc: _,
-                next: behind,
-            } => {
-                next = behind;
-            }
-        }
-        left -= 1;
-    }
-    CursorResult::Ok(next)
 }

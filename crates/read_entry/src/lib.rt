@@ -2,5 +2,5 @@
 // Every contract holds for any slice and any cursor, and is an equation with a reader of `format`.
 pub mod constant;
 pub mod debug;
+pub mod pass;
 pub mod runs;
-pub mod strings;

@@ -1,3 +1,4 @@
 pub mod Shows
 pub mod ThreeBytes
+mod Numbers
 pub mod Strings

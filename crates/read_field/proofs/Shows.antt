@@ -3,6 +3,7 @@
 --     .._err       of an answer `Err`: the reader refused so
 -- Assumes nothing.
 use mathlib.Core.Path.{_≡_, refl, sym, _∙_, ap}
+use mathlib.Core.Bool.{Bool}
 use mathlib.Core.List.{List}
 use mathlib.Core.Option.{Option}
 use Prim.Native.Nat.{ℕ}
@@ -20,11 +21,12 @@ use Rattle.slice.specs.declared.cursor.CursorResult.the-variants as cursor
 use Rattle.read_field.specs.declared.field.U8Result.the-variants as u8
 use Rattle.read_field.specs.declared.field.U32Result.the-variants as u32
 use Rattle.read_field.specs.declared.field.U64Result.the-variants as u64
+use Rattle.read_field.specs.declared.varint.NumberResult.the-variants as number
 use Rattle.read_field.specs.declared.string.OptionString.{OptionString}
 use Rattle.read_field.specs.declared.string.StringResult.the-variants as string
 use Rattle.slice.specs.Shown.{cursorAt}
 use Rattle.slice.specs.Inner.Results.{cursorResult, andThen}
-use Rattle.read_field.specs.Shown.{u8Result, u32Result, u64Result, optionString, stringResult}
+use Rattle.read_field.specs.Shown.{u8Result, u32Result, u64Result, numberResult, optionString, stringResult}
 
 -- what a reader gave, with the rest left open
 pub record Was {A : Type 0} (o : Read A) (x : A) (to : ℕ) : Type 0 where
@@ -52,6 +54,18 @@ u64-ok (ok w to rest) v c e =
     let next : c ≡ cursorAt to = cc in
     record { rest = rest; is = rw (value, next) }
 u64-ok (refused p) v c e = absurd (let z : _≡_ {A = ℕ} 0 1 = cc in omega arith)
+
+-- of a number, whether it is padded too
+pub number-err : (padded : Bool) (o : Read ℕ) (q : Refusal) → number.Err q ≡ numberResult padded o → o ≡ refused q
+number-err padded (ok v to rest) q e = absurd (let z : _≡_ {A = ℕ} 0 1 = cc in omega arith)
+number-err padded (refused p) q e = cc
+
+pub number-ok : (padded : Bool) (o : Read ℕ) (v : ℕ) (c : Cursor) (p : Bool) → number.Ok v c p ≡ numberResult padded o → Was o v (c .at) × (p ≡ padded)
+number-ok padded (ok w to rest) v c p e =
+    let value : v ≡ w = cc in
+    let next : c ≡ cursorAt to = cc in
+    (record { rest = rest; is = rw (value, next) }, cc)
+number-ok padded (refused q) v c p e = absurd (let z : _≡_ {A = ℕ} 0 1 = cc in omega arith)
 
 pub u8-err : (o : Read ℕ) (q : Refusal) → u8.Err q ≡ u8Result o → o ≡ refused q
 u8-err (ok v to rest) q e = absurd (let z : _≡_ {A = ℕ} 0 1 = cc in omega arith)

@@ -1,4 +1,5 @@
 -- What the code shows of what a reader of `format` gives: the value and the cursor behind it, or the refusal.
+use mathlib.Core.Bool.{Bool}
 use mathlib.Core.Option.{Option, none, some}
 use Prim.Native.Nat.{ℕ}
 use lib.ListN.{length}
@@ -11,6 +12,8 @@ use Rattle.read_field.specs.declared.field.U32Result.{U32Result}
 use Rattle.read_field.specs.declared.field.U32Result.the-variants as u32
 use Rattle.read_field.specs.declared.field.U64Result.{U64Result}
 use Rattle.read_field.specs.declared.field.U64Result.the-variants as u64
+use Rattle.read_field.specs.declared.varint.NumberResult.{NumberResult}
+use Rattle.read_field.specs.declared.varint.NumberResult.the-variants as number
 use Rattle.read_field.specs.declared.string.OptionString.{OptionString}
 use Rattle.read_field.specs.declared.string.OptionString.the-variants as option
 use Rattle.read_field.specs.declared.string.StringResult.{StringResult}
@@ -27,6 +30,11 @@ u32Result (refused q) = u32.Err q
 abbrev pub u64Result : Read ℕ → U64Result
 u64Result (ok v to rest) = u64.Ok v (cursorAt to)
 u64Result (refused q) = u64.Err q
+
+-- of a number whether it is padded, too
+abbrev pub numberResult : Bool → Read ℕ → NumberResult
+numberResult padded (ok v to rest) = number.Ok v (cursorAt to) padded
+numberResult padded (refused q) = number.Err q
 
 -- of a string its place and length
 abbrev pub optionString : Option LuaString → OptionString

@@ -91,11 +91,18 @@ pub fn row_at(s: &[u8], limits: ResourceLimits, spot: &Spot) -> OptionRow
     ensures { λ r. ⌜ r ≡ rowAt limits (now (s .entry)) (now (spot .entry)) ⌝ }
 {
     let start = spot[0];
-    let begins = read_head(s, limits, spot[2], Cursor { at: start });
+    let mut unused = [0usize; 3];
+    let begins = read_head(s, limits, spot[2], Cursor { at: start }, &mut unused);
     match begins {
         HeadResult::Err(_) => OptionRow::None,
         HeadResult::Ok { head, next: _ } => {
-            let ends = read_tail(s, limits.max_string_bytes, Cursor { at: spot[1] });
+            let mut unused = [0usize; 3];
+            let ends = read_tail(
+                s,
+                limits.max_string_bytes,
+                Cursor { at: spot[1] },
+                &mut unused,
+            );
             match ends {
                 TailResult::Err(_) => OptionRow::None,
                 TailResult::Ok { tail, next } => {

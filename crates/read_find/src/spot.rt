@@ -76,7 +76,8 @@ pub fn find_function(
     ensures { λ r. ⌜ r ≡ skimResult (standing limits (now (s .entry)) above from) (functionAt limits (now (s .entry)) left above from) ⌝ }
     ensures { λ _. ⌜ Found wanted (from .number) (functionAt limits (now (s .entry)) left above from) (rowAt limits (now (s .entry)) (now (spot .entry))) (rowAt limits (now (s .entry)) (now (spot .exit))) ⌝ }
 {
-    let begins = pass_head(s, limits, from.instructions, from.next);
+    let mut unused = [0usize; 3];
+    let begins = pass_head(s, limits, from.instructions, from.next, &mut unused);
     match begins {
         HeadCountsResult::Err(refusal) => SkimResult::Err(refusal),
         HeadCountsResult::Ok {
@@ -89,11 +90,12 @@ pub fn find_function(
                 instructions: from.instructions + counts.instructions,
             };
             let nest = below(above, from, counts.named);
-            let inner = find_functions(s, limits, counts.protos, left, nest, wanted, first, spot);
+            let inner = find_nested(s, limits, counts.protos, left, nest, wanted, first, spot);
             match inner {
                 SkimResult::Err(refusal) => SkimResult::Err(refusal),
                 SkimResult::Ok(nested) => {
-                    let ends = pass_tail(s, limits.max_string_bytes, nested.next);
+                    unused = [0usize; 3];
+                    let ends = pass_tail(s, limits.max_string_bytes, nested.next, &mut unused);
                     match ends {
                         TailCountsResult::Err(refusal) => SkimResult::Err(refusal),
                         TailCountsResult::Ok { counts: _, next } => {
@@ -111,7 +113,28 @@ pub fn find_function(
     }
 }
 
-// The same of n functions one after the other, each nested in a function below which functions nest at most `left` deep.
+// The same of n functions one after the other, each nested in a function below which functions nest at most `left` deep. Most functions have none: these call nothing.
+fn find_nested(
+    s: &[u8],
+    limits: ResourceLimits,
+    n: usize,
+    left: usize,
+    above: Above,
+    wanted: usize,
+    from: Skimmed,
+    spot: &mut Spot,
+) -> SkimResult
+    requires { ⌜ Walkable limits × (above .depth + left ≤ DEEPEST + 1) ⌝ }
+    ensures { λ r. ⌜ r ≡ skimResult (standing limits (now (s .entry)) above from) (functionsAt limits (now (s .entry)) n left above from) ⌝ }
+    ensures { λ _. ⌜ Found wanted (from .number) (functionsAt limits (now (s .entry)) n left above from) (rowAt limits (now (s .entry)) (now (spot .entry))) (rowAt limits (now (s .entry)) (now (spot .exit))) ⌝ }
+{
+    if n == 0 {
+        return SkimResult::Ok(from);
+    }
+    find_functions(s, limits, n, left, above, wanted, from, spot)
+}
+
+// The same, where there are some.
 fn find_functions(
     s: &[u8],
     limits: ResourceLimits,

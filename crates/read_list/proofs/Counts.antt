@@ -1,80 +1,54 @@
--- The counts of instructions and of nested functions, in the code's terms: by whether a count within the first limit is read, and the total.
+-- The instructions behind their count, which is held to two limits, and the count of nested functions.
 -- Assumes nothing.
 use mathlib.Core.Path.{_≡_, refl, sym, _∙_, ap}
-use Prim.Native.Nat.{ℕ, _+_, _<_, _≤_}
+use mathlib.Core.List.{List}
+use Prim.Native.Nat.{ℕ, _+_}
 use native.Mathlib.Omega.{arith}
-use borrow.Author.Tests.{le-leb, lt-leb}
 use lib.Dec.{leb}
 use lib.ListN.{drop}
 use Rattle.format.specs.declared.refusal.Refusal.{Refusal}
 use Rattle.format.specs.declared.refusal.Refusal.the-variants.{Instructions, TotalInstructions, Prototypes}
-use Rattle.format.specs.Form.{Bytes, Form, Then, Is, Given}
+use Rattle.format.specs.declared.spelling.Spelling.{Spelling}
+use Rattle.format.specs.Form.{Bytes}
 use Rattle.format.specs.GrammarChunk.{Listed}
 use Rattle.format.specs.Read.{Read, ok, refused, Reader, next, _>>=_, _>>_, give, here, atMost, many}
 use Rattle.format.specs.ReadFields.{field, number}
-use Rattle.format.proofs.Exact.{Exact, exact-give, exact-then, exact-place, exact-atMost}
 use Rattle.format.proofs.ExactFields.{exact-field}
+use Rattle.format_spelling.specs.Inner.Tally.{Adds}
+use Rattle.format_spelling.proofs.Tallies.{adds-of, adds-value}
 use Rattle.slice.specs.declared.cursor.Cursor.{Cursor}
-use Rattle.slice.specs.declared.cursor.CursorResult.{CursorResult}
 use Rattle.read_field.specs.declared.field.U64Result.{U64Result}
 use Rattle.read_field.specs.declared.field.U64Result.the-variants as u64
 use Rattle.slice.specs.Shown.{cursorAt}
-use Rattle.slice.specs.Inner.Results.{cursorResult}
 use Rattle.read_field.specs.Shown.{u64Result}
-use Rattle.read_field.proofs.Shows.{Was, onward, u64-err, u64-ok}
+use Rattle.read_field.proofs.Shows.{Was}
 use Rattle.read_list.specs.declared.ListResult.{ListResult}
 use Rattle.read_list.specs.declared.ListResult.the-variants as list
 use Rattle.read_entry.specs.Readers.{code, Count, protosCount}
 use Rattle.read_entry.specs.Inner.Counts.{countUpTo, codeCount}
-use Rattle.read_list.specs.Inner.Shown.{listedOf, listResult, countResult}
-use Rattle.read_list.proofs.Listing.{CountUpTo, exact-countUpTo, many-sized, behindCount, count-refused, count-read, tested-then}
+use Rattle.read_list.specs.Inner.Shown.{countResult}
+use Rattle.read_list.proofs.Listing.{exact-held, held-is, exact-countUpTo, many-sized, behindCount, tested-then, ListAt}
 
 -- ## Instructions
 module _ (per-proto before total : ℕ) (s : Bytes) (at : ℕ) where
-  abbrev counted : Read ℕ
-  counted = countUpTo per-proto (Instructions at) at (drop at s)
-
-  abbrev within : Read ℕ
-  within = codeCount per-proto before total at (drop at s)
-
-  pub size-refused : {z : U64Result} {q : Refusal} → z ≡ u64.Err q → z ≡ u64Result counted → z ≡ u64Result within
-  size-refused {q} told e = rw (u64-err counted q (sym told ∙ e)) told
-
-  module _ {z : U64Result} {v : ℕ} {c : Cursor} (told : z ≡ u64.Ok v c) (e : z ≡ u64Result counted) where
-    tested : within ≡ (atMost (before + v) total (TotalInstructions at) >> give v) (c .at) (drop (c .at) s)
-    tested = rw (onward (exact-countUpTo per-proto (Instructions at)) s at (u64-ok counted v c (sym told ∙ e)))
-
-    pub too-many : total < before + v → u64.Err (TotalInstructions at) ≡ u64Result within
-    too-many h = rw (tested, lt-leb (before + v) total h)
-
-    pub few-enough : before + v ≤ total → u64.Ok v c ≡ u64Result within
-    few-enough h = rw (tested, le-leb (before + v) total h)
-
-  -- the words, behind their count
   abbrev words : ℕ → Reader (Listed ℕ)
   words = behindCount (λ n. many n (field 4))
 
-  code-is : code per-proto before total at (drop at s) ≡ next within words
+  -- with those of the functions before
+  abbrev sum : ℕ → ℕ
+  sum n = before + n
+
+  code-is : code per-proto before total at (drop at s) ≡ next (codeCount per-proto before total at (drop at s)) words
   code-is =
       tested-then (λ n. leb n per-proto) (Instructions at) (λ n. atMost (before + n) total (TotalInstructions at) >> words n) (number at (drop at s))
-      ∙ tested-then (λ n. leb (before + n) total) (TotalInstructions at) words counted
+      ∙ tested-then (λ n. leb (before + n) total) (TotalInstructions at) words (countUpTo per-proto (Instructions at) at (drop at s))
 
-  abbrev CodeCount : Form ℕ
-  CodeCount = Then (CountUpTo per-proto) λ n. Then (Given (before + n ≤ total)) λ _. Is n
-
-  exact-codeCount : Exact (codeCount per-proto before total) CodeCount
-  exact-codeCount =
-      exact-place λ first.
-      exact-then (exact-countUpTo per-proto (Instructions first)) λ n.
-      exact-then (exact-atMost (before + n) total (TotalInstructions first)) λ _.
-      exact-give n
-
-  pub code-refused : {z : U64Result} {q : Refusal} → z ≡ u64.Err q → z ≡ u64Result within → list.Err q ≡ listResult (code per-proto before total at (drop at s))
-  code-refused told e = rw code-is (count-refused exact-codeCount (many-sized (exact-field 4)) s at told e)
-
-  pub code-read : {z : U64Result} {v : ℕ} {c : Cursor} → z ≡ u64.Ok v c → z ≡ u64Result within → {x : CursorResult} {y : ListResult} → x ≡ cursorResult (many v (field 4) (c .at) (drop (c .at) s)) → y ≡ listedOf x v (c .at)
-      → y ≡ listResult (code per-proto before total at (drop at s))
-  code-read told e p q = rw code-is (count-read exact-codeCount (many-sized (exact-field 4)) s at told e p q)
+  pub code-list : ListAt (exact-held (exact-countUpTo per-proto (Instructions at)) sum total (TotalInstructions at)) (λ n. many n (field 4)) s at (code per-proto before total at (drop at s))
+  code-list = record {
+    own = λ e. held-is number (λ n. n) per-proto (Instructions at) at (drop at s) (held-is (countUpTo per-proto (Instructions at)) sum total (TotalInstructions at) at (drop at s) e);
+    sized = many-sized (exact-field 4);
+    whole = code-is;
+  }
 
 -- ## Nested functions
 abbrev countOf : U64Result → ListResult
@@ -89,11 +63,15 @@ count-shown (ok n to rest) = refl
 count-shown (refused q) = refl
 
 module _ (limit : ℕ) (s : Bytes) (at : ℕ) where
-  pub protos-shown : {z y : U64Result} → z ≡ y → z ≡ u64Result (countUpTo limit (Prototypes at) at (drop at s)) → countOf y ≡ countResult (protosCount limit at (drop at s))
-  protos-shown told e =
-      ap countOf (sym told ∙ e)
-      ∙ count-shown (countUpTo limit (Prototypes at) at (drop at s))
-      ∙ sym (ap countResult (tested-then (λ n. leb n limit) (Prototypes at) placed (number at (drop at s))))
+  protos-are : protosCount limit at (drop at s) ≡ next (countUpTo limit (Prototypes at) at (drop at s)) placed
+  protos-are = tested-then (λ n. leb n limit) (Prototypes at) placed (number at (drop at s))
+
+  pub protos-shown : {z y : U64Result} {n : Spelling} {t t′ : List ℕ} → (z ≡ u64Result (countUpTo limit (Prototypes at) at (drop at s))) × Adds (countUpTo limit (Prototypes at) at (drop at s)) n t t′ → z ≡ y
+      → (countOf y ≡ countResult (protosCount limit at (drop at s))) × Adds (protosCount limit at (drop at s)) n t t′
+  protos-shown e told = (
+    ap countOf (sym told ∙ e .0) ∙ count-shown (countUpTo limit (Prototypes at) at (drop at s)) ∙ sym (ap countResult protos-are),
+    adds-of (sym protos-are) (adds-value (countUpTo limit (Prototypes at) at (drop at s)) placed (e .1)),
+  )
 
 -- ## From what was shown back to what was read
 pub count-err : (o : Read Count) (q : Refusal) → list.Err q ≡ countResult o → o ≡ refused q

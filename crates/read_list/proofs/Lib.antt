@@ -1,3 +1,4 @@
 pub mod Listing
 pub mod Counts
 pub mod Within
+mod Counted

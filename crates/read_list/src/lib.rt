@@ -1,22 +1,25 @@
-// Lists behind their counts: how many items, where the first begins, and the cursor behind the last.
+// Lists behind their counts: how many items, where the first begins, and the cursor behind the last. Their numbers are counted on the way. Most lists of small functions are empty, and these call nothing.
 ghost use mathlib.Core.Path.{_≡_};
 ghost use lib.ListN.{drop};
 ghost use Rattle.format.specs.declared.refusal.Refusal.the-variants.{Constants, Upvalues};
 ghost use Rattle.format.specs.ReadFields.{string};
 ghost use Rattle.format.specs.ReadChunk as spec;
+ghost use Rattle.format_spelling.specs.ReadSpelling as count;
+ghost use Rattle.format_spelling.specs.Inner.Tally.{Room, Adds};
 ghost use Rattle.read_field.specs.Shown.{u64Result};
 ghost use Rattle.read_entry.specs.Readers.{code, lineInfo, protosCount};
 ghost use Rattle.read_entry.specs.Inner.Counts.{countUpTo, codeCount};
 ghost use Rattle.read_list.specs.Inner.Shown.{listedOf, listResult, countResult};
 use format::refusal::Refusal;
-use read_entry::constant::skip_constants;
-use read_entry::debug::skip_anchors;
-use read_entry::debug::skip_locals;
+use format_spelling::tally::Tally;
+use read_entry::pass::pass_anchors;
+use read_entry::pass::pass_constants;
+use read_entry::pass::pass_locals;
+use read_entry::pass::pass_strings;
 use read_entry::runs::skip_upvalues;
 use read_entry::runs::skip_words;
-use read_entry::strings::skip_strings;
 use read_field::field::U64Result;
-use read_field::varint::read_varint_lua54;
+use read_field::varint::tally_varint;
 use slice::cursor::Cursor;
 use slice::cursor::CursorResult;
 use slice::cursor::read_exact;
@@ -45,10 +48,18 @@ pub fn listed(items: CursorResult, count: usize, place: usize) -> ListResult
 }
 
 // A count that is at most the limit, or the refusal.
-pub fn count_up_to(s: &[u8], cursor: Cursor, limit: usize, refusal: Refusal) -> U64Result
+pub fn count_up_to(
+    s: &[u8],
+    cursor: Cursor,
+    limit: usize,
+    refusal: Refusal,
+    tally: &mut Tally,
+) -> U64Result
+    requires { ⌜ Room (now tally) (cursor .at) ⌝ }
     ensures { λ r. ⌜ r ≡ u64Result (countUpTo limit refusal (cursor .at) (drop (cursor .at) (now (s .entry)))) ⌝ }
+    ensures { λ _. ⌜ Adds (countUpTo limit refusal (cursor .at) (drop (cursor .at) (now (s .entry)))) (count.number (cursor .at) (drop (cursor .at) (now (s .entry)))) (now (tally .entry)) (now (tally .exit)) ⌝ }
 {
-    let read = read_varint_lua54(s, cursor);
+    let read = tally_varint(s, cursor, tally);
     let U64Result::Ok { value, next: _ } = read else {
         return read;
     };
@@ -65,16 +76,28 @@ pub fn constants_list(
     cursor: Cursor,
     max_constants: usize,
     max_string_bytes: usize,
+    tally: &mut Tally,
 ) -> ListResult
+    requires { ⌜ Room (now tally) (cursor .at) ⌝ }
     ensures { λ r. ⌜ r ≡ listResult (spec.countedUpTo «max_constants» Constants (spec.constant «max_string_bytes») (cursor .at) (drop (cursor .at) (now (s .entry)))) ⌝ }
+    ensures { λ _. ⌜ Adds (spec.countedUpTo «max_constants» Constants (spec.constant «max_string_bytes») (cursor .at) (drop (cursor .at) (now (s .entry)))) (count.counted (spec.constant «max_string_bytes») (count.constant «max_string_bytes») (cursor .at) (drop (cursor .at) (now (s .entry)))) (now (tally .entry)) (now (tally .exit)) ⌝ }
 {
-    let read = count_up_to(s, cursor, max_constants, Refusal::Constants(cursor.at));
+    let read = count_up_to(
+        s,
+        cursor,
+        max_constants,
+        Refusal::Constants(cursor.at),
+        tally,
+    );
     match read {
         U64Result::Err(refusal) => ListResult::Err(refusal),
         U64Result::Ok { value, next } => {
             let count = value as usize;
+            if count == 0 {
+                return listed(CursorResult::Ok(next), count, next.at);
+            }
             listed(
-                skip_constants(s, next, count, max_string_bytes),
+                pass_constants(s, next, count, max_string_bytes, tally),
                 count,
                 next.at,
             )
@@ -84,10 +107,12 @@ pub fn constants_list(
 
 // Passes over the upvalues of a function: their count, which is held to its limit, and three bytes each.
 // Ruled out: the place of the count given as that of the items, one byte an upvalue.
-pub fn upvalues_list(s: &[u8], cursor: Cursor, max_upvalues: usize) -> ListResult
+pub fn upvalues_list(s: &[u8], cursor: Cursor, max_upvalues: usize, tally: &mut Tally) -> ListResult
+    requires { ⌜ Room (now tally) (cursor .at) ⌝ }
     ensures { λ r. ⌜ r ≡ listResult (spec.countedUpTo «max_upvalues» Upvalues spec.upvalue (cursor .at) (drop (cursor .at) (now (s .entry)))) ⌝ }
+    ensures { λ _. ⌜ Adds (spec.countedUpTo «max_upvalues» Upvalues spec.upvalue (cursor .at) (drop (cursor .at) (now (s .entry)))) (count.number (cursor .at) (drop (cursor .at) (now (s .entry)))) (now (tally .entry)) (now (tally .exit)) ⌝ }
 {
-    let read = count_up_to(s, cursor, max_upvalues, Refusal::Upvalues(cursor.at));
+    let read = count_up_to(s, cursor, max_upvalues, Refusal::Upvalues(cursor.at), tally);
     match read {
         U64Result::Err(refusal) => ListResult::Err(refusal),
         U64Result::Ok { value, next } => {
@@ -98,10 +123,12 @@ pub fn upvalues_list(s: &[u8], cursor: Cursor, max_upvalues: usize) -> ListResul
 }
 
 // Passes over the line deltas of a function: their count, and a byte each. Ruled out: place plus size that wraps, the refusal at the place of the count.
-pub fn line_info_list(s: &[u8], cursor: Cursor) -> ListResult
+pub fn line_info_list(s: &[u8], cursor: Cursor, tally: &mut Tally) -> ListResult
+    requires { ⌜ Room (now tally) (cursor .at) ⌝ }
     ensures { λ r. ⌜ r ≡ listResult (lineInfo (cursor .at) (drop (cursor .at) (now (s .entry)))) ⌝ }
+    ensures { λ _. ⌜ Adds (lineInfo (cursor .at) (drop (cursor .at) (now (s .entry)))) (count.number (cursor .at) (drop (cursor .at) (now (s .entry)))) (now (tally .entry)) (now (tally .exit)) ⌝ }
 {
-    let read = read_varint_lua54(s, cursor);
+    let read = tally_varint(s, cursor, tally);
     match read {
         U64Result::Err(refusal) => ListResult::Err(refusal),
         U64Result::Ok { value, next } => {
@@ -112,31 +139,46 @@ pub fn line_info_list(s: &[u8], cursor: Cursor) -> ListResult
 }
 
 // Passes over the anchors of a function: their count, and two numbers each. Ruled out: a limit on anchors, the count of numbers given as that of anchors.
-pub fn anchors_list(s: &[u8], cursor: Cursor) -> ListResult
+pub fn anchors_list(s: &[u8], cursor: Cursor, tally: &mut Tally) -> ListResult
+    requires { ⌜ Room (now tally) (cursor .at) ⌝ }
     ensures { λ r. ⌜ r ≡ listResult (spec.counted spec.anchor (cursor .at) (drop (cursor .at) (now (s .entry)))) ⌝ }
+    ensures { λ _. ⌜ Adds (spec.counted spec.anchor (cursor .at) (drop (cursor .at) (now (s .entry)))) (count.counted spec.anchor count.anchor (cursor .at) (drop (cursor .at) (now (s .entry)))) (now (tally .entry)) (now (tally .exit)) ⌝ }
 {
-    let read = read_varint_lua54(s, cursor);
+    let read = tally_varint(s, cursor, tally);
     match read {
         U64Result::Err(refusal) => ListResult::Err(refusal),
         U64Result::Ok { value, next } => {
             let count = value as usize;
-            listed(skip_anchors(s, next, count), count, next.at)
+            if count == 0 {
+                return listed(CursorResult::Ok(next), count, next.at);
+            }
+            listed(pass_anchors(s, next, count, tally), count, next.at)
         }
     }
 }
 
 // Passes over the local variables of a function: their count, and each with its name and its two numbers.
 // Ruled out: a list that ends at an absent name, the cursor behind the last name.
-pub fn locals_list(s: &[u8], cursor: Cursor, max_string_bytes: usize) -> ListResult
+pub fn locals_list(
+    s: &[u8],
+    cursor: Cursor,
+    max_string_bytes: usize,
+    tally: &mut Tally,
+) -> ListResult
+    requires { ⌜ Room (now tally) (cursor .at) ⌝ }
     ensures { λ r. ⌜ r ≡ listResult (spec.counted (spec.local «max_string_bytes») (cursor .at) (drop (cursor .at) (now (s .entry)))) ⌝ }
+    ensures { λ _. ⌜ Adds (spec.counted (spec.local «max_string_bytes») (cursor .at) (drop (cursor .at) (now (s .entry)))) (count.counted (spec.local «max_string_bytes») (count.local «max_string_bytes») (cursor .at) (drop (cursor .at) (now (s .entry)))) (now (tally .entry)) (now (tally .exit)) ⌝ }
 {
-    let read = read_varint_lua54(s, cursor);
+    let read = tally_varint(s, cursor, tally);
     match read {
         U64Result::Err(refusal) => ListResult::Err(refusal),
         U64Result::Ok { value, next } => {
             let count = value as usize;
+            if count == 0 {
+                return listed(CursorResult::Ok(next), count, next.at);
+            }
             listed(
-                skip_locals(s, next, count, max_string_bytes),
+                pass_locals(s, next, count, max_string_bytes, tally),
                 count,
                 next.at,
             )
@@ -145,16 +187,26 @@ pub fn locals_list(s: &[u8], cursor: Cursor, max_string_bytes: usize) -> ListRes
 }
 
 // Passes over the upvalue names of a function: their count, and each of them. Ruled out: absent names not counted, more names than upvalues refused.
-pub fn names_list(s: &[u8], cursor: Cursor, max_string_bytes: usize) -> ListResult
+pub fn names_list(
+    s: &[u8],
+    cursor: Cursor,
+    max_string_bytes: usize,
+    tally: &mut Tally,
+) -> ListResult
+    requires { ⌜ Room (now tally) (cursor .at) ⌝ }
     ensures { λ r. ⌜ r ≡ listResult (spec.counted (string «max_string_bytes») (cursor .at) (drop (cursor .at) (now (s .entry)))) ⌝ }
+    ensures { λ _. ⌜ Adds (spec.counted (string «max_string_bytes») (cursor .at) (drop (cursor .at) (now (s .entry)))) (count.counted (string «max_string_bytes») count.string (cursor .at) (drop (cursor .at) (now (s .entry)))) (now (tally .entry)) (now (tally .exit)) ⌝ }
 {
-    let read = read_varint_lua54(s, cursor);
+    let read = tally_varint(s, cursor, tally);
     match read {
         U64Result::Err(refusal) => ListResult::Err(refusal),
         U64Result::Ok { value, next } => {
             let count = value as usize;
+            if count == 0 {
+                return listed(CursorResult::Ok(next), count, next.at);
+            }
             listed(
-                skip_strings(s, next, count, max_string_bytes),
+                pass_strings(s, next, count, max_string_bytes, tally),
                 count,
                 next.at,
             )
@@ -169,12 +221,15 @@ fn instruction_count(
     max_instructions_per_proto: usize,
     instructions_before: usize,
     max_total_instructions: usize,
+    tally: &mut Tally,
 ) -> U64Result
+    requires { ⌜ Room (now tally) (cursor .at) ⌝ }
     ensures { λ r. ⌜ r ≡ u64Result (codeCount «max_instructions_per_proto» «instructions_before» «max_total_instructions» (cursor .at) (drop (cursor .at) (now (s .entry)))) ⌝ }
+    ensures { λ _. ⌜ Adds (codeCount «max_instructions_per_proto» «instructions_before» «max_total_instructions» (cursor .at) (drop (cursor .at) (now (s .entry)))) (count.number (cursor .at) (drop (cursor .at) (now (s .entry)))) (now (tally .entry)) (now (tally .exit)) ⌝ }
 {
     let first = cursor.at;
     let refusal = Refusal::Instructions(first);
-    let read = count_up_to(s, cursor, max_instructions_per_proto, refusal);
+    let read = count_up_to(s, cursor, max_instructions_per_proto, refusal, tally);
     let U64Result::Ok { value, next: _ } = read else {
         return read;
     };
@@ -195,8 +250,11 @@ pub fn instructions_list(
     max_instructions_per_proto: usize,
     instructions_before: usize,
     max_total_instructions: usize,
+    tally: &mut Tally,
 ) -> ListResult
+    requires { ⌜ Room (now tally) (cursor .at) ⌝ }
     ensures { λ r. ⌜ r ≡ listResult (code «max_instructions_per_proto» «instructions_before» «max_total_instructions» (cursor .at) (drop (cursor .at) (now (s .entry)))) ⌝ }
+    ensures { λ _. ⌜ Adds (code «max_instructions_per_proto» «instructions_before» «max_total_instructions» (cursor .at) (drop (cursor .at) (now (s .entry)))) (count.number (cursor .at) (drop (cursor .at) (now (s .entry)))) (now (tally .entry)) (now (tally .exit)) ⌝ }
 {
     let read = instruction_count(
         s,
@@ -204,6 +262,7 @@ pub fn instructions_list(
         max_instructions_per_proto,
         instructions_before,
         max_total_instructions,
+        tally,
     );
     match read {
         U64Result::Err(refusal) => ListResult::Err(refusal),
@@ -215,11 +274,18 @@ pub fn instructions_list(
 }
 
 // How many functions nest in this one. Ruled out: a count above the limit accepted, the place behind the count as that of its refusal.
-pub fn protos_count(s: &[u8], cursor: Cursor, max_total_prototypes: usize) -> ListResult
+pub fn protos_count(
+    s: &[u8],
+    cursor: Cursor,
+    max_total_prototypes: usize,
+    tally: &mut Tally,
+) -> ListResult
+    requires { ⌜ Room (now tally) (cursor .at) ⌝ }
     ensures { λ r. ⌜ r ≡ countResult (protosCount «max_total_prototypes» (cursor .at) (drop (cursor .at) (now (s .entry)))) ⌝ }
+    ensures { λ _. ⌜ Adds (protosCount «max_total_prototypes» (cursor .at) (drop (cursor .at) (now (s .entry)))) (count.number (cursor .at) (drop (cursor .at) (now (s .entry)))) (now (tally .entry)) (now (tally .exit)) ⌝ }
 {
     let refusal = Refusal::Prototypes(cursor.at);
-    let read = count_up_to(s, cursor, max_total_prototypes, refusal);
+    let read = count_up_to(s, cursor, max_total_prototypes, refusal, tally);
     match read {
         U64Result::Err(refusal) => ListResult::Err(refusal),
         U64Result::Ok { value, next } => ListResult::Ok {

@@ -89,7 +89,9 @@ fn go_up(s: &[u8], limits: ResourceLimits, left: &Levels, depth: usize, cursor: 
         if d == 0 {
             return Up::End;
         }
-        let TailResult::Ok { tail: _, next } = read_tail(s, limits.max_string_bytes, i) else {
+        let mut unused = [0usize; 3];
+        let TailResult::Ok { tail: _, next } = read_tail(s, limits.max_string_bytes, i, &mut unused)
+        else {
             return Up::End;
         };
         i = next;
@@ -117,7 +119,8 @@ pub fn next_function(
     let Up::At(d, place) = go_up(s, limits, left, depth, cursor) else {
         return Met::End;
     };
-    let HeadResult::Ok { head, next } = read_head(s, limits, 0, place) else {
+    let mut unused = [0usize; 3];
+    let HeadResult::Ok { head, next } = read_head(s, limits, 0, place, &mut unused) else {
         return Met::End;
     };
     let row = row_of(d, head);

@@ -11,7 +11,7 @@ use format::entry::UpvalueDesc;
 use format::refusal::Refusal;
 use read_entry::constant::ConstantResult;
 use read_entry::constant::read_constant;
-use read_entry::constant::skip_constants;
+use read_entry::pass::pass_constants;
 use read_entry::runs::skip_upvalues;
 use read_entry::runs::skip_words;
 use read_field::field::U8Result;
@@ -46,7 +46,8 @@ pub fn nth_constant(
 ) -> ConstantResult
     ensures { λ r. ⌜ r ≡ constantResult (entryAt entry (spec.constant «max_string_bytes») (cursor .at) (drop (cursor .at) (now (s .entry)))) ⌝ }
 {
-    let passed = skip_constants(s, cursor, entry, max_string_bytes);
+    let mut unused = [0usize; 3];
+    let passed = pass_constants(s, cursor, entry, max_string_bytes, &mut unused);
     match passed {
         CursorResult::Err(refusal) => ConstantResult::Err(refusal),
         CursorResult::Ok(next) => read_constant(s, next, max_string_bytes),

@@ -10,9 +10,9 @@ use read_entry::debug::AnchorResult;
 use read_entry::debug::LocalResult;
 use read_entry::debug::read_anchor;
 use read_entry::debug::read_local;
-use read_entry::debug::skip_anchors;
-use read_entry::debug::skip_locals;
-use read_entry::strings::skip_strings;
+use read_entry::pass::pass_anchors;
+use read_entry::pass::pass_locals;
+use read_entry::pass::pass_strings;
 use read_field::field::U8Result;
 use read_field::field::read_u8;
 use read_field::string::StringResult;
@@ -36,7 +36,8 @@ pub fn nth_delta(s: &[u8], cursor: Cursor, entry: usize) -> U8Result
 pub fn nth_anchor(s: &[u8], cursor: Cursor, entry: usize) -> AnchorResult
     ensures { λ r. ⌜ r ≡ anchorResult (entryAt entry spec.anchor (cursor .at) (drop (cursor .at) (now (s .entry)))) ⌝ }
 {
-    let passed = skip_anchors(s, cursor, entry);
+    let mut unused = [0usize; 3];
+    let passed = pass_anchors(s, cursor, entry, &mut unused);
     match passed {
         CursorResult::Err(refusal) => AnchorResult::Err(refusal),
         CursorResult::Ok(next) => read_anchor(s, next),
@@ -47,7 +48,8 @@ pub fn nth_anchor(s: &[u8], cursor: Cursor, entry: usize) -> AnchorResult
 pub fn nth_local(s: &[u8], cursor: Cursor, entry: usize, max_string_bytes: usize) -> LocalResult
     ensures { λ r. ⌜ r ≡ localResult (localAt entry «max_string_bytes» (cursor .at) (drop (cursor .at) (now (s .entry)))) ⌝ }
 {
-    let passed = skip_locals(s, cursor, entry, max_string_bytes);
+    let mut unused = [0usize; 3];
+    let passed = pass_locals(s, cursor, entry, max_string_bytes, &mut unused);
     match passed {
         CursorResult::Err(refusal) => LocalResult::Err(refusal),
         CursorResult::Ok(next) => read_local(s, next, max_string_bytes),
@@ -58,7 +60,8 @@ pub fn nth_local(s: &[u8], cursor: Cursor, entry: usize, max_string_bytes: usize
 pub fn nth_name(s: &[u8], cursor: Cursor, entry: usize, max_string_bytes: usize) -> StringResult
     ensures { λ r. ⌜ r ≡ stringResult (entryAt entry (string «max_string_bytes») (cursor .at) (drop (cursor .at) (now (s .entry)))) ⌝ }
 {
-    let passed = skip_strings(s, cursor, entry, max_string_bytes);
+    let mut unused = [0usize; 3];
+    let passed = pass_strings(s, cursor, entry, max_string_bytes, &mut unused);
     match passed {
         CursorResult::Err(refusal) => StringResult::Err(refusal),
         CursorResult::Ok(next) => read_string_lua54(s, next, max_string_bytes),

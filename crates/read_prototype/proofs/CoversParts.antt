@@ -4,7 +4,7 @@ use Prim.Native.Nat.{ℕ}
 use Rattle.format.specs.declared.limits.ResourceLimits.{ResourceLimits}
 use Rattle.format.specs.declared.refusal.Refusal.the-variants.{Constants, Upvalues}
 use Rattle.format.specs.ReadChunk as reader
-use Rattle.format.specs.ReadFields.{string}
+use Rattle.format.specs.ReadFields.{number, string}
 use Rattle.format.proofs.Exact.{exact-give}
 use Rattle.format.proofs.ExactFields.{exact-number, exact-field, exact-string}
 use Rattle.format.proofs.ExactChunk.{exact-counted, exact-countedUpTo, exact-constant, exact-upvalue, exact-anchor, exact-local}
@@ -12,11 +12,17 @@ use Rattle.format_spelling.specs.ReadSpelling as count
 use Rattle.format_spelling.proofs.SpellingLaws.{tells-number, tells-string, tells-counted, tells-countedUpTo, tells-constant, tells-anchor, tells-local}
 use Rattle.format_spelling.proofs.Few.{few-number, few-string, few-counted, few-countedUpTo, few-constant, few-anchor, few-local}
 use Rattle.format_spelling.proofs.Covers.{Covers, covers-few, covers-none, covers-number, covers-then, covers-last}
-use Rattle.read_entry.specs.Readers.{code, lineInfo, protosCount}
 use Rattle.read_list.proofs.Within.{exact-code, exact-lineInfo, exact-protosCount}
 use Rattle.read_prototype.specs.Front.{lines, sizes, front}
 use Rattle.read_prototype.specs.Parts.{headLists, head, tail}
 use Rattle.read_prototype.specs.PartsSpelt as spelt
+
+-- ## Fields
+pub covers-one : Covers number count.number
+covers-one = covers-few exact-number tells-number few-number
+
+pub covers-string : (limit : ℕ) → Covers (string limit) count.string
+covers-string limit = covers-few (exact-string limit) (tells-string limit) (few-string limit)
 
 -- ## Lists
 pub covers-constants : (limit bytes : ℕ) → Covers (reader.countedUpTo limit Constants (reader.constant bytes)) (count.counted (reader.constant bytes) (count.constant bytes))
@@ -33,13 +39,13 @@ covers-names limit = covers-few (exact-counted (exact-string limit)) (tells-coun
 
 -- ## Parts
 pub covers-lines : Covers lines spelt.lines
-covers-lines = covers-then (covers-few exact-number tells-number few-number) λ _. covers-last (covers-few exact-number tells-number few-number) λ _. covers-none (exact-give _)
+covers-lines = covers-then covers-one λ _. covers-last covers-one λ _. covers-none (exact-give _)
 
 pub covers-sizes : Covers sizes count.none
 covers-sizes = covers-last (covers-none (exact-field 1)) λ _. covers-last (covers-none (exact-field 1)) λ _. covers-last (covers-none (exact-field 1)) λ _. covers-none (exact-give _)
 
 pub covers-front : (limit : ℕ) → Covers (front limit) (spelt.front limit)
-covers-front limit = covers-then (covers-few (exact-string limit) (tells-string limit) (few-string limit)) λ _. covers-last covers-lines λ _. covers-last covers-sizes λ _. covers-none (exact-give _)
+covers-front limit = covers-then (covers-string limit) λ _. covers-last covers-lines λ _. covers-last covers-sizes λ _. covers-none (exact-give _)
 
 pub covers-lists : (L : ResourceLimits) (before : ℕ) → Covers (headLists L before) (spelt.headLists L before)
 covers-lists L before =

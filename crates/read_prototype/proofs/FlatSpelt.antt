@@ -10,7 +10,7 @@ use native.Mathlib.Omega.{arith}
 use lib.Dec.{leb}
 use lib.ListN.{length}
 use Rattle.format.specs.declared.limits.ResourceLimits.{ResourceLimits}
-use Rattle.format.specs.declared.refusal.Refusal.the-variants.{Instructions, TotalInstructions, Constants, Upvalues, Prototypes}
+use Rattle.format.specs.declared.refusal.Refusal.the-variants.{Instructions, TotalInstructions, Prototypes}
 use Rattle.format.specs.Form.{Bytes}
 use Rattle.format.specs.GrammarFields.{LuaString}
 use Rattle.format.specs.declared.entry.UpvalueDesc.{UpvalueDesc}
@@ -28,12 +28,11 @@ use Rattle.format_spelling.proofs.Passing.{Ran, ran, Gave, gave, past, stepped,
 use Rattle.read_entry.specs.Readers.{code, lineInfo, protosCount}
 use Rattle.read_entry.specs.Readers as entry
 use Rattle.read_list.proofs.Listing.{behindCount}
-use Rattle.read_prototype.specs.declared.front.Lines.{Lines}
-use Rattle.read_prototype.specs.declared.front.Sizes.{Sizes}
 use Rattle.read_prototype.specs.Front.{Front, lines, sizes, front}
 use Rattle.read_prototype.specs.Parts.{HeadLists, headLists, Head, head}
 use Rattle.read_prototype.specs.Inner.Whole.{inside}
 use Rattle.read_prototype.specs.PartsSpelt as spelt
+use Rattle.read_prototype.proofs.HeadAnswers.{codes, constants, upvalues}
 
 -- ## What the readers read that a part is made of
 -- of a list of words its count and the words
@@ -89,15 +88,6 @@ module _ (limit : ℕ) (w : Where) (at : ℕ) (s : Bytes) {f : Front} {to : ℕ}
       rw (source, a .one, l₁ .one, l₂ .one, s₁ .one, s₂ .one, s₃ .one) (front-sum (count.string at s) (dropping w (a .value)) (count.number (a .mid) (a .left)) (count.number (l₁ .mid) (l₁ .left)) (later (a .value) to rest))
 
 module _ (L : ResourceLimits) (before at : ℕ) (s : Bytes) {l : HeadLists} {to : ℕ} {rest : Bytes} (e : headLists L before at s ≡ ok l to rest) (later : List ℕ → Count) where
-  abbrev codes : Reader (Listed ℕ)
-  codes = code (L .«max_instructions_per_proto») before (L .«max_total_instructions»)
-
-  abbrev constants : Reader (Listed ConstantValue)
-  constants = reader.countedUpTo (L .«max_constants_per_proto») Constants (reader.constant (L .«max_string_bytes»))
-
-  abbrev upvalues : Reader (Listed UpvalueDesc)
-  upvalues = reader.countedUpTo (L .«max_upvalues_per_proto») Upvalues reader.upvalue
-
   abbrev spelt-constants : Count
   spelt-constants = count.counted (reader.constant (L .«max_string_bytes»)) (count.constant (L .«max_string_bytes»))
 
@@ -108,24 +98,24 @@ module _ (L : ResourceLimits) (before at : ℕ) (s : Bytes) {l : HeadLists} {to 
   from-code =
       plus number count.number λ size.
       plus (many size (field 4)) none λ instructions.
-      plus constants spelt-constants λ constants.
-      plus upvalues (count.counted reader.upvalue none) λ upvalues.
+      plus (constants L) spelt-constants λ constants.
+      plus (upvalues L) (count.counted reader.upvalue none) λ upvalues.
       later instructions
 
   lists-steps : {n a₁ : ℕ} {s₁ : Bytes} {xs : List ℕ} {a₂ : ℕ} {s₂ : Bytes} {k : Listed ConstantValue} {a₃ : ℕ} {s₃ : Bytes} {u : Listed UpvalueDesc} {a₄ : ℕ} {s₄ : Bytes}
-      → number at s ≡ ok n a₁ s₁ → many n (field 4) a₁ s₁ ≡ ok xs a₂ s₂ → constants a₂ s₂ ≡ ok k a₃ s₃ → upvalues a₃ s₃ ≡ ok u a₄ s₄
+      → number at s ≡ ok n a₁ s₁ → many n (field 4) a₁ s₁ ≡ ok xs a₂ s₂ → constants L a₂ s₂ ≡ ok k a₃ s₃ → upvalues L a₃ s₃ ≡ ok u a₄ s₄
       → from-code at s ≡ count.number at s ⊕ (same ⊕ (spelt-constants a₂ s₂ ⊕ (count.counted reader.upvalue none a₃ s₃ ⊕ later xs a₄ s₄)))
   lists-steps one two three four = rw (one, two, three, four)
 
-  lists-count : {i : Listed ℕ} {a₂ : ℕ} {s₂ : Bytes} {k : Listed ConstantValue} {a₃ : ℕ} {s₃ : Bytes} → codes at s ≡ ok i a₂ s₂ → constants a₂ s₂ ≡ ok k a₃ s₃
+  lists-count : {i : Listed ℕ} {a₂ : ℕ} {s₂ : Bytes} {k : Listed ConstantValue} {a₃ : ℕ} {s₃ : Bytes} → codes L before at s ≡ ok i a₂ s₂ → constants L a₂ s₂ ≡ ok k a₃ s₃
       → spelt.headLists L before at s ≡ count.number at s ⊕ (spelt-constants a₂ s₂ ⊕ count.number a₃ s₃)
   lists-count one two = rw (one, two)
 
   lists-spelt : from-code at s ≡ spelt.headLists L before at s ⊕ later (l .instructions .items) to rest
   lists-spelt =
-      let a : Ran codes (λ i. constants >>= λ k. upvalues >>= λ u. give (record { instructions = i; constants = k; upvalues = u })) at s l to rest = ran e in
-      let b : Ran constants (λ k. upvalues >>= λ u. give (record { instructions = a .value; constants = k; upvalues = u })) (a .mid) (a .left) l to rest = ran (a .two) in
-      let c : Gave upvalues (λ u. record { instructions = a .value; constants = b .value; upvalues = u }) (b .mid) (b .left) l to rest = gave (b .two) in
+      let a : Ran (codes L before) (λ i. constants L >>= λ k. upvalues L >>= λ u. give (record { instructions = i; constants = k; upvalues = u })) at s l to rest = ran e in
+      let b : Ran (constants L) (λ k. upvalues L >>= λ u. give (record { instructions = a .value; constants = k; upvalues = u })) (a .mid) (a .left) l to rest = ran (a .two) in
+      let c : Gave (upvalues L) (λ u. record { instructions = a .value; constants = b .value; upvalues = u }) (b .mid) (b .left) l to rest = gave (b .two) in
       let words = code-ran (L .«max_instructions_per_proto») before (L .«max_total_instructions») at s (a .one) in
       let same-code : a .value .items ≡ l .instructions .items = ap (λ l. l .instructions .items) (c .is) in
       lists-steps (words .one) (words .two) (b .one) (c .one)

@@ -1,6 +1,9 @@
 -- The answers of `read_lines`, `read_sizes` and `read_front`, in the code's terms: by what the calls showed.
+--     ..-room          there is room behind a part that was read
+--     ..-add           what the parts add, the whole adds
 -- Assumes nothing.
-use mathlib.Core.Path.{_≡_, refl, sym, _∙_, ap}
+use mathlib.Core.Path.{_≡_, sym, _∙_, ap}
+use mathlib.Core.List.{List}
 use Prim.Native.Nat.{ℕ}
 use native.Mathlib.Omega.{arith}
 use lib.ListN.{drop}
@@ -8,25 +11,29 @@ use Rattle.format.specs.declared.refusal.Refusal.{Refusal}
 use Rattle.format.specs.Form.{Bytes, Form, Then, Is}
 use Rattle.format.specs.GrammarFields.{Field, Number, String}
 use Rattle.format.specs.Read.{Read, ok, refused}
-use Rattle.format.specs.ReadFields.{field, number, string}
+use Rattle.format.specs.ReadFields.{number, string}
 use Rattle.format.proofs.Exact.{Exact, exact-then, exact-give}
 use Rattle.format.proofs.ExactFields.{exact-field, exact-number, exact-string}
+use Rattle.format_spelling.specs.ReadSpelling as count
+use Rattle.format_spelling.specs.Inner.Tally.{Room, Adds}
+use Rattle.format_spelling.proofs.Tallies.{room-on, adds-value}
 use Rattle.slice.specs.declared.cursor.Cursor.{Cursor}
-use Rattle.read_field.specs.declared.field.U8Result.the-variants as u8
 use Rattle.read_field.specs.declared.field.U64Result.the-variants as u64
 use Rattle.read_field.specs.declared.string.OptionString.{OptionString}
 use Rattle.read_field.specs.declared.string.StringResult.the-variants as str
 use Rattle.slice.specs.Shown.{cursorAt}
-use Rattle.read_field.specs.Shown.{u8Result, u64Result, stringResult}
-use Rattle.read_field.proofs.Shows.{Was, onward, u8-err, u64-err, string-err, string-ok}
+use Rattle.read_field.specs.Shown.{u64Result, stringResult}
+use Rattle.read_field.proofs.Shows.{Was, onward, u64-err, string-err, string-ok}
 use Rattle.read_prototype.specs.declared.front.Lines.{Lines}
 use Rattle.read_prototype.specs.declared.front.LinesResult.the-variants as lines-answer
 use Rattle.read_prototype.specs.declared.front.Sizes.{Sizes}
 use Rattle.read_prototype.specs.declared.front.SizesResult.the-variants as sizes-answer
 use Rattle.read_prototype.specs.declared.front.FrontResult.the-variants as front-answer
 use Rattle.read_prototype.specs.Front.{Front, lines, sizes, front}
+use Rattle.read_prototype.specs.PartsSpelt as spelt
 use Rattle.read_prototype.specs.Inner.Results.{linesResult, sizesResult, frontResult}
-use Rattle.read_prototype.proofs.On.{u8-on, u64-on, taken, stopped}
+use Rattle.read_prototype.proofs.CoversParts.{covers-one, covers-string}
+use Rattle.read_prototype.proofs.On.{u64-on, taken, stopped, adds-taken}
 
 -- ## Two numbers
 module _ (s : Bytes) (at : ℕ) where
@@ -41,8 +48,15 @@ module _ (s : Bytes) (at : ℕ) where
         → lines-answer.Ok (record { «line_defined» = v; «last_line_defined» = u }) d ≡ linesResult (lines at (drop at s))
     two-lines u d f = rw (u64-on s at exact-number v c e, u64-on s (c .at) exact-number u d f)
 
+    pub first-room : {t t₁ : List ℕ} → Room t at → Adds (number at (drop at s)) (count.number at (drop at s)) t t₁ → Room t₁ (c .at)
+    first-room room = room-on covers-one at (drop at s) room (u64-on s at exact-number v c e)
+
+    pub lines-add : {t t₁ t₂ : List ℕ} → Adds (number at (drop at s)) (count.number at (drop at s)) t t₁ → Adds (number (c .at) (drop (c .at) s)) (count.number (c .at) (drop (c .at) s)) t₁ t₂
+        → Adds (lines at (drop at s)) (spelt.lines at (drop at s)) t t₂
+    lines-add one two = adds-taken _ _ (u64-on s at exact-number v c e) one (adds-value _ _ two)
+
 -- ## The front
-lines-err : (o : Read Lines) (q : Refusal) → lines-answer.Err q ≡ linesResult o → o ≡ refused q
+pub lines-err : (o : Read Lines) (q : Refusal) → lines-answer.Err q ≡ linesResult o → o ≡ refused q
 lines-err (ok x to rest) q e = absurd (let z : _≡_ {A = ℕ} 0 1 = cc in omega arith)
 lines-err (refused p) q e = cc
 
@@ -63,6 +77,10 @@ sizes-ok (ok w to rest) x c e =
     let next : c ≡ cursorAt to = cc in
     record { rest = rest; is = rw (value, next) }
 sizes-ok (refused p) x c e = absurd (let z : _≡_ {A = ℕ} 0 1 = cc in omega arith)
+
+pub front-err : (o : Read Front) (q : Refusal) → front-answer.Err q ≡ frontResult o → o ≡ refused q
+front-err (ok x to rest) q e = absurd (let z : _≡_ {A = ℕ} 0 1 = cc in omega arith)
+front-err (refused p) q e = cc
 
 -- they read exactly a form
 abbrev LinesForm : Form Lines
@@ -97,6 +115,13 @@ module _ (s : Bytes) (limit at : ℕ) where
   module _ (t : OptionString) (c : Cursor) (e : str.Ok t c ≡ stringResult (string limit at (drop at s))) where
     source : string limit at (drop at s) ≡ ok (string-ok (string limit at (drop at s)) t c e .value) (c .at) (drop (c .at) s)
     source = onward (exact-string limit) s at (string-ok (string limit at (drop at s)) t c e .was)
+
+    pub source-room : {k k₁ : List ℕ} → Room k at → Adds (string limit at (drop at s)) (count.string at (drop at s)) k k₁ → Room k₁ (c .at)
+    source-room room = room-on (covers-string limit) at (drop at s) room source
+
+    pub front-add : {k k₁ k₂ : List ℕ} → Adds (string limit at (drop at s)) (count.string at (drop at s)) k k₁ → Adds (lines (c .at) (drop (c .at) s)) (spelt.lines (c .at) (drop (c .at) s)) k₁ k₂
+        → Adds (front limit at (drop at s)) (spelt.front limit at (drop at s)) k k₂
+    front-add one two = adds-taken _ _ source one (adds-value _ _ two)
 
     pub lines-refused : (q : Refusal) → lines-answer.Err q ≡ linesResult (lines (c .at) (drop (c .at) s)) → front-answer.Err q ≡ frontResult (front limit at (drop at s))
     lines-refused q f = sym (ap frontResult (taken _ source ∙ stopped _ (lines-err (lines (c .at) (drop (c .at) s)) q f)))

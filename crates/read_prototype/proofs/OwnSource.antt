@@ -1,6 +1,6 @@
 -- A function's head with its own source, which the head's readers leave to who knows the function's number: together, too, they have no more than bytes.
 -- Assumes nothing.
-use mathlib.Core.Path.{_≡_, refl, sym, _∙_, ap, ap₂, subst}
+use mathlib.Core.Path.{_≡_, sym, _∙_, ap, ap₂, subst}
 use Prim.Native.Nat.{ℕ}
 use native.Mathlib.Omega.{arith}
 use Rattle.format.specs.declared.limits.ResourceLimits.{ResourceLimits}
@@ -14,10 +14,11 @@ use Rattle.format.specs.declared.spelling.Spelling.{Spelling}
 use Rattle.format_spelling.specs.Spelling.{_⊕_, dropping}
 use Rattle.format_spelling.specs.ReadSpelling.{Count, plus}
 use Rattle.format_spelling.specs.ReadSpelling as count
+use Rattle.format_spelling.specs.Inner.Tally.{Between}
 use Rattle.format_spelling.proofs.Sums.{spelling-path}
 use Rattle.format_spelling.proofs.SpellingLaws.{tells-source}
 use Rattle.format_spelling.proofs.Few.{few-source}
-use Rattle.format_spelling.proofs.Covers.{Between, Covers, covers-few, covers-none, covers-number, covers-then, covers-last}
+use Rattle.format_spelling.proofs.Covers.{Covers, covers-few, covers-none, covers-number, covers-then, covers-last}
 use Rattle.format_spelling.proofs.Passing.{Ran, ran, Gave, gave, stepped}
 use Rattle.read_entry.specs.Readers.{protosCount}
 use Rattle.read_list.proofs.Within.{exact-protosCount}

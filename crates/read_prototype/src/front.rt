@@ -1,16 +1,19 @@
 // What stands at the front of a function: its source, its lines and three bytes.
 ghost use mathlib.Core.Path.{_≡_};
 ghost use lib.ListN.{drop};
+ghost use Rattle.format_spelling.specs.Inner.Tally.{Room, Adds};
 ghost use Rattle.read_prototype.specs.Front.{lines, sizes, front};
+ghost use Rattle.read_prototype.specs.PartsSpelt as spelt;
 ghost use Rattle.read_prototype.specs.Inner.Results.{linesResult, sizesResult, frontResult};
 use format::refusal::Refusal;
+use format_spelling::tally::Tally;
 use read_field::field::U8Result;
 use read_field::field::U64Result;
 use read_field::field::read_u8;
 use read_field::string::OptionString;
 use read_field::string::StringResult;
-use read_field::string::read_string_lua54;
-use read_field::varint::read_varint_lua54;
+use read_field::string::tally_string;
+use read_field::varint::tally_varint;
 use slice::cursor::Cursor;
 
 // The lines between which a function is defined.
@@ -24,17 +27,19 @@ pub enum LinesResult {
     Err(Refusal),
 }
 
-fn read_lines(s: &[u8], cursor: Cursor) -> LinesResult
+fn read_lines(s: &[u8], cursor: Cursor, tally: &mut Tally) -> LinesResult
+    requires { ⌜ Room (now tally) (cursor .at) ⌝ }
     ensures { λ r. ⌜ r ≡ linesResult (lines (cursor .at) (drop (cursor .at) (now (s .entry)))) ⌝ }
+    ensures { λ _. ⌜ Adds (lines (cursor .at) (drop (cursor .at) (now (s .entry)))) (spelt.lines (cursor .at) (drop (cursor .at) (now (s .entry)))) (now (tally .entry)) (now (tally .exit)) ⌝ }
 {
-    let first = read_varint_lua54(s, cursor);
+    let first = tally_varint(s, cursor, tally);
     match first {
         U64Result::Err(refusal) => LinesResult::Err(refusal),
         U64Result::Ok {
             value: line_defined,
             next: behind,
         } => {
-            let last = read_varint_lua54(s, behind);
+            let last = tally_varint(s, behind, tally);
             match last {
                 U64Result::Err(refusal) => LinesResult::Err(refusal),
                 U64Result::Ok { value, next } => LinesResult::Ok {
@@ -108,17 +113,24 @@ pub enum FrontResult {
 }
 
 // A function from its source to its three bytes. Ruled out: an absent source that is shown as empty, the two lines exchanged.
-pub fn read_front(s: &[u8], cursor: Cursor, max_string_bytes: usize) -> FrontResult
+pub fn read_front(
+    s: &[u8],
+    cursor: Cursor,
+    max_string_bytes: usize,
+    tally: &mut Tally,
+) -> FrontResult
+    requires { ⌜ Room (now tally) (cursor .at) ⌝ }
     ensures { λ r. ⌜ r ≡ frontResult (front «max_string_bytes» (cursor .at) (drop (cursor .at) (now (s .entry)))) ⌝ }
+    ensures { λ _. ⌜ Adds (front «max_string_bytes» (cursor .at) (drop (cursor .at) (now (s .entry)))) (spelt.front «max_string_bytes» (cursor .at) (drop (cursor .at) (now (s .entry)))) (now (tally .entry)) (now (tally .exit)) ⌝ }
 {
-    let name = read_string_lua54(s, cursor, max_string_bytes);
+    let name = tally_string(s, cursor, max_string_bytes, tally);
     match name {
         StringResult::Err(refusal) => FrontResult::Err(refusal),
         StringResult::Ok {
             string: source,
             next: behind,
         } => {
-            let between = read_lines(s, behind);
+            let between = read_lines(s, behind, tally);
             match between {
                 LinesResult::Err(refusal) => FrontResult::Err(refusal),
                 LinesResult::Ok {

@@ -1,14 +1,17 @@
 // A function before and behind the functions that nest in it.
 ghost use mathlib.Core.Path.{_≡_};
 ghost use lib.ListN.{drop};
+ghost use Rattle.format_spelling.specs.Inner.Tally.{Room, Adds};
 ghost use Rattle.read_prototype.specs.Parts as parts;
 ghost use Rattle.read_prototype.specs.PartsShown.{headListsResult, headResult, tailResult};
+ghost use Rattle.read_prototype.specs.PartsSpelt as spelt;
 use crate::front::Front;
 use crate::front::FrontResult;
 use crate::front::read_front;
 use crate::row::ListAt;
 use format::limits::ResourceLimits;
 use format::refusal::Refusal;
+use format_spelling::tally::Tally;
 use read_list::ListResult;
 use read_list::anchors_list;
 use read_list::constants_list;
@@ -52,11 +55,21 @@ fn read_head_lists(
     limits: ResourceLimits,
     before: usize,
     cursor: Cursor,
+    tally: &mut Tally,
 ) -> HeadListsResult
+    requires { ⌜ Room (now tally) (cursor .at) ⌝ }
     ensures { λ r. ⌜ r ≡ headListsResult (parts.headLists limits before (cursor .at) (drop (cursor .at) (now (s .entry)))) ⌝ }
+    ensures { λ _. ⌜ Adds (parts.headLists limits before (cursor .at) (drop (cursor .at) (now (s .entry)))) (spelt.headLists limits before (cursor .at) (drop (cursor .at) (now (s .entry)))) (now (tally .entry)) (now (tally .exit)) ⌝ }
 {
     let most = limits.max_instructions_per_proto;
-    let code = instructions_list(s, cursor, most, before, limits.max_total_instructions);
+    let code = instructions_list(
+        s,
+        cursor,
+        most,
+        before,
+        limits.max_total_instructions,
+        tally,
+    );
     let code = match code {
         ListResult::Err(refusal) => return HeadListsResult::Err(refusal),
         ListResult::Ok { count, place, next } => passed(count, place, next),
@@ -66,12 +79,13 @@ fn read_head_lists(
         code.next,
         limits.max_constants_per_proto,
         limits.max_string_bytes,
+        tally,
     );
     let k = match k {
         ListResult::Err(refusal) => return HeadListsResult::Err(refusal),
         ListResult::Ok { count, place, next } => passed(count, place, next),
     };
-    let u = upvalues_list(s, k.next, limits.max_upvalues_per_proto);
+    let u = upvalues_list(s, k.next, limits.max_upvalues_per_proto, tally);
     let u = match u {
         ListResult::Err(refusal) => return HeadListsResult::Err(refusal),
         ListResult::Ok { count, place, next } => passed(count, place, next),
@@ -102,24 +116,32 @@ pub enum HeadResult {
 }
 
 // A function up to the functions that nest in it. Ruled out: a limit of another list, nested functions counted from the wrong place.
-pub fn read_head(s: &[u8], limits: ResourceLimits, before: usize, cursor: Cursor) -> HeadResult
+pub fn read_head(
+    s: &[u8],
+    limits: ResourceLimits,
+    before: usize,
+    cursor: Cursor,
+    tally: &mut Tally,
+) -> HeadResult
+    requires { ⌜ Room (now tally) (cursor .at) ⌝ }
     ensures { λ r. ⌜ r ≡ headResult (parts.head limits before (cursor .at) (drop (cursor .at) (now (s .entry)))) ⌝ }
+    ensures { λ _. ⌜ Adds (parts.head limits before (cursor .at) (drop (cursor .at) (now (s .entry)))) (spelt.head limits before (cursor .at) (drop (cursor .at) (now (s .entry)))) (now (tally .entry)) (now (tally .exit)) ⌝ }
 {
-    let begins = read_front(s, cursor, limits.max_string_bytes);
+    let begins = read_front(s, cursor, limits.max_string_bytes, tally);
     match begins {
         FrontResult::Err(refusal) => HeadResult::Err(refusal),
         FrontResult::Ok {
             front: front,
             next: behind,
         } => {
-            let middle = read_head_lists(s, limits, before, behind);
+            let middle = read_head_lists(s, limits, before, behind, tally);
             match middle {
                 HeadListsResult::Err(refusal) => HeadResult::Err(refusal),
                 HeadListsResult::Ok {
                     lists: lists,
                     next: further,
                 } => {
-                    let nested = protos_count(s, further, limits.max_total_prototypes);
+                    let nested = protos_count(s, further, limits.max_total_prototypes, tally);
                     match nested {
                         ListResult::Err(refusal) => HeadResult::Err(refusal),
                         ListResult::Ok { count, place, next } => HeadResult::Ok {
@@ -153,25 +175,27 @@ pub enum TailResult {
 }
 
 // A function behind the functions that nest in it. Ruled out: anchors taken for locals, the cursor before the names.
-pub fn read_tail(s: &[u8], max_string_bytes: usize, cursor: Cursor) -> TailResult
+pub fn read_tail(s: &[u8], max_string_bytes: usize, cursor: Cursor, tally: &mut Tally) -> TailResult
+    requires { ⌜ Room (now tally) (cursor .at) ⌝ }
     ensures { λ r. ⌜ r ≡ tailResult (parts.tail «max_string_bytes» (cursor .at) (drop (cursor .at) (now (s .entry)))) ⌝ }
+    ensures { λ _. ⌜ Adds (parts.tail «max_string_bytes» (cursor .at) (drop (cursor .at) (now (s .entry)))) (spelt.tail «max_string_bytes» (cursor .at) (drop (cursor .at) (now (s .entry)))) (now (tally .entry)) (now (tally .exit)) ⌝ }
 {
-    let deltas = line_info_list(s, cursor);
+    let deltas = line_info_list(s, cursor, tally);
     let deltas = match deltas {
         ListResult::Err(refusal) => return TailResult::Err(refusal),
         ListResult::Ok { count, place, next } => passed(count, place, next),
     };
-    let anchors = anchors_list(s, deltas.next);
+    let anchors = anchors_list(s, deltas.next, tally);
     let anchors = match anchors {
         ListResult::Err(refusal) => return TailResult::Err(refusal),
         ListResult::Ok { count, place, next } => passed(count, place, next),
     };
-    let locals = locals_list(s, anchors.next, max_string_bytes);
+    let locals = locals_list(s, anchors.next, max_string_bytes, tally);
     let locals = match locals {
         ListResult::Err(refusal) => return TailResult::Err(refusal),
         ListResult::Ok { count, place, next } => passed(count, place, next),
     };
-    let names = names_list(s, locals.next, max_string_bytes);
+    let names = names_list(s, locals.next, max_string_bytes, tally);
     let names = match names {
         ListResult::Err(refusal) => return TailResult::Err(refusal),
         ListResult::Ok { count, place, next } => passed(count, place, next),

@@ -1,7 +1,9 @@
 // A function before and behind the functions that nest in it, of which only the counts are kept: a walk that calls itself keeps them at each level, so they are few.
 ghost use mathlib.Core.Path.{_≡_};
 ghost use lib.ListN.{drop};
+ghost use Rattle.format_spelling.specs.Inner.Tally.{Room, Adds};
 ghost use Rattle.read_prototype.specs.Parts as parts;
+ghost use Rattle.read_prototype.specs.PartsSpelt as spelt;
 ghost use Rattle.read_prototype.specs.Inner.Counts.{isSpelt, headCountsResult, tailCountsResult};
 use crate::parts::HeadResult;
 use crate::parts::TailResult;
@@ -9,6 +11,7 @@ use crate::parts::read_head;
 use crate::parts::read_tail;
 use format::limits::ResourceLimits;
 use format::refusal::Refusal;
+use format_spelling::tally::Tally;
 use read_field::string::OptionString;
 use slice::cursor::Cursor;
 
@@ -41,10 +44,13 @@ pub fn pass_head(
     limits: ResourceLimits,
     before: usize,
     cursor: Cursor,
+    tally: &mut Tally,
 ) -> HeadCountsResult
+    requires { ⌜ Room (now tally) (cursor .at) ⌝ }
     ensures { λ r. ⌜ r ≡ headCountsResult (parts.head limits before (cursor .at) (drop (cursor .at) (now (s .entry)))) ⌝ }
+    ensures { λ _. ⌜ Adds (parts.head limits before (cursor .at) (drop (cursor .at) (now (s .entry)))) (spelt.head limits before (cursor .at) (drop (cursor .at) (now (s .entry)))) (now (tally .entry)) (now (tally .exit)) ⌝ }
 {
-    let begins = read_head(s, limits, before, cursor);
+    let begins = read_head(s, limits, before, cursor, tally);
     match begins {
         HeadResult::Err(refusal) => HeadCountsResult::Err(refusal),
         HeadResult::Ok {
@@ -82,10 +88,17 @@ pub enum TailCountsResult {
 }
 
 // Passes over a function behind the functions that nest in it. Ruled out: the count of another list.
-pub fn pass_tail(s: &[u8], max_string_bytes: usize, cursor: Cursor) -> TailCountsResult
+pub fn pass_tail(
+    s: &[u8],
+    max_string_bytes: usize,
+    cursor: Cursor,
+    tally: &mut Tally,
+) -> TailCountsResult
+    requires { ⌜ Room (now tally) (cursor .at) ⌝ }
     ensures { λ r. ⌜ r ≡ tailCountsResult (parts.tail «max_string_bytes» (cursor .at) (drop (cursor .at) (now (s .entry)))) ⌝ }
+    ensures { λ _. ⌜ Adds (parts.tail «max_string_bytes» (cursor .at) (drop (cursor .at) (now (s .entry)))) (spelt.tail «max_string_bytes» (cursor .at) (drop (cursor .at) (now (s .entry)))) (now (tally .entry)) (now (tally .exit)) ⌝ }
 {
-    let ends = read_tail(s, max_string_bytes, cursor);
+    let ends = read_tail(s, max_string_bytes, cursor, tally);
     match ends {
         TailResult::Err(refusal) => TailCountsResult::Err(refusal),
         TailResult::Ok {

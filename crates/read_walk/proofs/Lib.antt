@@ -5,3 +5,4 @@ pub mod Passes
 pub mod SoFar
 pub mod Main
 pub mod Spelt
+mod Tally

@@ -1,27 +1,25 @@
 -- How functions are spelt, as a walk passes over them: one function by what was read of its parts, and functions one after the other. (`OneFunction.antt`, `SoFar.antt`, `Main.antt`: what is read of them.)
 --     function-spelt       a function: its head, its own source, those that nest in it, its tail
---     starts, turned, ended    functions one after the other: those passed so far, and those that are left
+--     turned, no-more      functions one after the other: the next one, and where none is left
 --     main-spelt           main as one function of a list
 -- Assumes nothing.
-use mathlib.Core.Path.{_≡_, refl, sym, _∙_, ap}
+use mathlib.Core.Path.{_≡_, refl, _∙_, ap}
 use mathlib.Core.List.{List}
 use mathlib.Core.Option.{Option, none, some}
 use Prim.Native.Nat.{ℕ, zero, suc, _+_, _-_, _<_, _≤_}
 use native.Mathlib.Omega.{arith}
-use lib.ListN.{drop}
 use Rattle.format.specs.declared.limits.ResourceLimits.{ResourceLimits}
 use Rattle.format.specs.Form.{Bytes}
 use Rattle.format.specs.GrammarFields.{LuaString}
 use Rattle.format.specs.Reading.{Prototype}
 use Rattle.format.specs.GrammarChunk.{Where, after}
-use Rattle.format.specs.Read.{Read, ok, refused, Reader}
+use Rattle.format.specs.Read.{Read, ok, refused}
 use Rattle.format.specs.ReadChunk.{forest, function}
 use Rattle.format.proofs.ExactChunk.{exact-function}
-use Rattle.format.specs.declared.spelling.Spelling.{Spelling}
 use Rattle.format_spelling.specs.Spelling.{same, _⊕_, dropping}
-use Rattle.format_spelling.specs.ReadSpelling.{Count, behind}
+use Rattle.format_spelling.specs.ReadSpelling.{behind}
 use Rattle.format_spelling.specs.ReadSpelling as count
-use Rattle.format_spelling.proofs.Sums.{join-same, join-assoc}
+use Rattle.format_spelling.proofs.Sums.{join-same}
 use Rattle.format_spelling.proofs.SpellingLaws.{tells-function}
 use Rattle.format_spelling.proofs.Few.{few-function}
 use Rattle.format_spelling.proofs.Covers.{Covers, covers-few}
@@ -34,7 +32,6 @@ use Rattle.read_prototype.specs.Inner.Counts.{isSpelt}
 use Rattle.read_prototype.proofs.FlatSpelt.{body-spelt}
 use Rattle.read_walk.specs.Inner.Skim.{entered}
 use Rattle.read_walk.specs.Inner.Spelt.{nestedSpelt, ownSource}
-use Rattle.read_walk.proofs.Entering.{enters}
 
 -- ## One function
 -- the readers that the count goes along with are those of the walk

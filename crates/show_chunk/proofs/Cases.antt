@@ -1,19 +1,24 @@
 -- The fields of a function and the summary of a chunk (01 'Calls'), from the bytes of a chunk whose function 4 has numbers that all differ (crates/format/proofs/Distinct.antt); antt computes all.
 --     fields-hold      function 4; main; one that takes over main's source; one that is not there
---     summary-holds    header fields, both warnings, number of functions, place and length of the trailing bytes
+--     summary-holds    header fields, both warnings, number of functions, place and length of the trailing bytes, number of padded numbers
+--     padded-holds     number of padded numbers, of main and of a function in it
 --     trailing-holds   the trailing bytes; of a chunk that is refused none
 -- Told apart: any two fields exchanged, nested functions that show main's fields, an inherited source shown as absent or at another place, the warnings in another order, function numbers from 1.
 -- Assumes nothing.
 use mathlib.Core.Path.{_≡_, refl}
-use mathlib.Core.List.{List, [], _∷_, map}
+use mathlib.Core.List.{List, [], _∷_, _++_, map}
 use Prim.Native.Nat.{ℕ}
 use lib.IntN.{pos}
-use lib.ListN.{take}
+use lib.ListN.{replicate, take}
 use Rattle.format.specs.declared.refusal.Refusal.the-variants.{NoFunction, Truncated}
 use Rattle.format.specs.declared.header.Warning.the-variants.{NonStandardFormat, TrailingBytes}
+use Rattle.format.specs.Form.{Bytes}
+use Rattle.format.specs.Copy.{headerBytes}
 use Rattle.format.specs.Limits.{ceilings}
 use Rattle.format.specs.ReadChunk.{body, function, Outcome, read}
 use Rattle.format.proofs.Distinct.{distinct}
+use Rattle.format_spelling.specs.ReadSpelling.{spelling}
+use Rattle.format_spelling.specs.ReadSpelling as count
 use Rattle.read_field.specs.declared.string.OptionString.the-variants as string
 use Rattle.read_header.specs.declared.OptionWarning.the-variants as option
 use Rattle.show_row.specs.Asked.{functionOf}
@@ -69,17 +74,34 @@ unfolding cases distinct read body function
 fields-hold = refl
 
 -- ## The chunk as a whole
-summary-holds : shownSummary chunk ≡ summary.Ok (record {
-  header = record { version = 0x54; format = 3; «instruction_size» = 4; «lua_integer_size» = 8; «sizeof_sizet» = 8; «lua_number_size» = 8; «luac_int» = pos 0x5678; «luac_num» = 0x4077280000000000 };
-  warnings = record { first = option.Some (NonStandardFormat 5); second = option.Some (TrailingBytes 308) };
-  functions = 9;
-  «trailing_at» = 308;
-  «trailing_len» = 3;
+summary-holds : shownSummary (spelling ceilings distinct) chunk ≡ summary.Ok (record {
+  summary = record {
+    header = record { version = 0x54; format = 3; «instruction_size» = 4; «lua_integer_size» = 8; «sizeof_sizet» = 8; «lua_number_size» = 8; «luac_int» = pos 0x5678; «luac_num» = 0x4077280000000000 };
+    warnings = record { first = option.Some (NonStandardFormat 5); second = option.Some (TrailingBytes 308) };
+    functions = 9;
+    «trailing_at» = 308;
+    «trailing_len» = 3;
+  };
+  «padded_numbers» = 0;
 })
-unfolding distinct read body function
+unfolding distinct read body function spelling count.body count.function
 summary-holds = refl
 
-refused-holds : shownSummary (read ceilings (take 307 distinct)) ≡ summary.Err (Truncated 307)
+-- one function in main; of the 22 numbers the size of main's source, its last line, and the nested function's first line (by two zero groups) and count of names are padded
+abbrev padded : Bytes
+padded =
+    headerBytes 0 ++ (0 ∷ 0 ∷ 0x80 ∷ 0x80 ∷ 0 ∷ 0x85 ∷ 0 ∷ 0 ∷ 2 ∷ 0x80 ∷ 0x80 ∷ 0x80 ∷ 0x81 ∷ [])
+    ++ (0x80 ∷ 0 ∷ 0 ∷ 0x83 ∷ 0x80 ∷ 0 ∷ 0 ∷ 2 ∷ replicate 7 0x80) ++ (0 ∷ 0x80 ∷ replicate 4 0x80)
+
+abbrev paddedShown : SummaryAnswer → ℕ
+paddedShown (summary.Ok y) = y .«padded_numbers»
+paddedShown (summary.Err q) = 99
+
+padded-holds : paddedShown (shownSummary (spelling ceilings padded) (read ceilings padded)) ≡ 4
+unfolding read body function spelling count.body count.function
+padded-holds = refl
+
+refused-holds : shownSummary (spelling ceilings (take 307 distinct)) (read ceilings (take 307 distinct)) ≡ summary.Err (Truncated 307)
 unfolding distinct read body function
 refused-holds = refl
 

@@ -13,7 +13,7 @@ use vectors_answer::answer;
 use vectors_answer::answer::one;
 
 fn summary(chunk: &[u8], limits: &[u64; 9], got: &mut Numbers) -> usize {
-    let mut out = [0u64; 14];
+    let mut out = [0u64; 15];
     let status = lafzimdo_summary(chunk, limits, &mut out);
     answer::summary(got, chunk, status, &out)
 }

@@ -33,7 +33,7 @@ fn string(got: &mut Numbers, at: usize, chunk: &[u8], place: u64, len: u64) -> u
 }
 
 // Of a summary the array, and the trailing bytes.
-pub fn summary(got: &mut Numbers, chunk: &[u8], status: u64, out: &[u64; 14]) -> usize {
+pub fn summary(got: &mut Numbers, chunk: &[u8], status: u64, out: &[u64; 15]) -> usize {
     let at = array(got, 0, status, out);
     if status != 0 {
         return at;

@@ -219,12 +219,14 @@ fn summary(mut n: Answer<'_>) -> Result<(Vec<String>, u64), String> {
     let mut shown = vec![format!("header {version:02x} {format:02x} {sizes} 22136 {:016x}", n.number())];
     let (functions, place, length) = (n.number(), n.number(), n.number());
     let warnings = [(n.number(), n.number()), (n.number(), n.number())];
+    let padded = n.number();
     let warnings: Vec<_> = warnings.iter().filter(|(code, _)| *code != 0).collect();
     shown.push(format!("warnings {}", warnings.len()));
     for (code, place) in warnings {
         shown.push(format!("warning {} {place}", ["", "HEADER-003", "CHUNK-001"][*code as usize]));
     }
     shown.push(format!("functions {functions}"));
+    shown.push(format!("padded {padded}"));
     shown.push(format!("trailing {place} {}", hex(&n.bytes(length))));
     Ok((shown, functions))
 }

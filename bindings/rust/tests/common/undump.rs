@@ -13,7 +13,7 @@ pub fn undumped(dump: &str) -> Vec<String> {
     shown
 }
 
-/// Header, warnings, number of functions.
+/// Header, warnings, number of functions and of padded numbers.
 fn head(block: &str) -> Vec<String> {
     let mut lines = block.lines().skip(1);
     let words: Vec<&str> = lines.next().unwrap().split(' ').collect();
@@ -22,14 +22,14 @@ fn head(block: &str) -> Vec<String> {
     let mut shown = vec![format!("header {} {} {sizes} 22136 {number:016x}", words[1], words[3]), String::new()];
     for line in lines.by_ref().take_while(|line| !line.is_empty()) {
         match line.strip_prefix("warning at ") {
-            None => shown.push(line.to_string()),
+            None => shown.push(line.replace("padded numbers ", "padded ")),
             Some(warning) => {
                 let code = warning.rsplit_once("(L54-").unwrap().1.trim_end_matches(')');
                 shown.push(format!("warning {code} {}", warning.split_once(':').unwrap().0));
             }
         }
     }
-    shown[1] = format!("warnings {}", shown.len() - 3);
+    shown[1] = format!("warnings {}", shown.len() - 4);
     shown
 }
 

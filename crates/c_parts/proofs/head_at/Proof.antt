@@ -22,13 +22,13 @@ head-at-spec =
     (λ c κs. search needs) (λ c κs. search needs) (λ c. search needs) (λ c κs. search needs) (λ c. search needs) (λ c κs. search needs)
     (λ c.
     let k = c .before .before .before .before in
-    let t = k .before .before .before in
+    let t = k .before .before .before .before in
     let a = t .before .before .args in
-    goes-on (limitsOf (a .limits .now)) (a .chunk .now) (t .tested .ensures) _ (a .out .now) (k .before .before .if1 .left)
-    (call-refuses ofHead (λ L. headResult (parts.head L 0 (a .place) (drop (a .place) (a .chunk .now)))) (a .out .now) (k .before .limits-of .ensures) (k .read-head .ensures) (c .before .before .answer .given .1) refl (c .refused .ensures)))
+    goes-on (limitsOf (a .limits .now)) (a .chunk .now) (t .tested .ensures) _ (a .out .now) (k .before .before .before .if1 .left)
+    (call-refuses ofHead (λ L. headResult (parts.head L 0 (a .place) (drop (a .place) (a .chunk .now)))) (a .out .now) (k .before .before .limits-of .ensures) (k .read-head .ensures .0) (c .before .before .answer .given .1) refl (c .refused .ensures)))
     (λ c.
     let k = c .before .before .before .before in
-    let t = k .before .before .before in
+    let t = k .before .before .before .before in
     let a = t .before .before .args in
-    goes-on (limitsOf (a .limits .now)) (a .chunk .now) (t .tested .ensures) _ (a .out .now) (k .before .before .if1 .left)
-    (call-answers ofHead (λ L. headResult (parts.head L 0 (a .place) (drop (a .place) (a .chunk .now)))) (a .out .now) (k .before .limits-of .ensures) (k .read-head .ensures) (c .before .before .answer2 .given .1) refl (c .head-numbers .ensures))))
+    goes-on (limitsOf (a .limits .now)) (a .chunk .now) (t .tested .ensures) _ (a .out .now) (k .before .before .before .if1 .left)
+    (call-answers ofHead (λ L. headResult (parts.head L 0 (a .place) (drop (a .place) (a .chunk .now)))) (a .out .now) (k .before .before .limits-of .ensures) (k .read-head .ensures .0) (c .before .before .answer2 .given .1) refl (c .head-numbers .ensures))))

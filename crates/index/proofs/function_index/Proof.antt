@@ -18,7 +18,7 @@ returns c =
 
 write-function-requires : tie.Need-write-function-requires
 write-function-requires c κs =
-    let j = c .before .before .before in
+    let j = c .before .before .before .before in
     let b = j .before .before in
     let a = b .before .before .before .args in
     let l = in-limits (a .rows .now) (a .limits) (a .s .now) (j .judged2 .given .0 .0) (sym (j .judged2 .given .1) ∙ b .judge-chunk .ensures) in
@@ -34,7 +34,7 @@ returns-2 c =
 returns-3 : tie.Need-returns-3
 returns-3 c =
     let w = c .before .before in
-    let i = w .before .before in
+    let i = w .before .before .before in
     let j = i .before .before in
     let b = j .before .before in
     let a = b .before .before .before .args in

@@ -38,30 +38,30 @@ use Rattle.index_walk.proofs.+write_function.Tie.{close}
 level : (left : ℕ) → (left ≡ 0 → ⊥) → 0 < left
 level left h = omega arith
 
-abbrev μ : Measures 2 write-function-kinds.ps ℕ
+abbrev μ : Measures 3 write-function-kinds.ps ℕ
 μ κs a = a .1 .1 .0
 
 -- what it is given at the measure t, and what a call of it asks below t
-abbrev at : ℕ → In 2 write-function-kinds.ps
-at t = and 2 write-function-kinds.ps (is 2 write-function-kinds.ps μ t) write-function.Pre
+abbrev at : ℕ → In 3 write-function-kinds.ps
+at t = and 3 write-function-kinds.ps (is 3 write-function-kinds.ps μ t) write-function.Pre
 
-abbrev below : ℕ → In 2 write-function-kinds.ps
-below t = and 2 write-function-kinds.ps (falls 2 write-function-kinds.ps _<_ μ t) write-function.Pre
+abbrev below : ℕ → In 3 write-function-kinds.ps
+below t = and 3 write-function-kinds.ps (falls 3 write-function-kinds.ps _<_ μ t) write-function.Pre
 
 -- what the calls ask and give
 abbrev calls : ℕ → write-function-lts.Claims
 calls t = (pass-head-reads.Asked, pass-head-reads.Learnt, put-head-reads.Asked, put-head-reads.Learnt, below t, write-function.Post, pass-tail-reads.Asked, pass-tail-reads.Learnt, put-tail-reads.Asked, put-tail-reads.Learnt)
 
 abbrev Inv : write-function-lts.InvT-loop
-Inv s limits left depth parent from rows₀ nested₀ more₀ rows nested more = (length rows ≡ length rows₀) × Behind s limits more₀ left (depth + 1) (from .number) nested₀ rows₀ nested more rows
+Inv s limits left depth parent from rows₀ unused₀ nested₀ more₀ rows unused nested more = (length rows ≡ length rows₀) × Behind s limits more₀ left (depth + 1) (from .number) nested₀ rows₀ nested more rows
 
 abbrev μ-loop : write-function-lts.MeasureT-loop
-μ-loop s limits left depth parent from rows₀ nested₀ more₀ rows nested more = more
+μ-loop s limits left depth parent from rows₀ unused₀ nested₀ more₀ rows unused nested more = more
 
 -- behind the head: what it gave, and where the nested functions stand
 module _ (t : ℕ) (h : write-function-lts.After-begins2 (calls t) (at t) write-function.Post Inv μ-loop) where
-  abbrev a : write-function-lts.Args (calls t) (at t) write-function.Post Inv μ-loop (h .before .before .before .before .before .κs)
-  a = h .before .before .before .before .before .args
+  abbrev a : write-function-lts.Args (calls t) (at t) write-function.Post Inv μ-loop (h .before .before .before .before .before .before .before .κs)
+  a = h .before .before .before .before .before .before .before .args
 
   abbrev head : HeadCounts
   head = h .begins2 .given .0 .0
@@ -73,7 +73,7 @@ module _ (t : ℕ) (h : write-function-lts.After-begins2 (calls t) (at t) write-
   inside = record { next = behind; number = a .from .number + 1; instructions = a .from .instructions + head .instructions }
 
   begun : head-answer.Ok head behind ≡ headCountsResult (parts.head (a .limits) (a .from .instructions) (a .from .next .at) (drop (a .from .next .at) (a .s .now)))
-  begun = sym (h .begins2 .given .1) ∙ h .before .before .pass-head .ensures
+  begun = sym (h .begins2 .given .1) ∙ h .before .before .pass-head .ensures .0
 
   module _ (w : Where) (i : a .from .instructions ≡ w .instructions) where
     abbrev place : Where
@@ -93,14 +93,14 @@ begun-rows t p = p .put-head .last .0
 begun-long : (t : ℕ) (p : write-function-lts.After-put-head (calls t) (at t) write-function.Post Inv μ-loop) → length (begun-rows t p) ≡ length (a t (p .before .before .before) .rows .now)
 begun-long t p = search needs
 
-number : (t : ℕ) → write-function-lts.Need-add-t26 (calls t) (at t) write-function.Post Inv μ-loop
-number t c = let few = c .before .before .before .before .before .before .before .before .before .before .before .pre .1 .1 in omega (arith, few)
+number : (t : ℕ) → write-function-lts.Need-add-t28 (calls t) (at t) write-function.Post Inv μ-loop
+number t c = let few = c .before .before .before .before .before .before .before .before .before .before .before .before .before .pre .1 .1 in omega (arith, few)
 
-total : (t : ℕ) → write-function-lts.Need-add-t27 (calls t) (at t) write-function.Post Inv μ-loop
+total : (t : ℕ) → write-function-lts.Need-add-t29 (calls t) (at t) write-function.Post Inv μ-loop
 total t c =
     let h = c .before .before .before .before .before .before .before .before in
     let e = counts-total (a t h .s .now) (a t h .limits) (a t h .from .instructions) (a t h .from .next .at) (head t h) (behind t h) (begun t h) in
-    let limit = h .before .before .before .before .before .pre .1 .0 .1 in
+    let limit = h .before .before .before .before .before .before .before .pre .1 .0 .1 in
     omega (arith, e, limit)
 
 loop-holds : (t : ℕ) → write-function-lts.Need-loop-holds (calls t) (at t) write-function.Post Inv μ-loop
@@ -125,14 +125,14 @@ returns-2 t c =
 
 deeper : (t : ℕ) → write-function-lts.Need-add-write-function (calls t) (at t) write-function.Post Inv μ-loop
 deeper t c =
-    let deep = c .before .before .before .before .before .before .before .before .before .before .before .before .before .before .before .before .before .before .before .pre .1 .2 in
+    let deep = c .before .before .before .before .before .before .before .before .before .before .before .before .before .before .before .before .before .before .before .before .before .pre .1 .2 in
     omega (arith, deep)
 
 write-function-requires : (t : ℕ) → write-function-lts.Need-write-function-requires (calls t) (at t) write-function.Post Inv μ-loop
 write-function-requires t c κs =
-    let g = c .before in
+    let g = c .before .before in
     let e = g .before .before .before in
-    let b = e .before .before .before .before .before .before .before .before .before .before .before .before .before .before .before .before in
+    let b = e .before .before .before .before .before .before .before .before .before .before .before .before .before .before .before .before .before .before in
     let limit = b .pre .1 .0 .0 in
     let within = g .if2 .left in
     let deepest = b .pre .1 .2 in
@@ -141,62 +141,62 @@ write-function-requires t c κs =
 
 -- behind one function more: the rows are as many
 rows-long : (t : ℕ) (f : write-function-lts.After-write-function (calls t) (at t) write-function.Post Inv μ-loop)
-    → length (f .write-function .last .1 .1 .1 .1 .1 .1 .0) ≡ length (f .before .before .before .before .before .before .before .loop .rows)
+    → length (f .write-function .last .1 .1 .1 .1 .1 .1 .0) ≡ length (f .before .before .before .before .before .before .before .before .loop .rows)
 rows-long t f = search needs
 
 returns-3 : (t : ℕ) → write-function-lts.Need-returns-3 (calls t) (at t) write-function.Post Inv μ-loop
 returns-3 t c =
     let f = c .before .before .before .before .before in
-    let e = f .before .before .before .before .before in
+    let e = f .before .before .before .before .before .before in
     let l = e .before .before in
     let h = l .before .before .before .before .before .before .before .before .before in
     refuses (a t h .from) (a t h .depth) (a t h .parent) _ _ _ _ λ w n i.
-    refused-inside t h w i _ (so-far.stops (a t h .limits) (a t h .left) (l .loop .inv .1 (place t h w i) (λ j. n j + 1) (so-many t h w i) .so-far) (e .before .loop-test .taken) (level (a t h .left) (e .if1 .left)) (f .before .before .if2 .left)
+    refused-inside t h w i _ (so-far.stops (a t h .limits) (a t h .left) (l .loop .inv .1 (place t h w i) (λ j. n j + 1) (so-many t h w i) .so-far) (e .before .loop-test .taken) (level (a t h .left) (e .if1 .left)) (f .before .before .before .if2 .left)
     _ (sym (c .before .one .given .1) ∙ f .write-function .ensures .0 (on (place t h w i) (l .loop .nested)) refl refl))
 
 loop-again : (t : ℕ) → write-function-lts.Need-loop-again (calls t) (at t) write-function.Post Inv μ-loop
 loop-again t c =
     let f = c .before .before .before .before .before in
-    let e = f .before .before .before .before .before in
+    let e = f .before .before .before .before .before .before in
     let l = e .before .before in
     let h = l .before .before .before .before .before .before .before .before .before in
     let later = c .before .one2 .given in (
       rows-long t f ∙ l .loop .inv .0,
       on-behind (a t h .s .now) (a t h .limits) (head t h .protos) (a t h .left) (a t h .depth + 1) (a t h .from .number) (inside t h) (begun-rows t (l .before .before .before .before .before .before)) (l .loop .nested) (l .loop .more) (l .loop .rows) (l .loop .inv .1)
-          (l .loop .inv .0) (e .before .loop-test .taken) (level (a t h .left) (e .if1 .left)) (f .before .before .if2 .left) _ (later .0 .0) (λ w n i. sym (later .1) ∙ f .write-function .ensures .0 w n i) (f .write-function .ensures .1),
+          (l .loop .inv .0) (e .before .loop-test .taken) (level (a t h .left) (e .if1 .left)) (f .before .before .before .if2 .left) _ (later .0 .0) (λ w n i. sym (later .1) ∙ f .write-function .ensures .0 w n i) (f .write-function .ensures .1),
     )
 
 returns-4 : (t : ℕ) → write-function-lts.Need-returns-4 (calls t) (at t) write-function.Post Inv μ-loop
 returns-4 t c =
-    let a = c .before .before .before .before .before .before .args in
-    refuses (a .from) (a .depth) (a .parent) _ _ _ _ λ w n i. passes.head-refused (a .s .now) (a .limits) (a .left) w (a .from .next .at) i _ (sym (c .before .begins .given .1) ∙ c .before .before .before .pass-head .ensures)
+    let a = c .before .before .before .before .before .before .before .before .args in
+    refuses (a .from) (a .depth) (a .parent) _ _ _ _ λ w n i. passes.head-refused (a .s .now) (a .limits) (a .left) w (a .from .next .at) i _ (sym (c .before .begins .given .1) ∙ c .before .before .before .pass-head .ensures .0)
 
 returns-5 : (t : ℕ) → write-function-lts.Need-returns-5 (calls t) (at t) write-function.Post Inv μ-loop
 returns-5 t c =
-    let o = c .before .before .before .before in
+    let o = c .before .before .before .before .before .before in
     let l = o .before in
     let h = l .before .before .before .before .before .before .before .before .before in
     refuses (a t h .from) (a t h .depth) (a t h .parent) _ _ _ _ λ w n i.
     passes.tail-refused (a t h .s .now) (a t h .limits) (a t h .left) w (a t h .from .next .at) i (head t h) (behind t h) (begun t h) (l .loop .nested) (so-far.ends (l .loop .inv .1 (place t h w i) (λ j. n j + 1) (so-many t h w i) .so-far) (o .loop-test .left))
-    _ (sym (c .before .ends .given .1) ∙ c .before .before .before .pass-tail .ensures)
+    _ (sym (c .before .ends .given .1) ∙ c .before .before .before .pass-tail .ensures .0)
 
-same-put : (t : ℕ) (r : write-function-lts.After-put-tail (calls t) (at t) write-function.Post Inv μ-loop) → length (r .put-tail .last .0) ≡ length (r .before .before .before .before .before .before .before .loop .rows)
+same-put : (t : ℕ) (r : write-function-lts.After-put-tail (calls t) (at t) write-function.Post Inv μ-loop) → length (r .put-tail .last .0) ≡ length (r .before .before .before .before .before .before .before .before .before .loop .rows)
 same-put t r = search needs
 
 same-length-5 : (t : ℕ) → write-function-lts.Need-same-length-5 (calls t) (at t) write-function.Post Inv μ-loop
 same-length-5 t c =
     let r = c .before .before in
-    let l = r .before .before .before .before .before .before .before in
+    let l = r .before .before .before .before .before .before .before .before .before in
     same-put t r ∙ l .loop .inv .0 ∙ begun-long t (l .before .before .before .before .before .before)
 
 returns-6 : (t : ℕ) → write-function-lts.Need-returns-6 (calls t) (at t) write-function.Post Inv μ-loop
 returns-6 t c =
     let r = c .before .before in
     let e = r .before .before .before in
-    let o = e .before .before .before in
+    let o = e .before .before .before .before .before in
     let l = o .before in
     let h = l .before .before .before .before .before .before .before .before .before in
-    let ended = sym (e .ends2 .given .1) ∙ e .before .before .pass-tail .ensures in
+    let ended = sym (e .ends2 .given .1) ∙ e .before .before .pass-tail .ensures .0 in
     let tail = e .ends2 .given .0 .0 in
     let end = e .ends2 .given .0 .1 .0 in (
       λ w n i. passes.function-shown (a t h .s .now) (a t h .limits) (a t h .left) w (a t h .from .next .at) i (head t h) (behind t h) (begun t h) (l .loop .nested) (so-far.ends (l .loop .inv .1 (place t h w i) (λ j. n j + 1) (so-many t h w i) .so-far) (o .loop-test .left)) tail end ended,

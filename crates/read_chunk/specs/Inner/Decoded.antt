@@ -3,6 +3,7 @@ use mathlib.Core.List.{List, [], _∷_, _++_}
 use Prim.Native.Nat.{ℕ}
 use lib.ListN.{length, take, drop}
 use Rattle.format.specs.declared.header.Warning.{Warning}
+use Rattle.format.specs.declared.spelling.Spelling.{Spelling}
 use Rattle.format.specs.Form.{Bytes}
 use Rattle.format.specs.GrammarChunk.{trailingWarnings}
 use Rattle.format.specs.ReadChunk.{Outcome, shown, refusal}
@@ -16,7 +17,14 @@ use Rattle.read_chunk.specs.declared.summary.DecodedResult.{DecodedResul
 use Rattle.read_chunk.specs.declared.summary.DecodedResult.the-variants as answer
 use Rattle.read_chunk.specs.declared.summary.JudgedResult.{JudgedResult}
 use Rattle.read_chunk.specs.declared.summary.JudgedResult.the-variants as judged
+use Rattle.read_chunk.specs.declared.summary.SpeltResult.{SpeltResult}
+use Rattle.read_chunk.specs.declared.summary.SpeltResult.the-variants as spelt
 use Rattle.read_chunk.specs.Decoded.{shownWarnings, summaryOf}
+
+-- how the chunk is spelt, and its reading
+abbrev pub speltResult : Spelling → Outcome → SpeltResult
+speltResult k (shown r) = spelt.Ok (summaryOf r) k
+speltResult k (refusal q) = spelt.Err q
 
 abbrev pub judgedResult : Outcome → JudgedResult
 judgedResult (shown r) = judged.Ok (summaryOf r)

@@ -1,7 +1,9 @@
--- `read_list::instruction_count` meets its contract: by whether the count is read and within the total (`Counts.antt`). Assumes nothing.
+-- `read_list::instruction_count` meets its contract: by whether the count is read and within the total (`Listing.antt`). Assumes nothing.
+use Prim.Native.Nat.{_+_}
 use native.Mathlib.Omega.{arith}
 use borrow.Author.Needs.{needs}
-use Rattle.read_list.proofs.Counts.{size-refused, too-many, few-enough}
+use Rattle.format.specs.declared.refusal.Refusal.the-variants.{Instructions, TotalInstructions}
+use Rattle.read_list.proofs.Listing.{exact-countUpTo, held-refused, held-above, held-within}
 use Rattle.read_list.proofs.instruction_count.Statement.{statement}
 use Rattle.read_list.proofs.instruction_count.Tie as tie
 
@@ -10,7 +12,7 @@ instruction-count-spec =
     tie.close
     (tie.spec
     (λ c κs. search needs) (λ c. search needs) (λ c. search needs)
-    (λ c. let a = c .before .before .before .before .args in size-refused (a .max-instructions-per-proto) (a .instructions-before) (a .max-total-instructions) (a .s .now) (a .cursor .at) (c .enum-told .given .1) (c .before .before .count-up-to .ensures))
-    (λ c. let a = c .before .before .before .before .before .before .args in too-many (a .max-instructions-per-proto) (a .instructions-before) (a .max-total-instructions) (a .s .now) (a .cursor .at) (c .before .before .read .given .1) (c .before .before .before .before .count-up-to .ensures) (omega arith))
-    (λ c. let a = c .before .before .before .before .before .before .before .args in too-many (a .max-instructions-per-proto) (a .instructions-before) (a .max-total-instructions) (a .s .now) (a .cursor .at) (c .before .before .before .read .given .1) (c .before .before .before .before .before .count-up-to .ensures) (omega arith))
-    (λ c. let a = c .before .before .before .before .before .before .before .args in few-enough (a .max-instructions-per-proto) (a .instructions-before) (a .max-total-instructions) (a .s .now) (a .cursor .at) (c .before .before .before .read .given .1) (c .before .before .before .before .before .count-up-to .ensures) (omega arith)))
+    (λ c. let a = c .before .before .before .before .before .args in held-refused (exact-countUpTo (a .max-instructions-per-proto) (Instructions (a .cursor .at))) (λ n. a .instructions-before + n) (a .max-total-instructions) (TotalInstructions (a .cursor .at)) (a .s .now) (a .cursor .at) (c .before .before .count-up-to .ensures) (c .enum-told .given .1))
+    (λ c. let a = c .before .before .before .before .before .before .before .args in held-above (exact-countUpTo (a .max-instructions-per-proto) (Instructions (a .cursor .at))) (λ n. a .instructions-before + n) (a .max-total-instructions) (TotalInstructions (a .cursor .at)) (a .s .now) (a .cursor .at) (c .before .before .before .before .count-up-to .ensures) (c .before .before .read .given .1) (omega arith))
+    (λ c. let a = c .before .before .before .before .before .before .before .before .args in held-above (exact-countUpTo (a .max-instructions-per-proto) (Instructions (a .cursor .at))) (λ n. a .instructions-before + n) (a .max-total-instructions) (TotalInstructions (a .cursor .at)) (a .s .now) (a .cursor .at) (c .before .before .before .before .before .count-up-to .ensures) (c .before .before .before .read .given .1) (omega arith))
+    (λ c. let a = c .before .before .before .before .before .before .before .before .args in held-within (exact-countUpTo (a .max-instructions-per-proto) (Instructions (a .cursor .at))) (λ n. a .instructions-before + n) (a .max-total-instructions) (TotalInstructions (a .cursor .at)) (a .s .now) (a .cursor .at) (c .before .before .before .before .before .count-up-to .ensures) (c .before .before .before .read .given .1) (omega arith)))

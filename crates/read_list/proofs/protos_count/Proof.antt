@@ -9,5 +9,5 @@ protos-count-spec =
     tie.close
     (tie.spec
     (λ c κs. search needs) (λ c. search needs) (λ c. search needs)
-    (λ c. let a = c .before .before .before .before .before .args in protos-shown (a .max-total-prototypes) (a .s .now) (a .cursor .at) (c .before .read .given .1) (c .before .before .before .count-up-to .ensures))
-    (λ c. let a = c .before .before .before .before .before .args in protos-shown (a .max-total-prototypes) (a .s .now) (a .cursor .at) (c .before .read2 .given .1) (c .before .before .before .count-up-to .ensures)))
+    (λ c. let a = c .before .before .before .before .before .before .args in protos-shown (a .max-total-prototypes) (a .s .now) (a .cursor .at) (c .before .before .before .count-up-to .ensures) (c .before .read .given .1))
+    (λ c. let a = c .before .before .before .before .before .before .args in protos-shown (a .max-total-prototypes) (a .s .now) (a .cursor .at) (c .before .before .before .count-up-to .ensures) (c .before .read2 .given .1)))

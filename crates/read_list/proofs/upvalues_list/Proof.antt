@@ -1,8 +1,9 @@
--- `read_list::upvalues_list` meets its contract: by whether the count is read (`Listing.antt`). Assumes nothing.
+-- `read_list::upvalues_list` meets its contract: by whether the count is read (`Counted.antt`). Assumes nothing.
 use borrow.Author.Needs.{needs}
 use Rattle.format.specs.declared.refusal.Refusal.the-variants.{Upvalues}
 use Rattle.format.proofs.ExactChunk.{exact-upvalue}
-use Rattle.read_list.proofs.Listing.{up-to-refused, up-to-read}
+use Rattle.read_list.proofs.Listing.{up-to-list}
+use Rattle.read_list.proofs.Counted.{list-refused, list-run}
 use Rattle.read_list.proofs.upvalues_list.Statement.{statement}
 use Rattle.read_list.proofs.upvalues_list.Tie as tie
 
@@ -10,8 +11,6 @@ pub upvalues-list-spec : {M : Type 1} → statement M
 upvalues-list-spec =
     tie.close
     (tie.spec
-    (λ c κs. search needs) (λ c. search needs) (λ c. search needs) (λ c κs. search needs) (λ c κs. search needs)
-    (λ c. let a = c .before .before .before .before .before .args in up-to-refused (a .max-upvalues) Upvalues exact-upvalue (a .s .now) (a .cursor .at) (c .before .read .given .1) (c .before .before .before .count-up-to .ensures))
-    (λ c.
-    let a = c .before .before .before .before .before .before .before .args in
-    up-to-read (a .max-upvalues) Upvalues exact-upvalue (a .s .now) (a .cursor .at) (c .before .before .before .read2 .given .1) (c .before .before .before .before .before .count-up-to .ensures) (c .before .skip-upvalues .ensures) (c .listed .ensures)))
+    (λ c κs. search needs) (λ c. search needs) (λ c. search needs) (λ c κs. search needs) (λ c. search needs)
+    (λ c. let a = c .before .before .before .before .before .before .args in list-refused (up-to-list exact-upvalue (a .s .now) (a .cursor .at) (a .max-upvalues) Upvalues) (c .before .before .before .count-up-to .ensures) (c .before .read .given .1))
+    (λ c. let a = c .before .before .before .before .before .before .before .before .args in list-run (up-to-list exact-upvalue (a .s .now) (a .cursor .at) (a .max-upvalues) Upvalues) (c .before .before .before .before .before .count-up-to .ensures) (c .before .before .before .read2 .given .1) (c .before .skip-upvalues .ensures) (c .listed .ensures)))

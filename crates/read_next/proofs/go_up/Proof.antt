@@ -4,6 +4,7 @@ use borrow.Author.Needs.{needs}
 use mathlib.Core.Path.{_≡_, refl}
 use native.Mathlib.Omega.{arith}
 use Prim.Native.Nat.{_<_}
+use Rattle.format_spelling.proofs.Tallies.{room-unused}
 use Rattle.read_next.specs.Inner.Rows.{tailAt, rowsFrom}
 use Rattle.read_next.proofs.RowLaws.{none-at-top, none-here, too-deep}
 use Rattle.read_next.proofs.go_up.Statement.{statement}
@@ -28,26 +29,26 @@ go-up-spec =
     (k .before .loop .inv, (c .if2 .left, rw (k .left-at .ensures) at (c .before .if1 .taken))))
     (λ c. let k = c .before .before in
     (rw (k .before .loop .inv, none-at-top _ _ _ _ _ (rw (k .left-at .ensures) at (c .before .if1 .left)) (c .if3 .taken)), tt))
-    (λ c κs. search needs)
+    (λ c κs. room-unused _)
     (λ c. search needs)
     (λ c. search needs)
-    (λ c. let e = c .before .before .before in
+    (λ c. let e = c .before .before .before .before in
     let k = e .before .before in (
       rw (
         k .before .loop .inv,
         none-here _ _ _ _ _ (rw (k .left-at .ensures) at (e .before .if1 .left)) (e .if3 .left),
-        ← c .before .before .read-tail .ensures,
+        ← c .before .before .read-tail .ensures .0,
         c .enum-told .given .1,
       ),
       tt,
     ))
     (λ c. search needs)
     (λ c. search needs)
-    (λ c. let e = c .before .before .before .before in
+    (λ c. let e = c .before .before .before .before .before in
     let k = e .before .before in
     rw (
       k .before .loop .inv,
       none-here _ _ _ _ _ (rw (k .left-at .ensures) at (e .before .if1 .left)) (e .if3 .left),
-      ← c .before .before .before .read-tail .ensures,
+      ← c .before .before .before .read-tail .ensures .0,
       c .before .next .given .1,
     )))

@@ -3,6 +3,7 @@
 use mathlib.Core.Path.{sym, _∙_}
 use native.Mathlib.Omega.{arith}
 use borrow.Author.Needs.{needs}
+use Rattle.format_spelling.proofs.Tallies.{room-unused}
 use Rattle.read_walk.proofs.HeadTail.{in-total}
 use Rattle.read_next.specs.Inner.Rows.{headAt}
 use Rattle.read_next.proofs.RowLaws.{one-more}
@@ -18,17 +19,17 @@ next-function-spec =
     (λ c. search needs)
     (λ c. search needs)
     (λ c. (rw (c .before .before .go-up .ensures .0, c .enum-told .given .1), tt))
-    (λ c κs. search needs)
+    (λ c κs. room-unused _)
     (λ c. search needs)
     (λ c. search needs)
-    (λ c. let d = c .before .before .before .before in
+    (λ c. let d = c .before .before .before .before .before in
     let u = d .before .before in
     let ready = rw (d .d .given .1) at (u .go-up .ensures .1) in (
       rw (
         u .go-up .ensures .0,
         d .d .given .1,
         one-more _ _ _ _ _ (ready .1) (ready .0) (u .before .before .pre .0),
-        ← c .before .before .read-head .ensures,
+        ← c .before .before .read-head .ensures .0,
         c .enum-told2 .given .1,
       ),
       tt,
@@ -36,16 +37,16 @@ next-function-spec =
     (λ c κs. search needs)
     (λ c. let h = c .before .before in
     let r = h .before .before in
-    let d = r .before .before in
+    let d = r .before .before .before in
     let u = d .before .before in
     let a = u .before .before in
     let ready = rw (d .d .given .1) at (u .go-up .ensures .1) in
-    let few = in-total (a .args .s .now) (a .args .limits) 0 (d .d .given .0 .1 .0 .at) (h .head .given .0 .0) (h .head .given .0 .1 .0) (sym (h .head .given .1) ∙ r .read-head .ensures) in (
+    let few = in-total (a .args .s .now) (a .args .limits) 0 (d .d .given .0 .1 .0 .at) (h .head .given .0 .0) (h .head .given .0 .1 .0) (sym (h .head .given .1) ∙ r .read-head .ensures .0) in (
       rw (
         u .go-up .ensures .0,
         d .d .given .1,
         one-more _ _ _ _ _ (ready .1) (ready .0) (a .pre .0),
-        ← r .read-head .ensures,
+        ← r .read-head .ensures .0,
         h .head .given .1,
         c .row-of .ensures,
       ),

@@ -27,6 +27,7 @@ fn print(out: &mut Out, chunk: &Chunk<'_>) -> io::Result<()> {
         writeln!(out, "{warning}")?;
     }
     writeln!(out, "functions {}", chunk.function_count())?;
+    writeln!(out, "padded numbers {}", chunk.padded_numbers())?;
     for function in chunk.functions() {
         print_function(out, &function)?;
     }

@@ -24,7 +24,8 @@ instructions, constants, upvalues.
         operands: "FILE",
         short: "everything that the chunk holds, readable",
         long: "\
-The header, warnings, trailing bytes, and for each function its fields and every entry of its lists.
+The header, warnings, how many functions there are and how many padded numbers (not in their shortest
+form), trailing bytes, and for each function its fields and every entry of its lists.
 An instruction is shown with its number, its line in brackets (- where lines are too large to be told),
 its word, its opcode's name and its fields. Strings are quoted, with \\n, \\\" and the like, and \\xNN for
 all that is not printable ASCII. A float is followed by its bits.

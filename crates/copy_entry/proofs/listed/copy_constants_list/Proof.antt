@@ -9,13 +9,13 @@ use Rattle.copy_entry.proofs.listed.copy_constants_list.Tie as tie
 
 returns : tie.Need-returns
 returns c =
-    let a = c .before .before .before .before .before .before .args in
-    (up-to-refused (a .max-constants) Constants (exact-constant (a .max-string-bytes)) (a .s .now) (a .cursor .at) (c .before .read .given .1) (c .before .before .before .count-up-to .ensures), λ bytes. list-not)
+    let a = c .before .before .before .before .before .before .before .args in
+    (up-to-refused (a .max-constants) Constants (exact-constant (a .max-string-bytes)) (a .s .now) (a .cursor .at) (c .before .read .given .1) (c .before .before .before .count-up-to .ensures .0), λ bytes. list-not)
 
 returns-2 : tie.Need-returns-2
 returns-2 c =
-    let a = c .before .before .before .before .before .before .before .before .before .before .before .args in (
-      up-to-read (a .max-constants) Constants (exact-constant (a .max-string-bytes)) (a .s .now) (a .cursor .at) (c .before .before .before .before .before .before .read2 .given .1) (c .before .before .before .before .before .before .before .before .count-up-to .ensures) (c .before .before .before .copy-constants .ensures .0) (c .listed .ensures),
+    let a = c .before .before .before .before .before .before .before .before .before .before .before .before .args in (
+      up-to-read (a .max-constants) Constants (exact-constant (a .max-string-bytes)) (a .s .now) (a .cursor .at) (c .before .before .before .before .before .before .read2 .given .1) (c .before .before .before .before .before .before .before .before .count-up-to .ensures .0) (c .before .before .before .copy-constants .ensures .0) (c .listed .ensures),
       λ bytes. list-put (c .before .before .before .copy-constants .result .read) (c .before .before .before .before .before .before .read2 .given .0 .0) (c .before .before .before .before .before .before .read2 .given .0 .1 .0 .at) (c .listed .ensures) (c .before .before .before .copy-constants .ensures .1 bytes),
     )
 

@@ -9,12 +9,12 @@ use Rattle.copy_entry.proofs.listed.copy_names_list.Tie as tie
 returns : tie.Need-returns
 returns c =
     let a = c .before .before .before .before .before .before .args in
-    (count-refused exact-number (many-sized (exact-string (a .max-string-bytes))) (a .s .now) (a .cursor .at) (c .before .read .given .1) (c .before .before .before .read-varint-lua54 .ensures), list-not)
+    (count-refused exact-number (many-sized (exact-string (a .max-string-bytes))) (a .s .now) (a .cursor .at) (c .before .read .given .1) (c .before .before .before .read-value .ensures), list-not)
 
 returns-2 : tie.Need-returns-2
 returns-2 c =
     let a = c .before .before .before .before .before .before .before .before .before .before .before .args in (
-      count-read exact-number (many-sized (exact-string (a .max-string-bytes))) (a .s .now) (a .cursor .at) (c .before .before .before .before .before .before .read2 .given .1) (c .before .before .before .before .before .before .before .before .read-varint-lua54 .ensures) (c .before .before .before .copy-names .ensures .0) (c .listed .ensures),
+      count-read exact-number (many-sized (exact-string (a .max-string-bytes))) (a .s .now) (a .cursor .at) (c .before .before .before .before .before .before .read2 .given .1) (c .before .before .before .before .before .before .before .before .read-value .ensures) (c .before .before .before .copy-names .ensures .0) (c .listed .ensures),
       list-put (c .before .before .before .copy-names .result .read) (c .before .before .before .before .before .before .read2 .given .0 .0) (c .before .before .before .before .before .before .read2 .given .0 .1 .0 .at) (c .listed .ensures) (c .before .before .before .copy-names .ensures .1),
     )
 

@@ -11,9 +11,9 @@ returns : tie.Need-returns
 returns c =
     let k = c .before .before .before .before .before .before in
     let d = k .before .before .before .before .before .before .before in
-    let a = d .before .before .before .before .before .args in
+    let a = d .before .before .before .before .before .before .args in
     tail-stops _ _ (c .refused2 .ensures) (anchors-refused (a .s .now) (a .max-string-bytes) (a .cursor .at)
-    (d .deltas2 .given .0 .0) (d .deltas2 .given .0 .1 .0) (d .deltas2 .given .0 .1 .1 .0) (sym (d .deltas2 .given .1) ∙ d .before .before .line-info-list .ensures)
+    (d .deltas2 .given .0 .0) (d .deltas2 .given .0 .1 .0) (d .deltas2 .given .0 .1 .1 .0) (sym (d .deltas2 .given .1) ∙ d .before .before .line-info-list .ensures .0)
     _ (sym (c .before .before .anchors .given .1) ∙ k .copy-anchors-list .ensures .0))
 
 returns-2 : tie.Need-returns-2
@@ -21,16 +21,16 @@ returns-2 c =
     let l = c .before .before .before .before .before .before in
     let k = l .before .before .before .before .before .before .before in
     let d = k .before .before .before .before .before .before .before in
-    let a = d .before .before .before .before .before .args in
+    let a = d .before .before .before .before .before .before .args in
     tail-stops _ _ (c .refused3 .ensures) (locals-refused (a .s .now) (a .max-string-bytes) (a .cursor .at)
-    (d .deltas2 .given .0 .0) (d .deltas2 .given .0 .1 .0) (d .deltas2 .given .0 .1 .1 .0) (sym (d .deltas2 .given .1) ∙ d .before .before .line-info-list .ensures)
+    (d .deltas2 .given .0 .0) (d .deltas2 .given .0 .1 .0) (d .deltas2 .given .0 .1 .1 .0) (sym (d .deltas2 .given .1) ∙ d .before .before .line-info-list .ensures .0)
     (l .before .before .before .anchors2 .given .0 .0) (l .before .before .before .anchors2 .given .0 .1 .0) (l .before .before .before .anchors2 .given .0 .1 .1 .0) (sym (l .before .before .before .anchors2 .given .1) ∙ k .copy-anchors-list .ensures .0)
     _ (sym (c .before .before .locals .given .1) ∙ l .copy-locals-list .ensures .0))
 
 returns-3 : tie.Need-returns-3
 returns-3 c =
-    let a = c .before .before .before .before .before .before .before .args in
-    tail-stops _ _ (c .refused .ensures) (deltas-refused (a .s .now) (a .max-string-bytes) (a .cursor .at) _ (sym (c .before .before .deltas .given .1) ∙ c .before .before .before .before .line-info-list .ensures))
+    let a = c .before .before .before .before .before .before .before .before .args in
+    tail-stops _ _ (c .refused .ensures) (deltas-refused (a .s .now) (a .max-string-bytes) (a .cursor .at) _ (sym (c .before .before .deltas .given .1) ∙ c .before .before .before .before .line-info-list .ensures .0))
 
 returns-4 : tie.Need-returns-4
 returns-4 c =
@@ -38,9 +38,9 @@ returns-4 c =
     let l = n .before .before .before .before .before .before .before in
     let k = l .before .before .before .before .before .before .before in
     let d = k .before .before .before .before .before .before .before in
-    let a = d .before .before .before .before .before .args in
+    let a = d .before .before .before .before .before .before .args in
     tail-stops _ _ (c .refused4 .ensures) (names-refused (a .s .now) (a .max-string-bytes) (a .cursor .at)
-    (d .deltas2 .given .0 .0) (d .deltas2 .given .0 .1 .0) (d .deltas2 .given .0 .1 .1 .0) (sym (d .deltas2 .given .1) ∙ d .before .before .line-info-list .ensures)
+    (d .deltas2 .given .0 .0) (d .deltas2 .given .0 .1 .0) (d .deltas2 .given .0 .1 .1 .0) (sym (d .deltas2 .given .1) ∙ d .before .before .line-info-list .ensures .0)
     (l .before .before .before .anchors2 .given .0 .0) (l .before .before .before .anchors2 .given .0 .1 .0) (l .before .before .before .anchors2 .given .0 .1 .1 .0) (sym (l .before .before .before .anchors2 .given .1) ∙ k .copy-anchors-list .ensures .0)
     (n .before .before .before .locals2 .given .0 .0) (n .before .before .before .locals2 .given .0 .1 .0) (n .before .before .before .locals2 .given .0 .1 .1 .0) (sym (n .before .before .before .locals2 .given .1) ∙ l .copy-locals-list .ensures .0)
     _ (sym (c .before .before .names .given .1) ∙ n .copy-names-list .ensures .0))
@@ -51,9 +51,9 @@ returns-5 c =
     let l = n .before .before .before .before .before .before .before in
     let k = l .before .before .before .before .before .before .before in
     let d = k .before .before .before .before .before .before .before in
-    let a = d .before .before .before .before .before .args in
+    let a = d .before .before .before .before .before .before .args in
     let e = whole-tail (a .s .now) (a .max-string-bytes) (a .cursor .at)
-    (d .deltas2 .given .0 .0) (d .deltas2 .given .0 .1 .0) (d .deltas2 .given .0 .1 .1 .0) (sym (d .deltas2 .given .1) ∙ d .before .before .line-info-list .ensures)
+    (d .deltas2 .given .0 .0) (d .deltas2 .given .0 .1 .0) (d .deltas2 .given .0 .1 .1 .0) (sym (d .deltas2 .given .1) ∙ d .before .before .line-info-list .ensures .0)
     (l .before .before .before .anchors2 .given .0 .0) (l .before .before .before .anchors2 .given .0 .1 .0) (l .before .before .before .anchors2 .given .0 .1 .1 .0) (sym (l .before .before .before .anchors2 .given .1) ∙ k .copy-anchors-list .ensures .0)
     (n .before .before .before .locals2 .given .0 .0) (n .before .before .before .locals2 .given .0 .1 .0) (n .before .before .before .locals2 .given .0 .1 .1 .0) (sym (n .before .before .before .locals2 .given .1) ∙ l .copy-locals-list .ensures .0)
     (c .before .names2 .given .0 .0) (c .before .names2 .given .0 .1 .0) (c .before .names2 .given .0 .1 .1 .0) (sym (c .before .names2 .given .1) ∙ n .copy-names-list .ensures .0) in

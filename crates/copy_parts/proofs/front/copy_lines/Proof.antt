@@ -10,19 +10,19 @@ use Rattle.copy_parts.proofs.front.copy_lines.Tie as tie
 returns : tie.Need-returns
 returns c =
     let a = c .before .before .before .before .before .before .args in
-    let e = first-refused (a .s .now) (a .cursor .at) _ (sym (c .before .first .given .1) ∙ c .before .before .before .read-varint-lua54 .ensures) in
+    let e = first-refused (a .s .now) (a .cursor .at) _ (sym (c .before .first .given .1) ∙ c .before .before .before .read-value .ensures) in
     (ap linesRead e, lines-not e)
 
 returns-2 : tie.Need-returns-2
 returns-2 c =
     let a = c .before .before .before .before .before .before .before .before .before .before .args in
-    let e = last-refused (a .s .now) (a .cursor .at) (c .before .before .before .before .before .first2 .given .0 .0) (c .before .before .before .before .before .first2 .given .0 .1 .0) (sym (c .before .before .before .before .before .first2 .given .1) ∙ c .before .before .before .before .before .before .before .read-varint-lua54 .ensures) _ (sym (c .before .last .given .1) ∙ c .before .before .before .read-varint-lua542 .ensures) in
+    let e = last-refused (a .s .now) (a .cursor .at) (c .before .before .before .before .before .first2 .given .0 .0) (c .before .before .before .before .before .first2 .given .0 .1 .0) (sym (c .before .before .before .before .before .first2 .given .1) ∙ c .before .before .before .before .before .before .before .read-value .ensures) _ (sym (c .before .last .given .1) ∙ c .before .before .before .read-value2 .ensures) in
     (ap linesRead e, lines-not e)
 
 returns-3 : tie.Need-returns-3
 returns-3 c =
     let a = c .before .before .before .before .before .before .before .before .before .before .before .before .before .before .args in
-    let e = two-lines (a .s .now) (a .cursor .at) (c .before .before .before .before .before .before .before .before .before .first2 .given .0 .0) (c .before .before .before .before .before .before .before .before .before .first2 .given .0 .1 .0) (sym (c .before .before .before .before .before .before .before .before .before .first2 .given .1) ∙ c .before .before .before .before .before .before .before .before .before .before .before .read-varint-lua54 .ensures) (c .before .before .before .before .before .last2 .given .0 .0) (c .before .before .before .before .before .last2 .given .0 .1 .0) (sym (c .before .before .before .before .before .last2 .given .1) ∙ c .before .before .before .before .before .before .before .read-varint-lua542 .ensures) in
+    let e = two-lines (a .s .now) (a .cursor .at) (c .before .before .before .before .before .before .before .before .before .first2 .given .0 .0) (c .before .before .before .before .before .before .before .before .before .first2 .given .0 .1 .0) (sym (c .before .before .before .before .before .before .before .before .before .first2 .given .1) ∙ c .before .before .before .before .before .before .before .before .before .before .before .read-value .ensures) (c .before .before .before .before .before .last2 .given .0 .0) (c .before .before .before .before .before .last2 .given .0 .1 .0) (sym (c .before .before .before .before .before .last2 .given .1) ∙ c .before .before .before .before .before .before .before .read-value2 .ensures) in
     (ap linesRead e, lines-copied e (c .before .before .put-lines .ensures))
 
 pub copy-lines-spec : {M : Type 1} → statement M

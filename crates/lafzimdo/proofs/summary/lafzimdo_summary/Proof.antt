@@ -2,6 +2,7 @@
 use mathlib.Core.Path.{refl}
 use borrow.Author.Needs.{needs}
 use Rattle.format.specs.ReadChunk.{read}
+use Rattle.format_spelling.specs.ReadSpelling.{spelling}
 use Rattle.show_chunk.specs.Summaries.{shownSummary}
 use Rattle.c_boundary.proofs.Calls.{call-refuses, call-answers}
 use Rattle.lafzimdo.specs.Answers.{ofSummary}
@@ -16,8 +17,8 @@ lafzimdo-summary-spec =
     (λ c.
     let k = c .before .before .before .before in
     let a = k .before .before .before .args in
-    call-refuses ofSummary (λ L. shownSummary (read L (a .chunk .now))) (a .out .now) (k .before .limits-of .ensures) (k .chunk-summary .ensures) (c .before .before .answer .given .1) refl (c .refused .ensures))
+    call-refuses ofSummary (λ L. shownSummary (spelling L (a .chunk .now)) (read L (a .chunk .now))) (a .out .now) (k .before .limits-of .ensures) (k .chunk-summary .ensures) (c .before .before .answer .given .1) refl (c .refused .ensures))
     (λ c.
     let k = c .before .before .before .before in
     let a = k .before .before .before .args in
-    call-answers ofSummary (λ L. shownSummary (read L (a .chunk .now))) (a .out .now) (k .before .limits-of .ensures) (k .chunk-summary .ensures) (c .before .before .answer2 .given .1) refl (c .summary-numbers .ensures)))
+    call-answers ofSummary (λ L. shownSummary (spelling L (a .chunk .now)) (read L (a .chunk .now))) (a .out .now) (k .before .limits-of .ensures) (k .chunk-summary .ensures) (c .before .before .answer2 .given .1) refl (c .summary-numbers .ensures)))

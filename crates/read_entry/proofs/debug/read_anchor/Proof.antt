@@ -11,10 +11,10 @@ read-anchor-spec =
     (tie.spec
     (λ c κs. search needs) (λ c. search needs) (λ c. search needs)
     (λ c κs. search needs) (λ c. search needs) (λ c. search needs)
-    (λ c. let a = c .before .before .before .before .before .args in pc-refused (a .s .now) (a .cursor .at) _ (sym (c .before .pc .given .1) ∙ c .before .before .before .read-varint-lua54 .ensures))
+    (λ c. let a = c .before .before .before .before .before .args in pc-refused (a .s .now) (a .cursor .at) _ (sym (c .before .pc .given .1) ∙ c .before .before .before .read-value .ensures))
     (λ c.
     let a = c .before .before .before .before .before .before .before .before .before .args in
-    line-refused (a .s .now) (a .cursor .at) _ _ (sym (c .before .before .before .before .before .pc2 .given .1) ∙ c .before .before .before .before .before .before .before .read-varint-lua54 .ensures) _ (sym (c .before .line .given .1) ∙ c .before .before .before .read-varint-lua542 .ensures))
+    line-refused (a .s .now) (a .cursor .at) _ _ (sym (c .before .before .before .before .before .pc2 .given .1) ∙ c .before .before .before .before .before .before .before .read-value .ensures) _ (sym (c .before .line .given .1) ∙ c .before .before .before .read-value2 .ensures))
     (λ c.
     let a = c .before .before .before .before .before .before .before .before .before .args in
-    anchor-read (a .s .now) (a .cursor .at) _ _ (sym (c .before .before .before .before .before .pc2 .given .1) ∙ c .before .before .before .before .before .before .before .read-varint-lua54 .ensures) _ _ (sym (c .before .line2 .given .1) ∙ c .before .before .before .read-varint-lua542 .ensures)))
+    anchor-read (a .s .now) (a .cursor .at) _ _ (sym (c .before .before .before .before .before .pc2 .given .1) ∙ c .before .before .before .before .before .before .before .read-value .ensures) _ _ (sym (c .before .line2 .given .1) ∙ c .before .before .before .read-value2 .ensures)))

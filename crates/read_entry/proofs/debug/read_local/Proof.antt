@@ -15,12 +15,12 @@ read-local-spec =
     (λ c. let a = c .before .before .before .before .before .args in name-refused (a .s .now) (a .max-string-bytes) (a .cursor .at) _ (sym (c .before .name .given .1) ∙ c .before .before .before .read-string-lua54 .ensures))
     (λ c.
     let a = c .before .before .before .before .before .before .before .before .before .args in
-    startpc-refused (a .s .now) (a .max-string-bytes) (a .cursor .at) _ _ (sym (c .before .before .before .before .before .name2 .given .1) ∙ c .before .before .before .before .before .before .before .read-string-lua54 .ensures) _ (sym (c .before .startpc .given .1) ∙ c .before .before .before .read-varint-lua54 .ensures))
+    startpc-refused (a .s .now) (a .max-string-bytes) (a .cursor .at) _ _ (sym (c .before .before .before .before .before .name2 .given .1) ∙ c .before .before .before .before .before .before .before .read-string-lua54 .ensures) _ (sym (c .before .startpc .given .1) ∙ c .before .before .before .read-value .ensures))
     (λ c.
     let a = c .before .before .before .before .before .before .before .before .before .before .before .before .before .args in
     endpc-refused (a .s .now) (a .max-string-bytes) (a .cursor .at) _ _ (sym (c .before .before .before .before .before .before .before .before .before .name2 .given .1) ∙ c .before .before .before .before .before .before .before .before .before .before .before .read-string-lua54 .ensures)
-    _ _ (sym (c .before .before .before .before .before .startpc2 .given .1) ∙ c .before .before .before .before .before .before .before .read-varint-lua54 .ensures) _ (sym (c .before .endpc .given .1) ∙ c .before .before .before .read-varint-lua542 .ensures))
+    _ _ (sym (c .before .before .before .before .before .startpc2 .given .1) ∙ c .before .before .before .before .before .before .before .read-value .ensures) _ (sym (c .before .endpc .given .1) ∙ c .before .before .before .read-value2 .ensures))
     (λ c.
     let a = c .before .before .before .before .before .before .before .before .before .before .before .before .before .args in
     local-read (a .s .now) (a .max-string-bytes) (a .cursor .at) _ _ (sym (c .before .before .before .before .before .before .before .before .before .name2 .given .1) ∙ c .before .before .before .before .before .before .before .before .before .before .before .read-string-lua54 .ensures)
-    _ _ (sym (c .before .before .before .before .before .startpc2 .given .1) ∙ c .before .before .before .before .before .before .before .read-varint-lua54 .ensures) _ _ (sym (c .before .endpc2 .given .1) ∙ c .before .before .before .read-varint-lua542 .ensures)))
+    _ _ (sym (c .before .before .before .before .before .startpc2 .given .1) ∙ c .before .before .before .before .before .before .before .read-value .ensures) _ _ (sym (c .before .endpc2 .given .1) ∙ c .before .before .before .read-value2 .ensures)))
