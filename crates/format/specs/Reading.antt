@@ -4,7 +4,7 @@
 --     Places           where each list of a function begins, just after its count
 --     Prototype        a function: 01's fields and entries, in the grammar's order
 --     Reading          a chunk
--- Not shown by any call that takes a function's number: `places`, and the place of a local variable's name, whose bytes are shown. (The calls at a place, crates/c_parts, show where lists begin, and a name that is there.)
+-- Not shown by any call that takes a function's number: `places`, and the place of a local variable's name, whose bytes are shown. (The calls at a place show where lists begin, crates/c_parts, and a name that is there, crates/c_entries_at.)
 -- `start` and `end` are shown by the index. All else is shown by the summary, the fields and the entries together (crates/demands/proofs/Together.antt, `alike-exactly`).
 use mathlib.Core.Bool.{Bool}
 use mathlib.Core.List.{List}
