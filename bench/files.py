@@ -8,6 +8,7 @@
 #   tiny-M      as many functions of 14 or 18 bytes as there is room for: above a million in 16 MB
 #   nested-M    201 functions within each other, 200 deep
 #   findings-16 as large-16, with 10,001 findings spread evenly, so that validation stops at the very end
+#   padded-16   as real-16, every number behind a zero group: no number is spelt as in its copy
 #
 # M is the size in MB (of 1,048,576 bytes): 1, 2, 4, 8, 16. No file is longer than 16,777,216 bytes.
 import random
@@ -21,6 +22,7 @@ ORACLE = Path(__file__).parent.parent / "oracle"
 sys.path.insert(0, str(ORACLE))
 
 from kept.build import HEADER, number
+from kept.parse import Reader
 from kept.real import compiled
 
 MB = 1 << 20
@@ -52,6 +54,26 @@ def luac(copies):
     script = "local modules = {}\n" + "".join(bundle(copies)) + "return modules\n"
     run = subprocess.run(["luac5.4", "-o", "-", "-"], input=script.encode("latin-1"), stdout=subprocess.PIPE, check=True)
     return run.stdout
+
+
+class Numbers(Reader):
+    """Where the numbers of a chunk stand."""
+
+    def __init__(self, data):
+        super().__init__(data, 32)
+        self.places = []
+        self.function()
+
+    def number(self):
+        self.places.append(self.at)
+        return super().number()
+
+
+def padded(copies):
+    """What luac makes, every number behind a zero group."""
+    data = luac(copies)
+    cuts = [0, *Numbers(data).places, len(data)]
+    return b"\0".join(data[start:end] for start, end in zip(cuts, cuts[1:]))
 
 
 # ---- functions that are made up
@@ -218,18 +240,23 @@ def sized(make, size):
     return data
 
 
+def bundled(make):
+    """As many copies as there is room for. A copy takes a little more in a longer bundle."""
+    copy = len(make(8)) / 8 * 1.02
+    return lambda size: make(int(size / copy))
+
+
 def main():
     folder = Path(sys.argv[1])
     folder.mkdir(parents=True, exist_ok=True)
     write(folder, "samples", list(compiled().values()))
-    # A copy takes a little more in a longer bundle.
-    copy = len(luac(8)) / 8 * 1.02
     for mb in SIZES:
         size = mb * MB
-        write(folder, f"real-{mb}", [sized(lambda size: luac(int(size / copy)), size)])
+        write(folder, f"real-{mb}", [sized(bundled(luac), size)])
         for make in (large, tiny, nested):
             write(folder, f"{make.__name__}-{mb}", [sized(make, size)])
     write(folder, "findings-16", [sized(lambda size: large(size, spread), 16 * MB)])
+    write(folder, "padded-16", [sized(bundled(padded), 16 * MB)])
 
 
 main()

@@ -1,10 +1,46 @@
--- `copy::encode_chunk_lua54` meets its contract: the first pass says which case of the reading holds (`Outcomes.antt`). Assumes nothing.
+-- `copy::encode_chunk_lua54` meets its contract: by what judging showed (`PlainChunks.antt`). Assumes nothing.
 use borrow.Author.Needs.{needs}
+use borrow.Author.Tests.{not-false}
 use mathlib.Core.Path.{sym, _∙_}
 use Rattle.format.specs.ReadChunk.{read}
-use Rattle.copy.proofs.Outcomes.{copy-refused, copy-short, copy-whole}
+use Rattle.copy.proofs.Outcomes.{all-bytes, copy-refused}
+use Rattle.copy.proofs.PlainChunks.{judged-refused, plain-short, plain-whole}
 use Rattle.copy.proofs.encode_chunk_lua54.Statement.{statement}
 use Rattle.copy.proofs.encode_chunk_lua54.Tie as tie
+
+-- refused
+returns-2 : tie.Need-returns-2
+returns-2 c =
+    let j = c .before .before .before in
+    let a = j .before .before .before .args in
+    let o = read (a .limits) (a .s .now) in
+    copy-refused (a .out .now) o _ (judged-refused _ o _ (sym (c .before .judged .given .1) ∙ j .judge-spelling .ensures))
+
+-- too little is lent
+returns-3 : tie.Need-returns-3
+returns-3 c =
+    let p = c .before .before in
+    let m = p .before .before in
+    let j = m .before .before in
+    let b = j .before .before in
+    let a = b .before .args in
+    plain-short (a .s .now) (a .limits) (all-bytes (a .s .now) (λ i h. b .shared-slice-known .given i .fits)) (m .judged2 .given .0 .0) (m .judged2 .given .0 .1 .0) (sym (m .judged2 .given .1) ∙ j .judge-spelling .ensures)
+    (sym (p .is-plain .ensures) ∙ not-false _ (c .before .if1 .left))
+    (a .out .now) (c .if2 .taken)
+
+-- copied
+returns-4 : tie.Need-returns-4
+returns-4 c =
+    let put = c .before .before in
+    let u = put .before .before in
+    let p = u .before .before .before in
+    let m = p .before .before in
+    let j = m .before .before in
+    let b = j .before .before in
+    let a = b .before .args in
+    plain-whole (a .s .now) (a .limits) (all-bytes (a .s .now) (λ i h. b .shared-slice-known .given i .fits)) (m .judged2 .given .0 .0) (m .judged2 .given .0 .1 .0) (sym (m .judged2 .given .1) ∙ j .judge-spelling .ensures)
+    (sym (p .is-plain .ensures) ∙ not-false _ (u .before .before .if1 .left))
+    (a .out .now) (u .before .if2 .left) _ (u .main-upvalues .ensures) (put .put-plain .ensures)
 
 pub encode-chunk-lua54-spec : {M : Type 1} → statement M
 encode-chunk-lua54-spec =
@@ -13,8 +49,13 @@ encode-chunk-lua54-spec =
     (λ c κs. search needs)
     (λ c. search needs)
     (λ c. search needs)
-    (λ c. let a = c .before .before .before .before .before .before .before .args in copy-short (a .out .now) (read (a .limits) (a .s .now)) _ (sym (c .before .before .judged2 .given .1) ∙ c .before .before .before .before .copy-length .ensures) (c .if1 .taken))
     (λ c κs. search needs)
-    (λ c. let a = c .before .before .before .before .before .before .args in copy-refused (a .out .now) (read (a .limits) (a .s .now)) _ (sym (c .before .judged .given .1) ∙ c .before .before .before .copy-length .ensures))
+    (λ c κs. search needs)
     (λ c. search needs)
-    (λ c. let a = c .before .before .before .before .before .before .before .before .before .before .before .args in copy-whole (a .out .now) (read (a .limits) (a .s .now)) _ (sym (c .before .before .before .before .before .before .judged2 .given .1) ∙ c .before .before .before .before .before .before .before .before .copy-length .ensures) (c .before .before .before .before .if1 .left) (c .before .before .copy-chunk .ensures)))
+    (λ c. search needs)
+    (λ c κs. search needs)
+    (λ c κs. search needs)
+    returns-2
+    returns-3
+    (λ c. search needs)
+    returns-4)
