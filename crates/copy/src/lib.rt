@@ -1,6 +1,6 @@
 // chunk.rs, `encode_chunk_lua54`: the archive copy of a chunk, written into lent memory.
 // A chunk that is spelt as its copy is judged in one pass and copied as it stands, but for its first 32 bytes (plain.rt).
-// Of any other, a walk judges once more and copies as far as the copy has room: lent next to nothing it measures, lent enough it writes (whole.rt).
+// Of any other, a walk judges and copies as far as the copy has room: lent next to nothing it measures, lent enough it writes (whole.rt). Where main's head is spelt otherwise already, that walk is taken at once.
 pub mod plain;
 pub mod whole;
 
@@ -9,7 +9,7 @@ ghost use lib.ListN.{length};
 ghost use Rattle.format.specs.ReadChunk as format;
 ghost use Rattle.copy.specs.Copied.{shownLength, shownCopy, copyWritten};
 use crate::plain::is_plain;
-use crate::plain::main_upvalues;
+use crate::plain::main_head;
 use crate::plain::put_plain;
 use crate::whole::CopyAnswer;
 use crate::whole::copy_chunk;
@@ -48,6 +48,10 @@ fn respell(s: &[u8], limits: ResourceLimits, out: &mut [u8]) -> CopyAnswer
 pub fn copy_length(s: &[u8], limits: ResourceLimits) -> CopyAnswer
     ensures { λ r. ⌜ r ≡ shownLength (format.read limits (now (s .entry))) ⌝ }
 {
+    let main = main_head(s, limits);
+    if !main.plain {
+        return measure(s, limits);
+    }
     let judged = judge_spelling(s, limits);
     match judged {
         SpeltResult::Err(refusal) => CopyAnswer::Err(refusal),
@@ -69,6 +73,10 @@ pub fn encode_chunk_lua54(s: &[u8], limits: ResourceLimits, out: &mut [u8]) -> C
     ensures { λ r. ⌜ r ≡ shownCopy (length (now (out .entry))) (format.read limits (now (s .entry))) ⌝ }
     ensures { λ _. ⌜ now (out .exit) ≡ copyWritten (now (out .entry)) (format.read limits (now (s .entry))) ⌝ }
 {
+    let main = main_head(s, limits);
+    if !main.plain {
+        return respell(s, limits, out);
+    }
     let judged = judge_spelling(s, limits);
     match judged {
         SpeltResult::Err(refusal) => CopyAnswer::Err(refusal),
@@ -82,8 +90,7 @@ pub fn encode_chunk_lua54(s: &[u8], limits: ResourceLimits, out: &mut [u8]) -> C
             if out.len() < s.len() {
                 CopyAnswer::Err(Refusal::LentSpace)
             } else {
-                let upvalues = main_upvalues(s, limits);
-                put_plain(s, upvalues, out);
+                put_plain(s, main.upvalues, out);
                 CopyAnswer::Ok(s.len())
             }
         }

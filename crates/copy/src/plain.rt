@@ -12,6 +12,7 @@ use copy_put::header::put_front;
 use copy_put::raw::put_bytes;
 use format::limits::ResourceLimits;
 use format::spelling::Spelling;
+use format_spelling::tally::spelling_of;
 use read_chunk::MAIN_AT;
 use read_prototype::pass::HeadCountsResult;
 use read_prototype::pass::pass_head;
@@ -31,15 +32,31 @@ pub fn is_plain(spelling: Spelling) -> bool
     spelling.sources == 0
 }
 
-// How many upvalues main has, of a chunk that is read; of any other it says nothing. Ruled out: another list's count, the upvalues of a nested function.
-pub fn main_upvalues(s: &[u8], limits: ResourceLimits) -> usize
-    ensures { λ r. ⌜ ((x : Reading) → format.read limits (now (s .entry)) ≡ format.shown x → r ≡ upvaluesOfMain (x .functions)) ⌝ }
+// What main shows before the functions that nest in it: its upvalues, and whether all is spelt there as in the copy.
+pub struct MainHead {
+    pub upvalues: usize,
+    pub plain: bool,
+}
+
+// Main's head, of a chunk that is read; of any other nothing is said, and nothing of `plain` at all: it is a guess at the rest of the chunk, which the judge or the walk then sees.
+// Ruled out: another list's count, the upvalues of a nested function.
+pub fn main_head(s: &[u8], limits: ResourceLimits) -> MainHead
+    ensures { λ r. ⌜ ((x : Reading) → format.read limits (now (s .entry)) ≡ format.shown x → r .upvalues ≡ upvaluesOfMain (x .functions)) ⌝ }
 {
-    let mut unused = [0usize; 3];
-    let begins = pass_head(s, limits, 0, Cursor { at: MAIN_AT }, &mut unused);
+    let mut tally = [0usize; 3];
+    let begins = pass_head(s, limits, 0, Cursor { at: MAIN_AT }, &mut tally);
     match begins {
-        HeadCountsResult::Err(_) => 0,
-        HeadCountsResult::Ok { counts, next: _ } => counts.upvalues,
+        HeadCountsResult::Err(_) => MainHead {
+            upvalues: 0,
+            plain: true,
+        },
+        HeadCountsResult::Ok { counts, next: _ } => {
+            let plain = is_plain(spelling_of(&tally));
+            MainHead {
+                upvalues: counts.upvalues,
+                plain: plain,
+            }
+        }
     }
 }
 
