@@ -1,6 +1,7 @@
 pub mod RuleCases
 pub mod Targets
 pub mod Judging
+pub mod Glances
 pub mod RustLaws
 pub mod FewFindings
 pub mod Cases

@@ -3,13 +3,15 @@
 use mathlib.Core.Path.{_≡_, refl, ap, sym, _∙_}
 use mathlib.Core.Bool.{Bool, true, false, _||_}
 use mathlib.Core.List.{List, [], _∷_, _++_}
-use Prim.Native.Nat.{ℕ, zero, suc, _+_, _-_, _<_, _≤_}
+use Prim.Native.Nat.{ℕ, zero, suc, _+_, _-_, _*_, _<_, _≤_}
 use native.Mathlib.Omega.{arith}
-use lib.ListN.{length, drop}
-use lib.Dec.{ltb}
-use borrow.Author.Tests.{lt-leb, le-leb, le-ltb}
+use lib.ListN.{length, take, drop, length-drop}
+use lib.Dec.{ltb, leb}
+use borrow.Author.Tests.{lt-leb, le-leb, le-ltb, ltb-true, ltb-false, leb-true, leb-false}
 use Rattle.format.specs.Form.{Bytes}
+use Rattle.format.specs.GrammarFields.{little}
 use Rattle.format.specs.ReadFields.{field}
+use Rattle.format.proofs.Steps.{field-short, field-enough}
 use Rattle.read_field.specs.declared.field.U32Result.{U32Result}
 use Rattle.read_field.specs.declared.field.U32Result.the-variants as u32
 use Rattle.read_field.specs.Shown.{u32Result}
@@ -21,6 +23,11 @@ use Rattle.validate_search.specs.Inner.Position.{onWord, wordsAt, codeLe
 use Rattle.validate_rules.specs.declared.finding.Finding.{Finding}
 use Rattle.validate_rules.specs.declared.finding.OptionFinding.{OptionFinding}
 use Rattle.validate_rules.specs.declared.finding.Bounds.{Bounds}
+use Rattle.validate_search.specs.declared.scan.Code.{Code}
+
+empty : (gs : List (List Finding)) → length gs ≡ 0 → gs ≡ []
+empty [] e = refl
+empty (g ∷ gs) e = absurd (omega arith)
 
 module _ (s : Bytes) (b : Bounds) (k : ℕ) where
   -- behind the last instruction
@@ -39,6 +46,73 @@ module _ (s : Bytes) (b : Bounds) (k : ℕ) where
       → codeLeft s (codeAt b k place pc) ≡ onWord (u32Result (field 4 place (drop place s))) [] (λ word to. instruction k b pc word ∷ codeLeft s (codeAt b k to (pc + 1)))
   unfolding codeLeft codeGroups wordsAt
   code-more place pc h = let z : b .instructions - pc ≡ suc (b .instructions - (pc + 1)) = omega arith in rw z (words-more (u32Result (field 4 place (drop place s))) (b .instructions - (pc + 1)) pc)
+
+  groups-many : (ws : List ℕ) (pc : ℕ) → length (codeGroups k b ws pc) ≡ length ws
+  unfolding codeGroups
+  groups-many [] pc = refl
+  groups-many (w ∷ ws) pc = ap suc (groups-many ws (pc + 1))
+
+  -- the next instruction, where there is one
+  pub code-next : (place pc : ℕ) → 0 < length (codeLeft s (codeAt b k place pc))
+      → (place + 4 ≤ length s) × (codeLeft s (codeAt b k place pc) ≡ instruction k b pc (little (take 4 (drop place s))) ∷ codeLeft s (codeAt b k (place + 4) (pc + 1)))
+  code-next place pc some = go (ltb pc (b .instructions)) refl (leb 4 (length (drop place s))) refl
+    where
+      go : (t : Bool) → ltb pc (b .instructions) ≡ t → (u : Bool) → leb 4 (length (drop place s)) ≡ u
+          → (place + 4 ≤ length s) × (codeLeft s (codeAt b k place pc) ≡ instruction k b pc (little (take 4 (drop place s))) ∷ codeLeft s (codeAt b k (place + 4) (pc + 1)))
+      go true e true f =
+          let enough = leb-true 4 (length (drop place s)) f in
+          (omega (arith, length-drop place s), code-more place pc (ltb-true pc (b .instructions) e) ∙ rw (field-enough 4 place (drop place s) enough))
+      go true e false f =
+          let none : codeLeft s (codeAt b k place pc) ≡ [] = code-more place pc (ltb-true pc (b .instructions) e) ∙ rw (field-short 4 place (drop place s) (leb-false 4 (length (drop place s)) f)) in
+          absurd (omega (arith, some, ap length none))
+      go false e u f = absurd (omega (arith, some, ap length (code-end place pc (ltb-false pc (b .instructions) e))))
+
+-- At the instruction pc of code c: what c has left is what is left here, but for empty groups, up to the instruction `end`.
+module _ (s : Bytes) (c : Code) (end : ℕ) where
+  abbrev here : ℕ → ℕ → List (List Finding)
+  here place pc = codeLeft s (codeAt (c .bounds) (c .function) place pc)
+
+  abbrev pub Stands : ℕ → ℕ → Type 0
+  Stands place pc = (skip (codeLeft s c) ≡ skip (here place pc)) × (end ≡ pc + length (here place pc))
+
+  module _ (place pc : ℕ) (stands : Stands place pc) where
+    -- behind the last one
+    pub ends : end ≤ pc → skip (codeLeft s c) ≡ []
+    unfolding skip
+    ends none = stands .0 ∙ ap skip (empty (here place pc) (omega (arith, stands .1)))
+
+    module _ (more : pc < end) where
+      one : (place + 4 ≤ length s) × (here place pc ≡ instruction (c .function) (c .bounds) pc (little (take 4 (drop place s))) ∷ here (place + 4) (pc + 1))
+      one = code-next s (c .bounds) (c .function) place pc (omega (arith, stands .1))
+
+      pub word-there : place + 4 ≤ length s
+      word-there = one .0
+
+      module _ (word : ℕ) (is : word ≡ little (take 4 (drop place s))) where
+        -- an instruction that is fine
+        pub passes : instruction (c .function) (c .bounds) pc word ≡ [] → Stands (place + 4) (pc + 1)
+        unfolding skip
+        passes fine = (stands .0 ∙ rw (one .1, ← is, fine), omega (arith, stands .1, ap length (one .1)))
+
+        -- and one that is not
+        pub finds : (f : Finding) (g : List Finding) → instruction (c .function) (c .bounds) pc word ≡ f ∷ g → skip (codeLeft s c) ≡ (f ∷ g) ∷ here (place + 4) (pc + 1)
+        unfolding skip
+        finds f g found = stands .0 ∙ rw (one .1, ← is, found)
+
+-- of n words m are there, and not one more
+words-there : (s : Bytes) (m n at : ℕ) → m ≤ n → m * 4 ≤ length (drop at s) → (m < n → length (drop at s) < m * 4 + 4) → length (wordsAt s n at) ≡ m
+unfolding wordsAt
+words-there s zero zero at most all last = refl
+words-there s zero (suc n) at most all last = rw (field-short 4 at (drop at s) (last (omega arith)))
+words-there s (suc m) zero at most all last = absurd (omega arith)
+words-there s (suc m) (suc n) at most all last =
+    rw (field-enough 4 at (drop at s) (omega arith))
+    (ap suc (words-there s m n (at + 4) (omega arith) (omega (arith, length-drop at s, length-drop (at + 4) s)) (λ h. omega (arith, last (omega arith), length-drop at s, length-drop (at + 4) s))))
+
+pub code-there : (s : Bytes) (c : Code) (m : ℕ) → m ≤ c .bounds .instructions - c .pc → m * 4 ≤ length (drop (c .place .at) s)
+    → (m < c .bounds .instructions - c .pc → length (drop (c .place .at) s) < m * 4 + 4) → length (codeLeft s c) ≡ m
+unfolding codeLeft
+code-there s c m most all last = groups-many s (c .bounds) (c .function) (wordsAt s (c .bounds .instructions - c .pc) (c .place .at)) (c .pc) ∙ words-there s m (c .bounds .instructions - c .pc) (c .place .at) most all last
 
 module _ (max n : ℕ) where
   pub limited-full : (gs : List (List Finding)) → max ≤ n → limited max n gs ≡ ended (anyLeft gs || ltb max n)
