@@ -62,25 +62,14 @@ fn read_head_lists(
     ensures { λ _. ⌜ Adds (parts.headLists limits before (cursor .at) (drop (cursor .at) (now (s .entry)))) (spelt.headLists limits before (cursor .at) (drop (cursor .at) (now (s .entry)))) (now (tally .entry)) (now (tally .exit)) ⌝ }
 {
     let most = limits.max_instructions_per_proto;
-    let code = instructions_list(
-        s,
-        cursor,
-        most,
-        before,
-        limits.max_total_instructions,
-        tally,
-    );
+    let total = limits.max_total_instructions;
+    let code = instructions_list(s, cursor, most, before, total, tally);
     let code = match code {
         ListResult::Err(refusal) => return HeadListsResult::Err(refusal),
         ListResult::Ok { count, place, next } => passed(count, place, next),
     };
-    let k = constants_list(
-        s,
-        code.next,
-        limits.max_constants_per_proto,
-        limits.max_string_bytes,
-        tally,
-    );
+    let most = limits.max_constants_per_proto;
+    let k = constants_list(s, code.next, most, limits.max_string_bytes, tally);
     let k = match k {
         ListResult::Err(refusal) => return HeadListsResult::Err(refusal),
         ListResult::Ok { count, place, next } => passed(count, place, next),
