@@ -29,6 +29,8 @@ double run_index(const struct set *set) {
     TIMED(set, must(lafzimdo_index(c->bytes, c->len, limits, rows, rows_len, out) == 0 && out[0] == c->functions, "index"));
 }
 
+double run_copy_length(const struct set *set) { TIMED(set, must(lafzimdo_copy_length(c->bytes, c->len, limits, out) == 0, "copy_length")); }
+
 double run_copy(const struct set *set) { TIMED(set, must(lafzimdo_copy(c->bytes, c->len, limits, copy, copy_len, out) == 0, "copy")); }
 
 double run_verdict(const struct set *set) { TIMED(set, must(lafzimdo_verdict(c->bytes, c->len, limits, out) == 0, "verdict")); }

@@ -9,9 +9,9 @@
 #include <stdlib.h>
 #include <string.h>
 
-enum { MEMCPY, SKIP, SUMMARY, INDEX, COPY, VERDICT, FINDINGS, LINE, LOAD, DUMP, CALLS };
-static const char *const names[CALLS] = {"memcpy", "C reader", "summary", "index", "copy", "verdict", "findings", "line", "lua_load", "lua_dump"};
-static const call runs[CALLS] = {run_memcpy, run_skip, run_summary, run_index, run_copy, run_verdict, run_findings, run_line, run_load, run_dump};
+enum { MEMCPY, SKIP, TEST, SUMMARY, INDEX, COPY_LENGTH, COPY, VERDICT, FINDINGS, LINE, LOAD, DUMP, CALLS };
+static const char *const names[CALLS] = {"memcpy", "C reader", "C verdict", "summary", "index", "copy_length", "copy", "verdict", "findings", "line", "lua_load", "lua_dump"};
+static const call runs[CALLS] = {run_memcpy, run_skip, run_test, run_summary, run_index, run_copy_length, run_copy, run_verdict, run_findings, run_line, run_load, run_dump};
 #define FIRST_OWN SUMMARY
 #define LAST_OWN LINE
 
@@ -62,14 +62,37 @@ static void show_times(void) {
     }
 }
 
+static size_t instructions(const struct set *set) {
+    size_t n = 0;
+    for (size_t i = 0; i < set->count; i++) n += set->chunks[i].instructions;
+    return n;
+}
+
 static void show_goals(void) {
-    printf("\nRatios (above 1: the library is faster), and the goal for each:\n\n"
-           "| file | lua_load / summary | lua_load / verdict | lua_dump / copy | load and dump / copy | C reader / summary |\n"
-           "|---|--:|--:|--:|--:|--:|\n| goal | 3 | 1 | 1 | | 0.67 |\n");
+    printf("\nAt least (above the goal: met; on tiny functions 1.3 for the verdict):\n\n"
+           "| file | lua_load / summary | lua_load / verdict | lua_dump / copy | load and dump / copy |\n"
+           "|---|--:|--:|--:|--:|\n| goal | 3 | 2 | 1.5 | |\n");
     for (int f = 0; f < files; f++) {
         const double *b = best[f];
-        printf("| %s | %.2f | %.2f | %.2f | %.2f | %.2f |\n", sets[f].name, b[LOAD] / b[SUMMARY], b[LOAD] / b[VERDICT], b[DUMP] / b[COPY],
-               (b[LOAD] + b[DUMP]) / b[COPY], b[SKIP] / b[SUMMARY]);
+        printf("| %s | %.2f | %.2f | %.2f | %.2f |\n", sets[f].name, b[LOAD] / b[SUMMARY], b[LOAD] / b[VERDICT], b[DUMP] / b[COPY], (b[LOAD] + b[DUMP]) / b[COPY]);
+    }
+    printf("\nAt most (below the goal: met):\n\n"
+           "| file | summary / C reader | copy / (summary and two memcpy) | copy_length / summary | findings / verdict | verdict / C verdict |\n"
+           "|---|--:|--:|--:|--:|--:|\n| goal | 1.2 | 1 | 1 | 1.5 | |\n");
+    for (int f = 0; f < files; f++) {
+        const double *b = best[f];
+        printf("| %s | %.2f | %.2f | %.2f | %.2f | %.2f |\n", sets[f].name, b[SUMMARY] / b[SKIP], b[COPY] / (b[SUMMARY] + 2 * b[MEMCPY]), b[COPY_LENGTH] / b[SUMMARY],
+               b[FINDINGS] / b[VERDICT], b[VERDICT] / b[TEST]);
+    }
+}
+
+/* What testing an instruction takes: the verdict without the reading, and the same of the C reader. */
+static void show_words(void) {
+    printf("\nNanoseconds for an instruction, without reading (goal: 2.5 on large-16):\n\n| file | instructions | verdict | C verdict |\n|---|--:|--:|--:|\n");
+    for (int f = 0; f < files; f++) {
+        const double *b = best[f];
+        double n = instructions(sets + f) / 1e9;
+        printf("| %s | %zu | %.2f | %.2f |\n", sets[f].name, instructions(sets + f), (b[VERDICT] - b[SUMMARY]) / n, (b[TEST] - b[SKIP]) / n);
     }
 }
 
@@ -134,6 +157,6 @@ int main(int count, char **words) {
     getloadavg(load, 3);
     printf(", behind: %.2f\n\n", load[0]);
     if (growth) show_growth();
-    else show_times(), show_goals(), show_each();
+    else show_times(), show_goals(), show_words(), show_each();
     return 0;
 }

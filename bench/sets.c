@@ -35,6 +35,11 @@ void must(int holds, const char *what) {
 
 double run_skip(const struct set *set) { TIMED(set, must(skip_chunk(c->bytes, c->len, limits) == (int64_t)c->functions, "the C reader refused")); }
 
+double run_test(const struct set *set) {
+    struct tested t;
+    TIMED(set, must(test_chunk(c->bytes, c->len, limits, &t) == (int64_t)c->functions && t.instructions == c->instructions, "the C reader refused"));
+}
+
 static void fail(const char *what) {
     perror(what);
     exit(1);
@@ -83,6 +88,11 @@ void make_ready(struct set *set) {
         int64_t n = skip_chunk(c->bytes, c->len, limits);
         must(n > 0, "the C reader refused");
         c->functions = (size_t)n;
+        /* The C reader tests what the library tests: else it would be no measure of it. */
+        struct tested t;
+        must(test_chunk(c->bytes, c->len, limits, &t) == n, "the C reader refused");
+        c->instructions = t.instructions;
+        must(lafzimdo_finding_count(c->bytes, c->len, limits, out) == 0 && out[0] == t.findings, "the C reader finds other things");
         if (functions < c->functions) functions = c->functions;
         must(lafzimdo_copy_length(c->bytes, c->len, limits, out) == 0, "copy_length");
         if (longest < out[0]) longest = out[0];

@@ -6,6 +6,7 @@ struct chunk {
     const uint8_t *bytes;
     size_t len;
     size_t functions;      /* as the C reader counts them */
+    size_t instructions;
     size_t function, pc;   /* the last instruction of the function that has most: what is looked up */
     size_t late;           /* the last function that has an instruction */
 };
@@ -44,7 +45,7 @@ void must(int holds, const char *what);
         }                                                               \
     return (now() - start) / (set)->repeats
 
-double run_skip(const struct set *);
+double run_skip(const struct set *), run_test(const struct set *);
 
 /* A file as bench/files.py writes it. */
 void load_set(struct set *, const char *path);

@@ -1,8 +1,11 @@
 /* Passes over a chunk as someone would write it in C: a pointer and an end, a return at the first fault, recursion for nested functions. It tests what the
- * library tests: the header, every number for overflow, every length against the end, the tags of constants, and the limits. It keeps nothing but a count. */
+ * library tests: the header, every number for overflow, every length against the end, the tags of constants, and the limits. It keeps nothing but counts.
+ * Where it is asked to it also tests every instruction as the verdict does, in the same pass. */
 #include "skip.h"
 
 #include <string.h>
+
+#define MOST_FINDINGS 10000
 
 enum { INPUT_BYTES, NESTING, PROTOTYPES, INSTRUCTIONS, TOTAL_INSTRUCTIONS, CONSTANTS, UPVALUES, STRING_BYTES, DIAGNOSTICS };
 
@@ -10,6 +13,7 @@ struct state {
     const uint8_t *at, *end;
     const uint64_t *limits;
     uint64_t functions, instructions;
+    struct tested *tested; /* NULL: instructions are passed over */
 };
 
 static const uint64_t ceilings[9] = {16777216, 200, 16777216, 16777216, 16777216, 16777216, 16777216, 16777216, 10000};
@@ -61,17 +65,58 @@ static int constant(struct state *st) {
     }
 }
 
+/* What a function's instructions are held against. */
+struct bounds {
+    uint64_t stack, instructions, constants, upvalues, protos;
+};
+
+/* How many findings an instruction has, by validator.rs. */
+static unsigned faults(uint32_t word, uint64_t pc, const struct bounds *b) {
+    uint32_t op = word & 127, a = (word >> 7) & 255, bx = word >> 15, second = (word >> 16) & 255;
+    unsigned high = b->stack <= a;
+    switch (op) {
+    case 3: return high + (b->constants <= bx);                      /* LOADK */
+    case 9: case 10: case 11: return high + (b->upvalues <= second); /* GETUPVAL, SETUPVAL, GETTABUP */
+    case 15: return b->upvalues <= a;                                /* SETTABUP */
+    case 56: {                                                       /* JMP */
+        int64_t target = (int64_t)pc + 1 + (int64_t)(word >> 7) - 16777215;
+        return target < 0 || (int64_t)b->instructions <= target;
+    }
+    case 71: case 81: case 82: return 0;                             /* RETURN0, VARARGPREP, EXTRAARG */
+    case 79: return high + (b->protos <= bx);                        /* CLOSURE */
+    default: return 82 < op ? 1 : high;
+    }
+}
+
+static void test(struct tested *t, const uint8_t *code, const struct bounds *b) {
+    uint64_t findings = t->findings;
+    for (uint64_t pc = 0; pc < b->instructions && findings < MOST_FINDINGS; pc++) {
+        uint32_t word;
+        memcpy(&word, code + 4 * pc, 4);
+        findings += faults(word, pc, b);
+    }
+    t->findings = findings;
+    t->instructions += b->instructions;
+}
+
 static int function(struct state *st, uint64_t left) {
     uint64_t n, ignored;
+    struct bounds b;
     if (!string(st) || !number(st, &ignored) || !number(st, &ignored) || !bytes(st, 3)) return 0;
+    b.stack = st->at[-1];
     if (!count(st, st->limits[INSTRUCTIONS], &n) || n > st->limits[TOTAL_INSTRUCTIONS] - st->instructions || !items(st, n, 4)) return 0;
+    const uint8_t *code = st->at - 4 * n;
+    b.instructions = n;
     st->instructions += n;
     st->functions++;
     if (!count(st, st->limits[CONSTANTS], &n)) return 0;
-    for (; n > 0; n--)
+    for (b.constants = n; n > 0; n--)
         if (!constant(st)) return 0;
     if (!count(st, st->limits[UPVALUES], &n) || !items(st, n, 3)) return 0;
+    b.upvalues = n;
     if (!count(st, st->limits[PROTOTYPES], &n)) return 0;
+    b.protos = n;
+    if (st->tested) test(st->tested, code, &b);
     for (; n > 0; n--)
         if (left == 0 || st->limits[PROTOTYPES] < st->functions || !function(st, left - 1)) return 0;
     if (!number(st, &n) || !bytes(st, n)) return 0;
@@ -96,11 +141,18 @@ static int header(struct state *st) {
     return bytes(st, 1);
 }
 
-int64_t skip_chunk(const uint8_t *chunk, size_t len, const uint64_t limits[9]) {
-    struct state st = {chunk, chunk + len, limits, 0, 0};
+static int64_t pass(const uint8_t *chunk, size_t len, const uint64_t limits[9], struct tested *tested) {
+    struct state st = {chunk, chunk + len, limits, 0, 0, tested};
     for (int i = 0; i < 9; i++)
         if (ceilings[i] < limits[i]) return -1;
     if (limits[INPUT_BYTES] < len) return -1;
     if (!header(&st) || !function(&st, limits[NESTING])) return -1;
     return (int64_t)st.functions;
+}
+
+int64_t skip_chunk(const uint8_t *chunk, size_t len, const uint64_t limits[9]) { return pass(chunk, len, limits, NULL); }
+
+int64_t test_chunk(const uint8_t *chunk, size_t len, const uint64_t limits[9], struct tested *tested) {
+    *tested = (struct tested){0};
+    return pass(chunk, len, limits, tested);
 }
