@@ -115,10 +115,8 @@ fn pass_tagged(
         0 => CursorResult::Ok(cursor),
         1 => CursorResult::Ok(cursor),
         17 => CursorResult::Ok(cursor),
-        3 => pass_eight(s, cursor),
-        19 => pass_eight(s, cursor),
-        4 => pass_filled(s, cursor, max_string_bytes, tally),
-        20 => pass_filled(s, cursor, max_string_bytes, tally),
+        3 | 19 => pass_eight(s, cursor),
+        4 | 20 => pass_filled(s, cursor, max_string_bytes, tally),
         _ => CursorResult::Err(Refusal::ConstantTag(place)),
     }
 }

@@ -1,5 +1,6 @@
 -- `read_entry::pass::pass_tagged` meets its contract: by the tag, and what was passed over behind it (`Passes.antt`). Assumes nothing.
 use mathlib.Core.Path.{refl}
+use mathlib.Core.Logic.{inl, inr, ⊎-elim}
 use mathlib.Core.List.{[]}
 use borrow.Author.Needs.{needs}
 use borrow.Author.Tests.{ne-eqb}
@@ -17,18 +18,25 @@ pub pass-tagged-spec : {M : Type 1} → statement M
 pass-tagged-spec =
     tie.close
     (tie.spec
-    (λ c κs. search needs) (λ c κs. search needs) (λ c κs. search needs) (λ c κs. search needs)
+    (λ c κs. search needs) (λ c κs. search needs)
     (λ c. rw (c .match .keys1) (refl, adds-none))
     (λ c. rw (c .match .keys2) (refl, adds-none))
     (λ c. rw (c .match .keys3) (refl, adds-none))
-    (λ c. let a = c .before .before .before .args in rw (c .before .match .keys4) (passes-value (λ n _. integer n) (field 8 (a .cursor .at) (drop (a .cursor .at) (a .s .now))) (c .pass-eight .ensures, adds-none)))
-    (λ c. let a = c .before .before .before .args in rw (c .before .match .keys5) (passes-value (λ n _. float n) (field 8 (a .cursor .at) (drop (a .cursor .at) (a .s .now))) (c .pass-eight2 .ensures, adds-none)))
+    (λ c.
+    let a = c .before .before .before .args in
+    let eight = field 8 (a .cursor .at) (drop (a .cursor .at) (a .s .now)) in
+    ⊎-elim
+    (λ e. rw e (passes-value (λ n _. integer n) eight (c .pass-eight .ensures, adds-none)))
+    (λ e. rw e (passes-value (λ n _. float n) eight (c .pass-eight .ensures, adds-none)))
+    (c .before .match .keys4))
     (λ c.
     let a = c .before .before .before .before .args in
-    rw (c .before .before .match .keys6) (passes-value (λ t _. short-string t) (always (a .max-string-bytes) [] (a .cursor .at) (drop (a .cursor .at) (a .s .now))) (passes-filled (a .max-string-bytes) [] (a .cursor .at) (drop (a .cursor .at) (a .s .now)) (c .pass-filled .ensures))))
-    (λ c.
-    let a = c .before .before .before .before .args in
-    rw (c .before .before .match .keys7) (passes-value (λ t _. long-string t) (always (a .max-string-bytes) [] (a .cursor .at) (drop (a .cursor .at) (a .s .now))) (passes-filled (a .max-string-bytes) [] (a .cursor .at) (drop (a .cursor .at) (a .s .now)) (c .pass-filled2 .ensures))))
+    let filled = always (a .max-string-bytes) [] (a .cursor .at) (drop (a .cursor .at) (a .s .now)) in
+    let passed = passes-filled (a .max-string-bytes) [] (a .cursor .at) (drop (a .cursor .at) (a .s .now)) (c .pass-filled .ensures) in
+    ⊎-elim
+    (λ e. rw e (passes-value (λ t _. short-string t) filled passed))
+    (λ e. rw e (passes-value (λ t _. long-string t) filled passed))
+    (c .before .before .match .keys5))
     (λ c.
     let n = c .match .rest in
-    rw (ne-eqb _ 0 (n .0 .0 .0 .0 .0 .0 .1), ne-eqb _ 1 (n .0 .0 .0 .0 .0 .1), ne-eqb _ 17 (n .0 .0 .0 .0 .1), ne-eqb _ 3 (n .0 .0 .0 .1), ne-eqb _ 19 (n .0 .0 .1), ne-eqb _ 4 (n .0 .1), ne-eqb _ 20 (n .1)) (refl, adds-not refl)))
+    rw (ne-eqb _ 0 (n .0 .0 .0 .0 .1), ne-eqb _ 1 (n .0 .0 .0 .1), ne-eqb _ 17 (n .0 .0 .1), ne-eqb _ 3 (λ e. n .0 .1 (inl e)), ne-eqb _ 19 (λ e. n .0 .1 (inr e)), ne-eqb _ 4 (λ e. n .1 (inl e)), ne-eqb _ 20 (λ e. n .1 (inr e))) (refl, adds-not refl)))
