@@ -51,9 +51,9 @@ pub fn function_line(out: &mut Out, used: usize, number: usize, row: Row) -> usi
         row.sizes.numparams as u64,
         row.sizes.is_vararg as u64,
         row.sizes.maxstacksize as u64,
-        row.instructions.count as u64,
-        row.constants.count as u64,
-        row.upvalues.count as u64,
+        row.instructions as u64,
+        row.constants as u64,
+        row.upvalues as u64,
     ];
     numbers(out, used, number as u64, &more)
 }

@@ -72,7 +72,7 @@ fn function_lines(
             return used;
         };
         used = function_line(out, used, number, row);
-        go_down(&mut left, d, row.protos.count);
+        go_down(&mut left, d, row.protos);
         depth = d + 1;
         at = first;
         number += 1;

@@ -77,7 +77,7 @@ module _ (L : ResourceLimits) (s : Bytes) where
 
     agree-head : (w : Where) → w .depth ≡ depth → (at : ℕ) (o p : Read Head) → head L (w .instructions) at (drop at s) ≡ o → Fewer o p
         → Agree (next o (λ h first rest. next (forest (h .protos .count) (entered L left-over) (inside w h) first rest) (λ ps behind rest. next (tail (L .«max_string_bytes») behind rest) (λ t end rest. ok (prototypeOf w at h t end ∷ ps) end rest))))
-        (onHead (w .depth) (headResult p) (cut []) (λ row first. before (row ∷ []) (andThen (times one (row .protos .count) first) (λ behind. onTail (tailAt L s behind) (cut []) (through [])))))
+        (onHead (w .depth) (headResult p) (cut []) (λ row first. before (row ∷ []) (andThen (times one (row .protos) first) (λ behind. onTail (tailAt L s behind) (cut []) (through [])))))
     agree-head w deep at (ok h first rest) p e f =
         rw (f .holds h first rest refl, left (exact-head L (w .instructions)) s at e)
         (agree-nested w at h first (forest (h .protos .count) (entered L left-over) (inside w h) first (drop first s)) refl (agree-forest (h .protos .count) (inside w h) first (ap (λ d. d + 1) deep)))

@@ -94,15 +94,15 @@ module _ (L : ResourceLimits) (s : Bytes) where
 
   -- one function of a level, by what comes behind the level
   level-more : (levels n at : ℕ) (k : ℕ → List Row) → 0 < n → onward (times (functionAt L s (suc levels)) n at) k
-      ≡ onHead (DEEPEST - levels) (headAt L s at) [] (λ row first. row ∷ onward (times (functionAt L s levels) (row .protos .count) first) (λ behind.
+      ≡ onHead (DEEPEST - levels) (headAt L s at) [] (λ row first. row ∷ onward (times (functionAt L s levels) (row .protos) first) (λ behind.
       onTail (tailAt L s behind) [] (λ p. onward (times (functionAt L s (suc levels)) (n - 1) p) k)))
   unfolding functionAt bodyAt
   level-more levels n at k h =
       rw (times-more _ n at h, onward-then)
       (onward-head (DEEPEST - levels) (headAt L s at) _ _ _ (λ row first.
-      onward-before (row ∷ []) (andThen (times (functionAt L s levels) (row .protos .count) first) (λ behind. onTail (tailAt L s behind) (cut []) (through []))) _
+      onward-before (row ∷ []) (andThen (times (functionAt L s levels) (row .protos) first) (λ behind. onTail (tailAt L s behind) (cut []) (through []))) _
       ∙ ap (λ (l : List Row). row ∷ l)
-      (onward-then (times (functionAt L s levels) (row .protos .count) first) _ _ ∙ onward-same (times (functionAt L s levels) (row .protos .count) first) _ _ (λ behind. onward-tail (tailAt L s behind) _))))
+      (onward-then (times (functionAt L s levels) (row .protos) first) _ _ ∙ onward-same (times (functionAt L s levels) (row .protos) first) _ _ (λ behind. onward-tail (tailAt L s behind) _))))
 
   head-same : (d : ℕ) (h : HeadResult) (f g : Row → ℕ → List Row) → ((row : Row) (first : ℕ) → f row first ≡ g row first) → onHead d h [] f ≡ onHead d h [] g
   head-same d (head-answer.Ok h next) f g e = e (rowShown d h) (next .at)
@@ -125,13 +125,13 @@ module _ (L : ResourceLimits) (s : Bytes) where
       above-next (entered left d n) d behind ∙ tail-same (tailAt L s behind) _ _ (λ p. one-fewer left d n p fits)))
 
   pub one-more : (left : List ℕ) (d at : ℕ) → 0 < getD left d 0 → d < LEVELS → length left ≡ LEVELS + 1
-      → rowsFrom L s left d at ≡ onHead d (headAt L s at) [] (λ row first. row ∷ rowsFrom L s (entered left d (row .protos .count)) (d + 1) first)
+      → rowsFrom L s left d at ≡ onHead d (headAt L s at) [] (λ row first. row ∷ rowsFrom L s (entered left d (row .protos)) (d + 1) first)
   one-more left d at h low long =
       let fits : d + 1 < length left = omega arith in
       let z : LEVELS - d ≡ suc (DEEPEST - d) = omega arith in
       let here : DEEPEST - (DEEPEST - d) ≡ d = omega arith in
       rw (rows-are left d at, z, level-more (DEEPEST - d) _ at _ h, here)
-      (head-same d (headAt L s at) _ _ (λ row first. rw (entered-rows left d (row .protos .count) first low fits, z)))
+      (head-same d (headAt L s at) _ _ (λ row first. rw (entered-rows left d (row .protos) first low fits, z)))
 
   -- the whole chunk: one function, at the top
   pub at-start : (left : List ℕ) (at : ℕ) → getD left 0 0 ≡ 1 → rowsFrom L s left 0 at ≡ chunkRows L s at

@@ -9,13 +9,12 @@ use read_prototype::parts::HeadResult;
 use read_prototype::parts::TailResult;
 use read_prototype::parts::read_head;
 use read_prototype::parts::read_tail;
-use read_prototype::row::ListAt;
 use slice::cursor::Cursor;
 ghost use mathlib.Core.Path.{_≡_};
 ghost use Prim.Native.Nat.{_+_, _<_, _≤_};
 ghost use lib.ListN.{length, getD};
 ghost use Rattle.format.specs.Limits.{MOST};
-ghost use Rattle.read_next.specs.Inner.Rows.{LEVELS, rowShown, rowsFrom, met, entered, upTo, Within, Ready};
+ghost use Rattle.read_next.specs.Inner.Rows.{LEVELS, rowShown, rowsFrom, anyRow, met, entered, upTo, Within, Ready};
 
 // Levels of functions, main's included.
 const LEVELS: usize = DEEPEST + 1;
@@ -24,15 +23,17 @@ pub const COUNTS: usize = LEVELS + 1;
 // How many functions are still to come, level by level.
 pub type Levels = [usize; COUNTS];
 
-// A function's level, main's being 0, and what stands before its nested functions, without its source.
+// A function's level, main's being 0, and what stands before its nested functions, without its source: of its lists how long they are, and where the first instruction word stands.
+// (Numbers by themselves: a count beside its place is copied as a pair, and reading a pair just behind the writing of its halves holds the processor up.)
 pub struct Row {
     pub depth: usize,
     pub lines: Lines,
     pub sizes: Sizes,
-    pub instructions: ListAt,
-    pub constants: ListAt,
-    pub upvalues: ListAt,
-    pub protos: ListAt,
+    pub instructions: usize,
+    pub constants: usize,
+    pub upvalues: usize,
+    pub protos: usize,
+    pub instructions_at: usize,
 }
 
 fn row_of(depth: usize, head: Head) -> Row
@@ -40,18 +41,19 @@ fn row_of(depth: usize, head: Head) -> Row
 {
     let lines = head.front.lines;
     let sizes = head.front.sizes;
-    let instructions = head.lists.instructions;
-    let constants = head.lists.constants;
-    let upvalues = head.lists.upvalues;
-    let protos = head.protos;
     Row {
         depth: depth,
         lines: lines,
-        sizes: sizes,
-        instructions: instructions,
-        constants: constants,
-        upvalues: upvalues,
-        protos: protos,
+        sizes: Sizes {
+            numparams: sizes.numparams,
+            is_vararg: sizes.is_vararg,
+            maxstacksize: sizes.maxstacksize,
+        },
+        instructions: head.lists.instructions.count,
+        constants: head.lists.constants.count,
+        upvalues: head.lists.upvalues.count,
+        protos: head.protos.count,
+        instructions_at: head.lists.instructions.place,
     }
 }
 
@@ -125,6 +127,27 @@ pub fn next_function(
     };
     let row = row_of(d, head);
     Met::Function(row, d, next)
+}
+
+// Whether there is a next function, for callers that do not look at it. (Only one asks for the function itself, over and over: `next_function` then stands in its loop, and costs no call.)
+pub fn any_function(
+    s: &[u8],
+    limits: ResourceLimits,
+    left: &Levels,
+    depth: usize,
+    cursor: Cursor,
+) -> bool
+    requires { ⌜ length (now left) ≡ LEVELS + 1 ⌝ }
+    ensures { λ r. ⌜ r ≡ anyRow (rowsFrom limits (now (s .entry)) (now (left .entry)) depth (cursor .at)) ⌝ }
+{
+    let Up::At(_, place) = go_up(s, limits, left, depth, cursor) else {
+        return false;
+    };
+    let mut unused = [0usize; 3];
+    match read_head(s, limits, 0, place, &mut unused) {
+        HeadResult::Ok { head: _, next: _ } => true,
+        HeadResult::Err(_) => false,
+    }
 }
 
 // Goes on into a function of level d in which n nest: one fewer is still to come at its level, and n at the one below.

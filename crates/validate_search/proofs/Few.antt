@@ -27,7 +27,7 @@ use Rattle.validate_search.specs.Inner.Position.{wordsAt, codeLeft, rowB
 few-rows : (s : Bytes) (k : ℕ) (rows : List Row) → All Few (rowGroups s k rows)
 unfolding rowGroups
 few-rows s k [] = tt
-few-rows s k (row ∷ rows) = (omega arith, all-append Few (codeGroups k (rowBounds row) (wordsAt s (row .instructions .count) (row .instructions .place)) 0) (rowGroups s (nextNumber k) rows) (few-code k (rowBounds row) _ 0) (few-rows s (nextNumber k) rows))
+few-rows s k (row ∷ rows) = (omega arith, all-append Few (codeGroups k (rowBounds row) (wordsAt s (row .instructions) (row .«instructions_at»)) 0) (rowGroups s (nextNumber k) rows) (few-code k (rowBounds row) _ 0) (few-rows s (nextNumber k) rows))
 
 pub few-left : (s : Bytes) (c : Code) (k : ℕ) (rows : List Row) → All Few (codeLeft s c ++ rowGroups s k rows)
 unfolding codeLeft

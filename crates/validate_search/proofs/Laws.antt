@@ -16,6 +16,7 @@ use Rattle.read_field.specs.declared.field.U32Result.{U32Result}
 use Rattle.read_field.specs.declared.field.U32Result.the-variants as u32
 use Rattle.read_field.specs.Shown.{u32Result}
 use Rattle.read_next.specs.declared.Row.{Row}
+use Rattle.read_next.specs.Inner.Rows.{anyRow}
 use Rattle.validate_rules.specs.Rules.{instruction}
 use Rattle.validate_rules.specs.Inner.Judged.{asList}
 use Rattle.validate_rules.specs.Findings.{codeGroups, Listing, ended, prepend, limited}
@@ -114,6 +115,12 @@ pub code-there : (s : Bytes) (c : Code) (m : ℕ) → m ≤ c .bounds .instructi
 unfolding codeLeft
 code-there s c m most all last = groups-many s (c .bounds) (c .function) (wordsAt s (c .bounds .instructions - c .pc) (c .place .at)) (c .pc) ∙ words-there s m (c .bounds .instructions - c .pc) (c .place .at) most all last
 
+-- a group is left where a function is
+pub any-groups : (s : Bytes) (k : ℕ) (rows : List Row) → anyLeft (rowGroups s k rows) ≡ anyRow rows
+unfolding rowGroups
+any-groups s k [] = refl
+any-groups s k (row ∷ rows) = refl
+
 module _ (max n : ℕ) where
   pub limited-full : (gs : List (List Finding)) → max ≤ n → limited max n gs ≡ ended (anyLeft gs || ltb max n)
   unfolding limited
@@ -150,6 +157,6 @@ module _ (max n : ℕ) where
 
     -- the next function
     pub limited-enter : (s : Bytes) (k : ℕ) (row : Row) (rows : List Row)
-        → limited max n (rowGroups s k (row ∷ rows)) ≡ limited max n (codeLeft s (codeAt (rowBounds row) k (row .instructions .place) 0) ++ rowGroups s (nextNumber k) rows)
+        → limited max n (rowGroups s k (row ∷ rows)) ≡ limited max n (codeLeft s (codeAt (rowBounds row) k (row .«instructions_at») 0) ++ rowGroups s (nextNumber k) rows)
     unfolding rowGroups codeLeft
-    limited-enter s k row rows = let z : row .instructions .count - 0 ≡ row .instructions .count = omega arith in rw z (limited-empty _)
+    limited-enter s k row rows = let z : row .instructions - 0 ≡ row .instructions = omega arith in rw z (limited-empty _)

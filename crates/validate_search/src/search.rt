@@ -19,6 +19,7 @@ use read_next::COUNTS;
 use read_next::Levels;
 use read_next::Met;
 use read_next::Row;
+use read_next::any_function;
 use read_next::go_down;
 use read_next::next_function;
 use slice::cursor::Cursor;
@@ -66,15 +67,15 @@ fn next_number(k: usize) -> usize
 
 // What a function's instructions are held against.
 fn bounds_of(row: Row) -> Bounds
-    requires { ⌜ row .instructions .count ≤ MOST ⌝ }
+    requires { ⌜ row .instructions ≤ MOST ⌝ }
     ensures { λ r. ⌜ r ≡ rowBounds row ⌝ }
 {
     Bounds {
         maxstacksize: row.sizes.maxstacksize,
-        instructions: row.instructions.count as u32,
-        constants: row.constants.count,
-        upvalues: row.upvalues.count,
-        protos: row.protos.count,
+        instructions: row.instructions as u32,
+        constants: row.constants,
+        upvalues: row.upvalues,
+        protos: row.protos,
     }
 }
 
@@ -111,20 +112,15 @@ fn done(stopped: bool, p: Position) -> Step
 
 // Whether there is a function left.
 fn function_left(s: &[u8], limits: ResourceLimits, p: Position) -> bool
-    requires { ⌜ limits .«max_total_instructions» ≤ MOST ⌝ }
     ensures { λ r. ⌜ r ≡ anyLeft (ofRows limits (now (s .entry)) p) ⌝ }
 {
     let left = p.left;
     let at = p.at;
-    match next_function(s, limits, &left, p.depth, at) {
-        Met::Function(_, _, _) => true,
-        Met::End => false,
-    }
+    any_function(s, limits, &left, p.depth, at)
 }
 
 // Whether there is an instruction or a function left.
 fn any_left(s: &[u8], limits: ResourceLimits, p: Position) -> bool
-    requires { ⌜ limits .«max_total_instructions» ≤ MOST ⌝ }
     ensures { λ r. ⌜ r ≡ anyLeft (groupsLeft limits (now (s .entry)) p) ⌝ }
 {
     let code = p.code;
@@ -176,7 +172,7 @@ fn search(s: &[u8], limits: ResourceLimits, max: u32, p: Position) -> Step
         let Met::Function(row, d, first) = next_function(s, limits, &left, depth, at) else {
             return done(false, p);
         };
-        go_down(&mut left, d, row.protos.count);
+        go_down(&mut left, d, row.protos);
         depth = d + 1;
         at = first;
         code = enter(row, number);
@@ -186,15 +182,15 @@ fn search(s: &[u8], limits: ResourceLimits, max: u32, p: Position) -> Step
 
 // Before the first instruction of a function.
 fn enter(row: Row, function: usize) -> Code
-    requires { ⌜ row .instructions .count ≤ MOST ⌝ }
-    ensures { λ r. ⌜ r ≡ codeAt (rowBounds row) function (row .instructions .place) 0 ⌝ }
+    requires { ⌜ row .instructions ≤ MOST ⌝ }
+    ensures { λ r. ⌜ r ≡ codeAt (rowBounds row) function (row .«instructions_at») 0 ⌝ }
 {
     let bounds = bounds_of(row);
     Code {
         bounds: bounds,
         function: function,
         place: Cursor {
-            at: row.instructions.place,
+            at: row.instructions_at,
         },
         pc: 0,
     }
@@ -238,7 +234,6 @@ pub fn advance(s: &[u8], limits: ResourceLimits, max: u32, p: Position) -> Step
 
 // Whether a search that has reached the maximum stops: something is left, or there are more than that.
 fn stops(s: &[u8], limits: ResourceLimits, max: u32, p: Position) -> bool
-    requires { ⌜ limits .«max_total_instructions» ≤ MOST ⌝ }
     ensures { λ r. ⌜ r ≡ anyLeft (groupsLeft limits (now (s .entry)) p) || ltb max (p .found) ⌝ }
 {
     if any_left(s, limits, p) {

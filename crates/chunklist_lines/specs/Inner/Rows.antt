@@ -14,8 +14,8 @@ rowLine k row =
     ∷ row .sizes .numparams
     ∷ row .sizes .«is_vararg»
     ∷ row .sizes .maxstacksize
-    ∷ row .instructions .count
-    ∷ row .constants .count
-    ∷ row .upvalues .count
+    ∷ row .instructions
+    ∷ row .constants
+    ∷ row .upvalues
     ∷ []
     )

@@ -2,8 +2,9 @@
 -- middle, where `left` says how many functions are left at each level. A reading that is refused gives the rows up to there.
 -- (The totals over all functions are not tested: this is a pass over a chunk that was read. `proofs/Agreement.antt`: its rows are those of the reading.)
 use Prim.Native.Nat.{ℕ, zero, suc, _+_, _-_, _<_, _≤_}
+use mathlib.Core.Bool.{Bool, true, false}
 use mathlib.Core.List.{List, [], _∷_, _++_}
-use lib.ListN.{drop, getD, set}
+use lib.ListN.{length, drop, getD, set}
 use Rattle.format.specs.declared.limits.ResourceLimits.{ResourceLimits}
 use Rattle.format.specs.Limits.{DEEPEST, MOST}
 use Rattle.format.specs.Form.{Bytes}
@@ -15,7 +16,6 @@ use Rattle.read_prototype.specs.declared.parts.TailResult.{TailResult}
 use Rattle.read_prototype.specs.declared.parts.TailResult.the-variants as tail-answer
 use Rattle.read_prototype.specs.Parts.{head, tail}
 use Rattle.read_prototype.specs.PartsShown.{headResult, tailResult}
-use Rattle.read_prototype.specs.Inner.Row.{listAt}
 use Rattle.read_next.specs.declared.Row.{Row}
 use Rattle.read_next.specs.declared.Up.{Up}
 use Rattle.read_next.specs.declared.Up.the-variants as up
@@ -31,10 +31,11 @@ rowShown depth h = record {
   depth = depth;
   lines = h .front .lines;
   sizes = h .front .sizes;
-  instructions = h .lists .instructions;
-  constants = h .lists .constants;
-  upvalues = h .lists .upvalues;
-  protos = h .protos;
+  instructions = h .lists .instructions .count;
+  constants = h .lists .constants .count;
+  upvalues = h .lists .upvalues .count;
+  protos = h .protos .count;
+  «instructions_at» = h .lists .instructions .place;
 }
 
 -- a function's head, and its tail
@@ -74,7 +75,7 @@ times one (suc n) at = andThen (one at) (times one n)
 unfoldable pub bodyAt : ResourceLimits → Bytes → ℕ → (ℕ → ℕ → Walked) → ℕ → Walked
 bodyAt L s depth nested at =
     onHead depth (headAt L s at) (cut []) (λ row first.
-    before (row ∷ []) (andThen (nested (row .protos .count) first) (λ behind.
+    before (row ∷ []) (andThen (nested (row .protos) first) (λ behind.
     onTail (tailAt L s behind) (cut []) (through []))))
 
 -- a function, at most so many levels deep: of all levels those that are left
@@ -103,6 +104,10 @@ rowsFrom L s left (suc d) at =
     onward (times (functionAt L s (LEVELS - suc d)) (getD left (suc d) 0) at) (λ behind.
     onTail (tailAt L s behind) [] (rowsFrom L s left d))
 
+abbrev pub anyRow : List Row → Bool
+anyRow [] = false
+anyRow (row ∷ rows) = true
+
 -- what the code's answers say
 abbrev pub upTo : ResourceLimits → Bytes → List ℕ → Up → List Row
 upTo L s left (up.At d place) = rowsFrom L s left d (place .at)
@@ -117,11 +122,11 @@ abbrev pub entered : List ℕ → ℕ → ℕ → List ℕ
 entered left d n = set (set left d (getD left d 0 - 1)) (d + 1) n
 
 abbrev pub met : ResourceLimits → Bytes → List ℕ → Met → List Row
-met L s left (met-is.Function row d first) = row ∷ rowsFrom L s (entered left d (row .protos .count)) (d + 1) (first .at)
+met L s left (met-is.Function row d first) = row ∷ rowsFrom L s (entered left d (row .protos)) (d + 1) (first .at)
 met L s left met-is.End = []
 
 abbrev pub Within : List ℕ → Met → Type 0
-Within left (met-is.Function row d first) = (d < LEVELS) × (0 < getD left d 0) × (row .instructions .count ≤ MOST)
+Within left (met-is.Function row d first) = (d < LEVELS) × (0 < getD left d 0) × (row .instructions ≤ MOST)
 Within left met-is.End = Unit {0}
 
 -- ## What a function of a reading shows
@@ -130,8 +135,9 @@ prototypeRow p = record {
   depth = p .depth;
   lines = record { «line_defined» = p .line-defined; «last_line_defined» = p .last-line-defined };
   sizes = record { numparams = p .numparams; «is_vararg» = p .is-vararg; maxstacksize = p .maxstacksize };
-  instructions = listAt (p .instructions) (p .places .instructions);
-  constants = listAt (p .constants) (p .places .constants);
-  upvalues = listAt (p .upvalues) (p .places .upvalues);
-  protos = record { count = p .protos; place = p .places .protos };
+  instructions = length (p .instructions);
+  constants = length (p .constants);
+  upvalues = length (p .upvalues);
+  protos = p .protos;
+  «instructions_at» = p .places .instructions;
 }

@@ -56,10 +56,10 @@ scanned s scan.End = []
 abbrev pub rowBounds : Row → Bounds
 rowBounds row = record {
   maxstacksize = row .sizes .maxstacksize;
-  instructions = row .instructions .count;
-  constants = row .constants .count;
-  upvalues = row .upvalues .count;
-  protos = row .protos .count;
+  instructions = row .instructions;
+  constants = row .constants;
+  upvalues = row .upvalues;
+  protos = row .protos;
 }
 
 abbrev pub nextNumber : ℕ → ℕ
@@ -68,7 +68,7 @@ nextNumber k = cond (ltb k 18446744073709551615) (k + 1) k
 -- the groups of functions, by their rows, of which the first has the number k
 unfoldable pub rowGroups : Bytes → ℕ → List Row → List (List Finding)
 rowGroups s k [] = []
-rowGroups s k (row ∷ rows) = [] ∷ (codeGroups k (rowBounds row) (wordsAt s (row .instructions .count) (row .instructions .place)) 0 ++ rowGroups s (nextNumber k) rows)
+rowGroups s k (row ∷ rows) = [] ∷ (codeGroups k (rowBounds row) (wordsAt s (row .instructions) (row .«instructions_at»)) 0 ++ rowGroups s (nextNumber k) rows)
 
 abbrev pub ofRows : ResourceLimits → Bytes → Position → List (List Finding)
 ofRows L s p = rowGroups s (p .number) (rowsFrom L s (p .left) (p .depth) (p .at .at))
