@@ -1,6 +1,6 @@
 // chunk.rs, `encode_chunk_lua54`: the archive copy of a chunk, written into lent memory.
 // A chunk that is spelt as its copy is judged in one pass and copied as it stands, but for its first 32 bytes (plain.rt).
-// Of any other, a walk judges and copies as far as the copy has room: lent next to nothing it measures, lent enough it writes (whole.rt). Where main's head is spelt otherwise already, that walk is taken at once.
+// Of any other, a walk judges and copies as far as the copy has room: lent next to nothing it measures, lent enough it writes (whole.rt). Where main's first number is padded that walk is taken at once.
 pub mod plain;
 pub mod whole;
 
@@ -8,8 +8,9 @@ ghost use mathlib.Core.Path.{_≡_};
 ghost use lib.ListN.{length};
 ghost use Rattle.format.specs.ReadChunk as format;
 ghost use Rattle.copy.specs.Copied.{shownLength, shownCopy, copyWritten};
+use crate::plain::begins_padded;
 use crate::plain::is_plain;
-use crate::plain::main_head;
+use crate::plain::main_upvalues;
 use crate::plain::put_plain;
 use crate::whole::CopyAnswer;
 use crate::whole::copy_chunk;
@@ -48,8 +49,7 @@ fn respell(s: &[u8], limits: ResourceLimits, out: &mut [u8]) -> CopyAnswer
 pub fn copy_length(s: &[u8], limits: ResourceLimits) -> CopyAnswer
     ensures { λ r. ⌜ r ≡ shownLength (format.read limits (now (s .entry))) ⌝ }
 {
-    let main = main_head(s, limits);
-    if !main.plain {
+    if begins_padded(s) {
         return measure(s, limits);
     }
     let judged = judge_spelling(s, limits);
@@ -73,8 +73,7 @@ pub fn encode_chunk_lua54(s: &[u8], limits: ResourceLimits, out: &mut [u8]) -> C
     ensures { λ r. ⌜ r ≡ shownCopy (length (now (out .entry))) (format.read limits (now (s .entry))) ⌝ }
     ensures { λ _. ⌜ now (out .exit) ≡ copyWritten (now (out .entry)) (format.read limits (now (s .entry))) ⌝ }
 {
-    let main = main_head(s, limits);
-    if !main.plain {
+    if begins_padded(s) {
         return respell(s, limits, out);
     }
     let judged = judge_spelling(s, limits);
@@ -90,7 +89,8 @@ pub fn encode_chunk_lua54(s: &[u8], limits: ResourceLimits, out: &mut [u8]) -> C
             if out.len() < s.len() {
                 CopyAnswer::Err(Refusal::LentSpace)
             } else {
-                put_plain(s, main.upvalues, out);
+                let upvalues = main_upvalues(s, limits);
+                put_plain(s, upvalues, out);
                 CopyAnswer::Ok(s.len())
             }
         }

@@ -1,8 +1,9 @@
 // A chunk of which no place is spelt otherwise than in its copy: behind its first 32 bytes it is its own copy.
 ghost use mathlib.Core.Path.{_≡_};
+ghost use mathlib.Core.Bool.{cond, false};
 ghost use mathlib.Core.List.{_++_};
-ghost use lib.Dec.{eqb};
-ghost use lib.ListN.{drop};
+ghost use lib.Dec.{eqb, ltb};
+ghost use lib.ListN.{length, drop, getD};
 ghost use Rattle.format.specs.Reading.{Reading};
 ghost use Rattle.format.specs.ReadChunk as format;
 ghost use Rattle.format.specs.Copy.{fieldBytes, headerBytes, upvaluesOfMain};
@@ -12,7 +13,6 @@ use copy_put::header::put_front;
 use copy_put::raw::put_bytes;
 use format::limits::ResourceLimits;
 use format::spelling::Spelling;
-use format_spelling::tally::spelling_of;
 use read_chunk::MAIN_AT;
 use read_prototype::pass::HeadCountsResult;
 use read_prototype::pass::pass_head;
@@ -32,31 +32,25 @@ pub fn is_plain(spelling: Spelling) -> bool
     spelling.sources == 0
 }
 
-// What main shows before the functions that nest in it: its upvalues, and whether all is spelt there as in the copy.
-pub struct MainHead {
-    pub upvalues: usize,
-    pub plain: bool,
+// Whether main's first number, the size of its source, begins with a zero group. Who pads one number pads them all, so this is a guess at the whole chunk, for the price of a byte.
+pub fn begins_padded(s: &[u8]) -> bool
+    ensures { λ r. ⌜ r ≡ cond (ltb 32 (length (now (s .entry)))) (eqb (getD (now (s .entry)) 32 0) 0) false ⌝ }
+{
+    if MAIN_AT < s.len() {
+        return s[MAIN_AT] == 0;
+    }
+    false
 }
 
-// Main's head, of a chunk that is read; of any other nothing is said, and nothing of `plain` at all: it is a guess at the rest of the chunk, which the judge or the walk then sees.
-// Ruled out: another list's count, the upvalues of a nested function.
-pub fn main_head(s: &[u8], limits: ResourceLimits) -> MainHead
-    ensures { λ r. ⌜ ((x : Reading) → format.read limits (now (s .entry)) ≡ format.shown x → r .upvalues ≡ upvaluesOfMain (x .functions)) ⌝ }
+// How many upvalues main has, of a chunk that is read; of any other nothing is said. Ruled out: another list's count, the upvalues of a nested function.
+pub fn main_upvalues(s: &[u8], limits: ResourceLimits) -> usize
+    ensures { λ r. ⌜ ((x : Reading) → format.read limits (now (s .entry)) ≡ format.shown x → r ≡ upvaluesOfMain (x .functions)) ⌝ }
 {
-    let mut tally = [0usize; 3];
-    let begins = pass_head(s, limits, 0, Cursor { at: MAIN_AT }, &mut tally);
+    let mut unused = [0usize; 3];
+    let begins = pass_head(s, limits, 0, Cursor { at: MAIN_AT }, &mut unused);
     match begins {
-        HeadCountsResult::Err(_) => MainHead {
-            upvalues: 0,
-            plain: true,
-        },
-        HeadCountsResult::Ok { counts, next: _ } => {
-            let plain = is_plain(spelling_of(&tally));
-            MainHead {
-                upvalues: counts.upvalues,
-                plain: plain,
-            }
-        }
+        HeadCountsResult::Err(_) => 0,
+        HeadCountsResult::Ok { counts, next: _ } => counts.upvalues,
     }
 }
 

@@ -12,7 +12,7 @@ use Rattle.copy.proofs.encode_chunk_lua54.Tie as tie
 returns-3 : tie.Need-returns-3
 returns-3 c =
     let j = c .before .before .before in
-    let a = j .before .before .before .before .before .before .args in
+    let a = j .before .before .before .before .before .args in
     let o = read (a .limits) (a .s .now) in
     copy-refused (a .out .now) o _ (judged-refused _ o _ (sym (c .before .judged .given .1) ∙ j .judge-spelling .ensures))
 
@@ -22,7 +22,7 @@ returns-4 c =
     let p = c .before .before in
     let m = p .before .before in
     let j = m .before .before in
-    let b = j .before .before .before .before .before in
+    let b = j .before .before .before .before in
     let a = b .before .args in
     plain-short (a .s .now) (a .limits) (all-bytes (a .s .now) (λ i h. b .shared-slice-known .given i .fits)) (m .judged2 .given .0 .0) (m .judged2 .given .0 .1 .0) (sym (m .judged2 .given .1) ∙ j .judge-spelling .ensures)
     (sym (p .is-plain .ensures) ∙ not-false _ (c .before .if2 .left))
@@ -32,16 +32,16 @@ returns-4 c =
 returns-5 : tie.Need-returns-5
 returns-5 c =
     let put = c .before .before in
-    let e = put .before .before in
+    let u = put .before .before in
+    let e = u .before in
     let p = e .before .before in
     let m = p .before .before in
     let j = m .before .before in
-    let h = j .before .before .before in
-    let b = h .before .before in
+    let b = j .before .before .before .before in
     let a = b .before .args in
     plain-whole (a .s .now) (a .limits) (all-bytes (a .s .now) (λ i h. b .shared-slice-known .given i .fits)) (m .judged2 .given .0 .0) (m .judged2 .given .0 .1 .0) (sym (m .judged2 .given .1) ∙ j .judge-spelling .ensures)
     (sym (p .is-plain .ensures) ∙ not-false _ (e .before .if2 .left))
-    (a .out .now) (e .if3 .left) _ (h .main-head .ensures) (put .put-plain .ensures)
+    (a .out .now) (e .if3 .left) _ (u .main-upvalues .ensures) (put .put-plain .ensures)
 
 pub encode-chunk-lua54-spec : {M : Type 1} → statement M
 encode-chunk-lua54-spec =
@@ -58,6 +58,7 @@ encode-chunk-lua54-spec =
     (λ c κs. search needs)
     (λ c. search needs)
     (λ c. search needs)
+    (λ c κs. search needs)
     (λ c κs. search needs)
     returns-3
     returns-4
