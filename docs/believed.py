@@ -29,12 +29,13 @@ PROMISES = {
                  'word_fields/Macros', 'word_fields/Created', 'word_opcodes/Opcodes', 'line_lookup/Ldebug:same-line'],
     'demand 3': ['demands/Demand3', 'demands/ShownAt:shown-at', 'demands/Same:header-fixed same-exactly', 'demands/Complete'],
     'request 1': ['demands/Request01'],
+    'request 4': ['demands/Request04'],
 }
 # the table of docs/PROOF.md: what a group of files says, and the files; what is reached and named nowhere here comes last
 GROUPS = [
     ('the grammar of a chunk under limits, and the reading; no reader in it', 'format/specs: Form GrammarFields GrammarHeader Reading GrammarChunk Limits'),
     ("the Rust's reader as a function, with every refusal and place", 'format/specs: Read ReadFields ReadHeader ReadChunk Refusals Warnings'),
-    ('the archive copy', 'format/specs: Shortest Copy'),
+    ('the archive copy; how long its numbers are, by their leading zeros', 'format/specs: Shortest Copy; copy_put/specs: Lengths'),
     ('how a chunk is spelt, counted along the grammar; the same along the reader, for contracts', 'format_spelling/specs: Spelling ReadSpelling'),
     ('what each call on a chunk answers, and leaves in lent memory', 'show_row/specs: Asked; show_chunk/specs: Summaries Fields; show_entry/specs: Entries; show_local/specs: Locals; index/specs: Index; copy/specs: Copied; slice/specs: Over'),
     ("how the code's values show places, strings, constants, warnings", 'slice/specs: Shown; read_field/specs: Shown; read_header/specs: Shown; read_entry/specs: Shown; read_nth/specs: Shown; read_chunk/specs: Decoded'),

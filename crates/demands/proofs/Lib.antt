@@ -36,3 +36,4 @@ pub mod EntriesAt
 pub mod SpeltHere
 pub mod ShownAt
 pub mod Request01
+pub mod Request04
