@@ -1,4 +1,4 @@
-// A function before and behind the functions that nest in it, of which only the counts are kept: a walk that calls itself keeps them at each level, so they are few.
+// A function before and behind the functions that nest in it, of which only the counts and two places are kept: a walk that calls itself keeps them at each level, so they are few.
 ghost use mathlib.Core.Path.{_≡_};
 ghost use lib.ListN.{drop};
 ghost use Rattle.format_spelling.specs.Inner.Tally.{Room, Adds};
@@ -15,13 +15,15 @@ use format_spelling::tally::Tally;
 use read_field::string::OptionString;
 use slice::cursor::Cursor;
 
-// How long the lists before the nested functions are, and whether the source is spelt.
+// How long the lists before the nested functions are, whether the source is spelt, and where the words and the constants begin, just after their counts.
 pub struct HeadCounts {
     pub instructions: usize,
     pub constants: usize,
     pub upvalues: usize,
     pub protos: usize,
     pub named: bool,
+    pub instructions_at: usize,
+    pub constants_at: usize,
 }
 
 pub enum HeadCountsResult {
@@ -38,7 +40,7 @@ fn is_spelt(source: OptionString) -> bool
     }
 }
 
-// Passes over a function up to the functions that nest in it. Ruled out: the count of another list, an absent source that counts as spelt.
+// Passes over a function up to the functions that nest in it. Ruled out: the count or the place of another list, an absent source that counts as spelt.
 pub fn pass_head(
     s: &[u8],
     limits: ResourceLimits,
@@ -67,6 +69,8 @@ pub fn pass_head(
                     upvalues: head.lists.upvalues.count,
                     protos: head.protos.count,
                     named: named,
+                    instructions_at: head.lists.instructions.place,
+                    constants_at: head.lists.constants.place,
                 },
                 next: next,
             }

@@ -1,4 +1,4 @@
--- What a walk keeps of the parts of a function: how long its lists are, and whether its source is spelt.
+-- What a walk keeps of the parts of a function: how long its lists are, whether its source is spelt, and where its words and its constants begin.
 use mathlib.Core.Bool.{Bool, true, false}
 use Rattle.format.specs.Read.{Read, ok, refused}
 use Rattle.slice.specs.Shown.{cursorAt}
@@ -27,6 +27,8 @@ headKept h = record {
   upvalues = h .lists .upvalues .count;
   protos = h .protos .count;
   named = isSpelt (h .front .source);
+  «instructions_at» = h .lists .instructions .place;
+  «constants_at» = h .lists .constants .place;
 }
 
 abbrev pub tailKept : declared-tail.Tail → TailCounts
