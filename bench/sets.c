@@ -99,15 +99,16 @@ void make_ready(struct set *set) {
         if (longest < c->len) longest = c->len;
     }
     copy = room(copy, copy_len = longest);
-    rows_len = 12 * functions;
+    rows_len = LAFZIMDO_ROW_NUMBERS * functions;
     rows = room(rows, rows_len * sizeof *rows);
     for (size_t i = 0; i < set->count; i++) {
         struct chunk *c = set->chunks + i;
         must(lafzimdo_index(c->bytes, c->len, limits, rows, rows_len, out) == 0, "index");
         size_t most = 0;
         for (size_t f = 0; f < c->functions; f++) {
-            if (rows[12 * f + 4] > most) c->function = f, most = rows[12 * f + 4];
-            if (rows[12 * f + 4] > 0) c->late = f;
+            size_t instructions = rows[LAFZIMDO_ROW_NUMBERS * f + 4];
+            if (instructions > most) c->function = f, most = instructions;
+            if (instructions > 0) c->late = f;
         }
         c->pc = most ? most - 1 : 0;
     }

@@ -51,7 +51,7 @@ struct lender {
     int numbers, counted; /* in `out`: how many, and which counts */
 };
 
-static const struct lender index_call = {lend_index, 4, 12, 1, 0}, copy_call = {lend_copy, 1, 1, 1, 0}, name_call = {lend_name, 1, 1, 3, 0},
+static const struct lender index_call = {lend_index, 4, LAFZIMDO_ROW_NUMBERS, 1, 0}, copy_call = {lend_copy, 1, 1, 1, 0}, name_call = {lend_name, 1, 1, 3, 0},
                            findings_call = {lend_findings, 8, 4, 2, 1};
 
 static uint64_t lend(const struct lender *c, size_t n) {
@@ -226,16 +226,17 @@ static void whole(void) {
     if (s[9]) hex(chunk + s[8], s[9]);
     else printf("-");
     printf("\n");
-    if (!lends(&index_call, s[7] * 12 + 64)) return;
+    size_t numbers = s[7] * LAFZIMDO_ROW_NUMBERS;
+    if (!lends(&index_call, numbers + 64)) return;
     if (out[0] != s[7]) printf("another number of functions\n");
-    uint32_t *rows = malloc(s[7] * 48);
-    memcpy(rows, lent, s[7] * 48);
+    uint32_t *rows = malloc(numbers * sizeof *rows);
+    memcpy(rows, lent, numbers * sizeof *rows);
     if (by_parts) functions_by_parts(rows, s[7]);
     else
-        for (uint64_t f = 0; f < s[7]; f++) function(f, rows + 12 * f);
+        for (uint64_t f = 0; f < s[7]; f++) function(f, rows + LAFZIMDO_ROW_NUMBERS * f);
     for (uint64_t f = 0; f < s[7]; f++) {
         printf("row");
-        for (int i = 0; i < 12; i++) printf(" %" PRIu32, rows[12 * f + i]);
+        for (int i = 0; i < LAFZIMDO_ROW_NUMBERS; i++) printf(" %" PRIu32, rows[LAFZIMDO_ROW_NUMBERS * f + i]);
         printf("\n");
     }
     free(rows);

@@ -29,6 +29,7 @@ PROMISES = {
                  'word_fields/Macros', 'word_fields/Created', 'word_opcodes/Opcodes', 'line_lookup/Ldebug:same-line'],
     'demand 3': ['demands/Demand3', 'demands/ShownAt:shown-at', 'demands/Same:header-fixed same-exactly', 'demands/Complete'],
     'request 1': ['demands/Request01'],
+    'request 2': ['demands/Request02', 'demands/AfterCounts'],
     'request 4': ['demands/Request04'],
 }
 # the table of docs/PROOF.md: what a group of files says, and the files; what is reached and named nowhere here comes last
@@ -47,7 +48,7 @@ GROUPS = [
     ("Lua's own loader, dumper and line lookup, close to the C", 'format_lua/specs: Lundump LundumpFunctions Ldump LdumpFunctions; line_lookup/specs: Ldebug; format_lua/proofs: LundumpParts LundumpChunk LundumpBack LdumpChunk LdumpWhole; format/proofs: Every'),
     ("words of demand 1's statements: a call's conditions in order; what a refusal is about", 'demands/proofs: Refused Causes InOrder Early Order AtOneByte CutShort Continued ByLimits Exactly Accepted ByC RefusedAt PartsInOrder Printed Demand1; format/proofs: RefusalNumbers'),
     ("words of demand 2's statements: a whole contract", 'demands/proofs: Promise Demand2 Demand2C'),
-    ("words of demand 3's and request 1's statements: what is shown, what is set aside", 'demands/proofs: Request01 Demand3 Calls Written Same Alike Together Complete ShownAt SpeltHere EntriesAt Nested; format/proofs: Located OrderCases; read_nth/proofs: Strings'),
+    ("words of demand 3's and the requests' statements: what is shown, what is set aside", 'demands/proofs: Request01 Request02 AfterCounts Demand3 Calls Written Same Alike Together Complete ShownAt SpeltHere EntriesAt Nested; format/proofs: Located OrderCases; read_nth/proofs: Strings'),
 ]
 WORD = re.compile(r'[^\s(){};,\[\]]+')
 HEAD = re.compile(r'^( *)(abbrev |unfoldable )?(pub )?(record |data )?(\S+)')

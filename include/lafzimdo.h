@@ -61,8 +61,12 @@ uint64_t lafzimdo_local(const uint8_t *chunk, size_t len, const uint64_t limits[
 /* an upvalue's name: whether there is one, its place, its length */
 uint64_t lafzimdo_upvalue_name(const uint8_t *chunk, size_t len, const uint64_t limits[9], size_t function, size_t entry, uint64_t out[3]);
 
-/* the index: how many functions there are; for each, in the order their bytes begin, 12 numbers at the front of `rows`: start, end, depth, parent, and how many instructions,
- * constants, upvalues, nested functions, deltas, anchors, locals, upvalue names. Refusal 26 where `rows` is shorter; lafzimdo_summary says how many functions there are. */
+/* How many numbers the index has of each function. It has grown (before: 12): lend, and step from row to row, by this name. */
+#define LAFZIMDO_ROW_NUMBERS 14
+
+/* the index: how many functions there are; for each, in the order their bytes begin, 14 numbers at the front of `rows`: start, end, depth, parent; how many instructions, constants,
+ * upvalues, nested functions, deltas, anchors, locals, upvalue names; the place of its first instruction word and that of its first constant (with none, the place just after their count).
+ * Refusal 26 where `rows` is shorter; lafzimdo_summary says how many functions there are. */
 uint64_t lafzimdo_index(const uint8_t *chunk, size_t len, const uint64_t limits[9], uint32_t *rows, size_t rows_len, uint64_t out[1]);
 
 /* the length of the archive copy */

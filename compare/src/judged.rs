@@ -10,6 +10,8 @@ use luad_dialect_lua54::chunk::encode_chunk_lua54;
 
 pub const RULES: [&str; 7] = ["OPCODE-001", "REG-001", "CONST-001", "UPVAL-001", "UPVAL-002", "PROTO-001", "JUMP-001"];
 pub const VERDICTS: [&str; 3] = ["valid-for-analysis", "invalid", "incomplete"];
+/// How many numbers the index has of each function.
+pub const COLUMNS: usize = 14;
 
 pub struct Judged<'a> {
     pub summary: [u64; 15],
@@ -35,6 +37,9 @@ impl<'a> Judged<'a> {
         let sources = sources(bytes, &functions, &heads);
         let (verdict, list) = judged(chunk);
         let padded = Padded::of(bytes, &chunk.main_proto);
+        let code = heads.iter().map(|head| [head.lists[0][1] as usize, head.lists[1][1] as usize]);
+        assert!(code.eq(padded.code.iter().copied()), "where words and constants begin");
+        let rows = functions.iter().zip(&heads).flat_map(|(function, head)| row(function, head)).collect();
         Judged {
             summary: summary(chunk, bytes, &padded),
             padded,
@@ -42,7 +47,7 @@ impl<'a> Judged<'a> {
             tails,
             behind,
             sources,
-            rows: functions.iter().flat_map(row).collect(),
+            rows,
             copy: encode_chunk_lua54(chunk),
             verdict: verdict_number(verdict),
             findings: findings(&list, &functions)
@@ -136,15 +141,18 @@ pub fn summary(chunk: &Chunk, bytes: &[u8], padded: &Padded) -> [u64; 15] {
     summary
 }
 
-/// A row of the index.
-fn row(function: &Function) -> [u32; 12] {
+/// A row of the index. Words and constants begin where the Rust's reader stands behind their counts.
+fn row(function: &Function, head: &Head) -> [u32; COLUMNS] {
     let counts = function.counts();
+    let [[_, words], [_, constants], ..] = head.lists;
     let number = |value: usize| u32::try_from(value).expect("a file of at most 16 MB");
     std::array::from_fn(|i| match i {
         0 => number(function.start),
         1 => number(function.end),
         2 => number(function.depth),
         3 => number(function.parent),
+        12 => number(words as usize),
+        13 => number(constants as usize),
         _ => number(counts[i - 4]),
     })
 }

@@ -1,6 +1,7 @@
 // Asks a call of the library, and holds its answer and the memory lent to it against what is expected. Lent memory is filled beforehand: behind a
 // result, and all of it on a refusal, it must be as it was.
 use crate::difference::Difference;
+use crate::judged::COLUMNS;
 use crate::padded::Padded;
 use crate::refusals::Refusal;
 
@@ -51,6 +52,8 @@ pub enum Way {
     LastItem,
     BehindItems,
     ItemsOnRefusal,
+    /// A number of the index's last row.
+    Column(usize),
 }
 
 #[derive(Clone, Copy, Debug)]
@@ -155,6 +158,7 @@ impl Lender {
             Way::LastItem if answers && items > 0 => item(space, items - 1),
             Way::BehindItems if answers && items < space.len() => item(space, items),
             Way::ItemsOnRefusal if !answers && !space.is_empty() => item(space, 0),
+            Way::Column(i) if answers && items >= COLUMNS => item(space, items - COLUMNS + i),
             _ => {}
         }
     }

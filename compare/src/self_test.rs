@@ -1,8 +1,9 @@
 // That each comparison can fail: every number of every call's answer, its refusal and place, and the memory lent to it are changed in turn before they are
-// compared, and a run of cases must find each change. So it must where padded numbers of one kind are not counted.
+// compared, and a run of cases must find each change; in the index each number of a row. So it must where padded numbers of one kind are not counted.
 use crate::calls::CHUNK_CALLS;
 use crate::cases::Cases;
 use crate::check::{check, judge, CHUNK};
+use crate::judged::COLUMNS;
 use crate::lender::{Alteration, Lender, Way};
 use crate::padded::KINDS;
 use crate::tally::Tally;
@@ -28,6 +29,9 @@ fn ways(call: &str, numbers: usize) -> Vec<Way> {
     }
     if call == "lafzimdo_summary" {
         ways.extend((0..KINDS.len()).map(Way::Kind));
+    }
+    if call == "lafzimdo_index" {
+        ways.extend((0..COLUMNS).map(Way::Column));
     }
     if LENDING.contains(&call) {
         ways.extend([Way::FirstItem, Way::LastItem, Way::BehindItems, Way::ItemsOnRefusal]);

@@ -138,9 +138,9 @@ def summary(of, functions):
 
 
 def function(answer, row, looked_up):
-    """A function's fields, entries and lines. Where it starts and ends is told by its row."""
+    """A function's fields, entries and lines. Where it starts and ends, and where its words and its constants begin, is told by its row."""
     (_, number, _, depth, _, parent, _, start, _, end), (_, source), (_, *lines), (_, *bytes_), (_, *counts), *entries = answer
-    assert row == [start, end, depth, parent, *counts] and looked_up[1] == number
+    assert row[:-2] == [start, end, depth, parent, *counts] and looked_up[1] == number
     yield line("f", [number], [0, depth, parent, present(source), *string(source), *lines, *bytes_, *counts])
     lists = {letter: [words[1:] for words in entries if words[0] == letter] for letter in LISTS}
     assert sum(map(len, lists.values())) == len(entries)

@@ -21,7 +21,7 @@ FUNCTION = (rf"function {NUMBER} depth {NUMBER} parent {NUMBER} start {NUMBER} e
             + many(r"i [0-9a-f]{8}") + many(CONSTANT) + many(rf"u{numbers(3)}") + many(rf"d {SIGNED}") + many(rf"a{numbers(2)}")
             + many(rf"l x(?:[0-9a-f]{{2}})*{numbers(2)}") + many(rf"n {STR}"))
 CHUNK = (rf"header [0-9a-f]{{2}} [0-9a-f]{{2}}{numbers(5)} [0-9a-f]{{16}}\nwarnings {NUMBER}\n" + many(rf"warning \S+ {NUMBER}")
-         + rf"functions {NUMBER}\npadded {NUMBER}\ntrailing {NUMBER} {HEX}\n(?:{FUNCTION})+(?:row{numbers(12)}\n)+copy {HEX}\n{TOTALS}"
+         + rf"functions {NUMBER}\npadded {NUMBER}\ntrailing {NUMBER} {HEX}\n(?:{FUNCTION})+(?:row{numbers(14)}\n)+copy {HEX}\n{TOTALS}"
          + many(rf"finding {NUMBER} {NUMBER} \S+ {SIGNED} \S+") + many(rf"line {NUMBER}(?: refused 25|{PAIRS})"))
 
 SHAPES = {

@@ -14,12 +14,13 @@ pub fn put_chunk(out: &mut String, limits: &ResourceLimits, bytes: &[u8]) {
         return;
     };
     let functions = functions(&chunk.main_proto);
-    put_summary(out, &chunk, &functions, bytes);
+    let padded = Padded::of(bytes, &chunk.main_proto);
+    put_summary(out, &chunk, &functions, &padded);
     for (number, function) in functions.iter().enumerate() {
         put_function(out, number, function);
     }
-    for function in &functions {
-        put_row(out, function);
+    for (function, code) in functions.iter().zip(&padded.code) {
+        put_row(out, function, code);
     }
     put!(out, "copy {}\n", hex::encode(encode_chunk_lua54(&chunk)));
     put_findings(out, &chunk, &functions);
@@ -48,7 +49,7 @@ fn read_or_refuse(out: &mut String, limits: &ResourceLimits, bytes: &[u8]) -> Op
 }
 
 /// Header, warnings, number of functions and of padded numbers, trailing bytes.
-fn put_summary(out: &mut String, chunk: &Chunk, functions: &[Function], bytes: &[u8]) {
+fn put_summary(out: &mut String, chunk: &Chunk, functions: &[Function], padded: &Padded) {
     let header = &chunk.header;
     put!(out, "header {:02x} {:02x}", header.version, header.format);
     put!(out, " {} {}", header.instruction_size, header.lua_integer_size);
@@ -61,7 +62,7 @@ fn put_summary(out: &mut String, chunk: &Chunk, functions: &[Function], bytes: &
         put!(out, "warning {code} {}\n", source.byte_offset);
     }
     put!(out, "functions {}\n", functions.len());
-    put!(out, "padded {}\n", Padded::of(bytes, &chunk.main_proto).sum());
+    put!(out, "padded {}\n", padded.sum());
     put!(out, "trailing {} {}\n", functions[0].end, chunk.trailing_bytes.as_deref().unwrap_or("-"));
 }
 
@@ -73,6 +74,7 @@ fn put_function(out: &mut String, number: usize, function: &Function) {
     put!(out, "bytes {} {} {}\n", proto.numparams, proto.is_vararg, proto.maxstacksize);
     out.push_str("counts");
     put_counts(out, function);
+    out.push('\n');
     put_entries(out, proto);
 }
 
@@ -123,18 +125,18 @@ fn put_constant(out: &mut String, value: &ConstantValue) {
     out.push('\n');
 }
 
-/// A row of the index.
-fn put_row(out: &mut String, function: &Function) {
+/// A row of the index, with the places where the function's words and its constants begin.
+fn put_row(out: &mut String, function: &Function, [words, constants]: &[usize; 2]) {
     let Function { depth, parent, start, end, .. } = function;
     put!(out, "row {start} {end} {depth} {parent}");
     put_counts(out, function);
+    put!(out, " {words} {constants}\n");
 }
 
 fn put_counts(out: &mut String, function: &Function) {
     for count in function.counts() {
         put!(out, " {count}");
     }
-    out.push('\n');
 }
 
 fn put_string(out: &mut String, string: Option<&LuaString>) {

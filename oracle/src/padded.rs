@@ -1,5 +1,6 @@
-// The padded numbers of a chunk that was read, which the Rust does not count. Every number is read once more by the Rust's own reader, in the grammar's order, and is padded where its
-// bytes are not those that the Rust writes for its value. What is read must be what the Rust's chunk holds.
+// The padded numbers of a chunk that was read, which the Rust does not count, and where the words and the constants of its functions begin, which it does not keep of empty lists. Every number is read
+// once more by the Rust's own reader, in the grammar's order, and is padded where its bytes are not those that the Rust writes for its value; words and constants begin where the reader then stands behind
+// their count. What is read must be what the Rust's chunk holds.
 use luad_core::model::{ConstantValue, LuaString, Prototype};
 use luad_core::reader::SafeReader;
 use luad_dialect_lua54::chunk::write_varint_lua54;
@@ -33,10 +34,11 @@ pub const KINDS: [&str; 25] = [
     "absent name",
 ];
 
-/// How many numbers of each kind are padded, in the order of `KINDS`.
+/// How many numbers of each kind are padded, in the order of `KINDS`; of each function, in the order their bytes begin, where its words and where its constants begin.
 #[derive(Default)]
 pub struct Padded {
     pub by_kind: [u64; KINDS.len()],
+    pub code: Vec<[usize; 2]>,
 }
 
 impl Padded {
@@ -88,6 +90,15 @@ impl Numbers<'_> {
         self.count(kind, padded);
     }
 
+    /// The count of a list, and the place behind it: where the Rust's chunk has the list's first entry, if there is one.
+    fn list(&mut self, kind: &str, places: impl ExactSizeIterator<Item = usize>) -> usize {
+        let mut places = places;
+        self.number(kind, places.len());
+        let place = self.reader.position();
+        assert_eq!(places.next().unwrap_or(place), place, "behind the {kind}");
+        place
+    }
+
     /// A string with its size, or an absent one, for which the Rust may show another. Their kinds.
     fn string(&mut self, [sized, absent]: [&str; 2], shown: Option<&LuaString>) {
         let (size, padded) = self.read();
@@ -114,9 +125,10 @@ impl Numbers<'_> {
         self.number("first line", proto.line_defined);
         self.number("last line", proto.last_line_defined);
         self.pass(3);
-        self.number("instruction count", proto.instructions.len());
+        let words = self.list("instruction count", proto.instructions.iter().map(|word| word.source.byte_offset));
         self.pass(4 * proto.instructions.len());
-        self.number("constant count", proto.constants.len());
+        let constants = self.list("constant count", proto.constants.iter().map(|one| one.source.byte_offset));
+        self.padded.code.push([words, constants]);
         proto.constants.iter().for_each(|constant| self.constant(&constant.value));
         self.number("upvalue count", proto.upvalues.len());
         self.pass(3 * proto.upvalues.len());

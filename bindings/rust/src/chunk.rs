@@ -1,4 +1,5 @@
 //! A chunk that was read.
+use crate::entries::{self, Entries};
 use crate::entry::{Anchor, Constant, Local, Upvalue};
 use crate::ffi;
 use crate::finding::{Finding, Verdict};
@@ -88,7 +89,7 @@ impl<'a> Chunk<'a> {
         self.trailing.0 as usize
     }
 
-    /// A row for each function. It is made when it is first asked for, by this call, by [`function`](Chunk::function) or by [`functions`](Chunk::functions), and kept.
+    /// A row for each function. It is made when it is first asked for, by this call, by [`function`](Chunk::function), [`functions`](Chunk::functions), [`instructions`](Chunk::instructions) or [`constants`](Chunk::constants), and kept.
     pub fn index(&self) -> &[Row] {
         &self.indexed().rows
     }
@@ -103,6 +104,18 @@ impl<'a> Chunk<'a> {
             return Err(Refusal::NoFunction);
         }
         Ok(self.found(function))
+    }
+
+    /// The instruction words of a function, from the index alone: nothing else of the function is passed over, as [`function`](Chunk::function) does. Refused with 23 where there is no such function.
+    pub fn instructions(&self, function: usize) -> Result<Entries<'a, u32>, Refusal> {
+        let row = self.index().get(function).ok_or(Refusal::NoFunction)?;
+        Ok(Entries::new(self.input, row.counts().instructions, row.instructions_at(), entries::word))
+    }
+
+    /// The constants of a function, in the same way.
+    pub fn constants(&self, function: usize) -> Result<Entries<'a, Constant<'a>>, Refusal> {
+        let row = self.index().get(function).ok_or(Refusal::NoFunction)?;
+        Ok(Entries::new(self.input, row.counts().constants, row.constants_at(), entries::constant))
     }
 
     fn found(&self, function: usize) -> Function<'a> {

@@ -2,6 +2,7 @@
 //!
 //! What every unsafe block here rests on: the library asks nothing of its caller but memory of the lengths that its declarations name. It reads the chunk and the limits, writes
 //! only into what it is lent, and keeps no pointer. A slice is handed over as its own pointer and length, and an array by a reference whose type has the length.
+use crate::index::Row;
 use crate::refusal::Refusal;
 
 /// One line a call that takes the chunk, the limits and some numbers, and fills an array: its name, the library's, the numbers, how long the array is.
@@ -111,10 +112,10 @@ pub(crate) fn local(
 }
 
 /// The number of functions; their rows are at the front of `rows`.
-pub(crate) fn index(chunk: &[u8], limits: &[u64; 9], rows: &mut [[u32; 12]]) -> Result<usize, Refusal> {
+pub(crate) fn index(chunk: &[u8], limits: &[u64; 9], rows: &mut [[u32; Row::COLUMNS]]) -> Result<usize, Refusal> {
     let mut out = [0; 1];
-    // An array has no gaps, so that n rows are 12 n numbers; their bytes fit a usize, and so does 12 n.
-    let (lent, room) = (rows.as_mut_ptr().cast::<u32>(), rows.len() * 12);
+    // An array has no gaps, so that there are `Row::COLUMNS` numbers for each row; their bytes fit a usize, and so does how many they are.
+    let (lent, room) = (rows.as_mut_ptr().cast::<u32>(), rows.len() * Row::COLUMNS);
     // SAFETY: as above; the rows are written into `rows`, for which this function has the only reference.
     let status = unsafe { lafzimdo_index(chunk.as_ptr(), chunk.len(), limits, lent, room, &mut out) };
     Refusal::of_status(status).map(|()| out[0] as usize)

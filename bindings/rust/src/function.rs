@@ -35,11 +35,9 @@ pub struct Function<'a> {
     places: Places,
 }
 
-/// Where each list begins.
+/// Where each list begins, but for instructions and constants, which are in the row.
 #[derive(Debug, Clone)]
 struct Places {
-    instructions: usize,
-    constants: usize,
     upvalues: usize,
     line_info: usize,
     abs_line_info: usize,
@@ -54,7 +52,7 @@ impl<'a> Function<'a> {
         let head = granted(ffi::head_at(input.bytes, &input.limits, row.start()));
         // The source is in the index, with those of parents.
         let [_, _, _, line_defined, last_line_defined, numparams, is_vararg, maxstacksize, lists @ ..] = head;
-        let [instructions, words_at, constants, constants_at, upvalues, upvalues_at, protos, nested_at] = lists;
+        let [instructions, _, constants, _, upvalues, upvalues_at, protos, nested_at] = lists;
         let tail_at = index.tail(number, nested_at as usize);
         let tail = granted(ffi::tail_at(input.bytes, &input.limits, tail_at));
         let [deltas, deltas_at, anchors, anchors_at, locals, locals_at, names, names_at, _] = tail;
@@ -70,8 +68,6 @@ impl<'a> Function<'a> {
             counts: Counts::of_numbers([instructions, constants, upvalues, protos, deltas, anchors, locals, names]),
         };
         let places = Places {
-            instructions: words_at as usize,
-            constants: constants_at as usize,
             upvalues: upvalues_at as usize,
             line_info: deltas_at as usize,
             abs_line_info: anchors_at as usize,
@@ -108,12 +104,12 @@ impl<'a> Function<'a> {
 
     /// Its instruction words ([`decode`](crate::decode) takes one apart).
     pub fn instructions(&self) -> Entries<'a, u32> {
-        Entries::new(self.input, self.fields.counts.instructions, self.places.instructions, entries::word)
+        Entries::new(self.input, self.fields.counts.instructions, self.row.instructions_at(), entries::word)
     }
 
     /// Its constants.
     pub fn constants(&self) -> Entries<'a, Constant<'a>> {
-        Entries::new(self.input, self.fields.counts.constants, self.places.constants, entries::constant)
+        Entries::new(self.input, self.fields.counts.constants, self.row.constants_at(), entries::constant)
     }
 
     /// Its upvalues.

@@ -27,9 +27,12 @@ impl Counts {
 
 /// A function's row of the index.
 #[derive(Debug, Clone, Copy, PartialEq, Eq, Hash)]
-pub struct Row([u32; 12]);
+pub struct Row([u32; Row::COLUMNS]);
 
 impl Row {
+    /// How many numbers it has.
+    pub const COLUMNS: usize = 14;
+
     /// Where the function begins.
     pub fn start(&self) -> usize {
         self.0[0] as usize
@@ -52,12 +55,22 @@ impl Row {
 
     /// How long its lists are.
     pub fn counts(&self) -> Counts {
-        let [_, _, _, _, counts @ ..] = self.0;
+        let [_, _, _, _, counts @ .., _, _] = self.0;
         Counts::of_numbers(counts.map(u64::from))
     }
 
-    /// The twelve numbers: start, end, depth, parent, the counts in the order in which the lists stand in the file.
-    pub fn numbers(&self) -> [u32; 12] {
+    /// The place of its first instruction word; with none, the place just after their count.
+    pub fn instructions_at(&self) -> usize {
+        self.0[12] as usize
+    }
+
+    /// The place of its first constant, which is that of its tag; with none, the place just after their count.
+    pub fn constants_at(&self) -> usize {
+        self.0[13] as usize
+    }
+
+    /// The fourteen numbers: start, end, depth, parent, the counts in the order in which the lists stand in the file, and where the instruction words and the constants begin.
+    pub fn numbers(&self) -> [u32; Row::COLUMNS] {
         self.0
     }
 }
@@ -75,7 +88,7 @@ pub(crate) struct Index {
 impl Index {
     /// The index of a chunk that was read and has so many functions.
     pub(crate) fn new(input: &Input<'_>, functions: usize) -> Index {
-        let mut numbers = vec![[0; 12]; functions];
+        let mut numbers = vec![[0; Row::COLUMNS]; functions];
         granted(ffi::index(input.bytes, &input.limits, &mut numbers));
         let rows: Vec<Row> = numbers.into_iter().map(Row).collect();
         let mut index = Index { nested_end: vec![0; functions], sources: Vec::with_capacity(functions), rows };

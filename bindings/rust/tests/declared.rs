@@ -1,7 +1,7 @@
 //! src/ffi.rs declares the calls as include/lafzimdo.h does: the same calls, with the same types and lengths of arrays, in the same order.
 mod common;
 
-use lafzimdo::Limits;
+use lafzimdo::{Limits, Row};
 use std::collections::BTreeMap;
 
 type Calls = BTreeMap<String, Vec<String>>;
@@ -83,6 +83,12 @@ fn as_in_the_header() {
         assert_eq!(header.get(name), Some(types), "{name}");
     }
     assert_eq!(header.keys().collect::<Vec<_>>(), ours.keys().collect::<Vec<_>>());
+}
+
+#[test]
+fn row_as_in_the_header() {
+    let header = common::text("include/lafzimdo.h");
+    assert!(header.contains(&format!("\n#define LAFZIMDO_ROW_NUMBERS {}\n", Row::COLUMNS)));
 }
 
 #[test]

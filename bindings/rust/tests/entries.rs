@@ -33,6 +33,8 @@ fn function(chunk: &Chunk<'_>, function: &Function<'_>) -> usize {
     assert_eq!(chunk.fields(n), Ok(*fields));
     assert_eq!((row.depth(), row.parent(), row.counts()), (fields.depth, fields.parent, counts));
     assert_eq!((row.start(), row.end()), (function.start(), function.end()));
+    assert!(chunk.instructions(n).unwrap().eq(function.instructions()));
+    assert!(chunk.constants(n).unwrap().eq(function.constants()));
     let owned =
         function.locals().map(|local| Local { name: local.name.to_vec(), startpc: local.startpc, endpc: local.endpc });
     each(function.instructions(), counts.instructions, |entry| chunk.instruction(n, entry))
@@ -59,6 +61,8 @@ fn whole(bytes: &[u8], limits: Limits) -> usize {
     for number in [count, usize::MAX] {
         assert_eq!(chunk.function(number).map(|_| ()), Err(Refusal::NoFunction));
         assert_eq!(chunk.fields(number), Err(Refusal::NoFunction));
+        assert_eq!(chunk.instructions(number).map(|_| ()), Err(Refusal::NoFunction));
+        assert_eq!(chunk.constants(number).map(|_| ()), Err(Refusal::NoFunction));
         assert_eq!(chunk.instruction(number, 0), Err(Refusal::NoFunction));
         assert_eq!(chunk.line(number, 0), Err(Refusal::NoFunction));
     }

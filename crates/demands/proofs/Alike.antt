@@ -3,7 +3,7 @@
 --                              and where an answer has a string, as place and length, so is what `string_bytes` shows by that place and length (01: 'A string is shown as place, just after its size, and length, its bytes as a
 --                              part of the caller's chunk')
 --     EqualAsShown r q         the readings are equal but for what none of these calls shows: of a function its start and its end and where its lists begin; of a local variable where its name stands
---     IndexAlike, SamePlaces   the index is alike; start and end are equal
+--     IndexAlike, SamePlaces   the index is alike; start and end, and where words and constants begin, are equal
 -- Assumes nothing.
 use mathlib.Core.Path.{_≡_}
 use mathlib.Core.List.{List, []}
@@ -111,10 +111,12 @@ pub record EqualAsShown (r q : Reading) : Type 0 where
   pub trailing-at : r .trailing-at ≡ q .trailing-at
   pub trailing : r .trailing ≡ q .trailing
 
--- ## The index shows start and end as well
+-- ## The index shows start and end as well, and where the words and the constants begin
 pub record SamePlaces (p q : Prototype) : Type 0 where
   pub start : p .start ≡ q .start
   pub end : p .end ≡ q .end
+  pub instructions-at : p .places .instructions ≡ q .places .instructions
+  pub constants-at : p .places .constants ≡ q .places .constants
 
 pub record IndexAlike (L : ResourceLimits) (s : Bytes) (M : ResourceLimits) (t : Bytes) : Type 0 where
   pub answer : (old : List ℕ) → shownIndex (length old) (read L s) ≡ shownIndex (length old) (read M t)

@@ -36,4 +36,6 @@ pub mod EntriesAt
 pub mod SpeltHere
 pub mod ShownAt
 pub mod Request01
+pub mod AfterCounts
+pub mod Request02
 pub mod Request04

@@ -92,14 +92,14 @@ each-nth P before (q ∷ ps) e zero {p} there =
 each-nth P before (q ∷ ps) e (suc k) {p} there = subst (λ b. P b p (drop (suc k) ps)) (append-assoc before (q ∷ []) (take k ps)) (each-nth P (before ++ (q ∷ [])) ps (e .1) k there)
 
 -- what a reader gave at a place
-record Got {A : Type 0} (s : Bytes) (at : ℕ) (r : Reader A) (to : ℕ) (x : A) : Type 0 where
-  rest : Bytes
-  is : r at (drop at s) ≡ ok x to rest
+pub record Got {A : Type 0} (s : Bytes) (at : ℕ) (r : Reader A) (to : ℕ) (x : A) : Type 0 where
+  pub rest : Bytes
+  pub is : r at (drop at s) ≡ ok x to rest
 
-got : {A : Type 0} {s : Bytes} {at : ℕ} {r : Reader A} → AtPlace s at r (Got s at r)
+pub got : {A : Type 0} {s : Bytes} {at : ℕ} {r : Reader A} → AtPlace s at r (Got s at r)
 got = record { holds = λ {rest} e. record { rest = rest; is = e } }
 
-both : {A : Type 0} {s : Bytes} {at : ℕ} {r : Reader A} {P Q : ℕ → A → Type 0} → AtPlace s at r P → AtPlace s at r Q → AtPlace s at r (λ to x. P to x × Q to x)
+pub both : {A : Type 0} {s : Bytes} {at : ℕ} {r : Reader A} {P Q : ℕ → A → Type 0} → AtPlace s at r P → AtPlace s at r Q → AtPlace s at r (λ to x. P to x × Q to x)
 both p q = record { holds = λ e. (p .holds e, q .holds e) }
 
 -- ## The walk

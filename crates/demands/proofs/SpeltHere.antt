@@ -32,7 +32,7 @@ number-on {s} {at} = record {
   holds = λ {x} {to} {rest} e. (let a = exact-number .sound {at = at} {s = drop at s} {x = x} {to = to} {rest = rest} e in omega (arith, a .place, ap length (a .spelt .whole), length-append (a .spelt .more) (a .spelt .last ∷ [])));
 }
 
-limit-stays : {s : Bytes} {at : ℕ} (n limit : ℕ) (p : Refusal) → AtPlace s at (atMost n limit p) (λ to _. at ≡ to)
+pub limit-stays : {s : Bytes} {at : ℕ} (n limit : ℕ) (p : Refusal) → AtPlace s at (atMost n limit p) (λ to _. at ≡ to)
 limit-stays {s} {at} n limit p = record {
   holds = λ {x} {to} {rest} e. (let a = exact-atMost n limit p .sound {at = at} {s = drop at s} {x = x} {to = to} {rest = rest} e in let empty : length (a .bytes) ≡ 0 = ap length (a .spelt .0) in omega (arith, a .place, empty));
 }

@@ -1,6 +1,6 @@
 -- Together the summary, the fields and the entries show the reading (01 'Calls'). The definitions are in `Alike.antt`.
 --     alike-exactly            of chunks that are read, the calls answer alike exactly where the readings are equal, but for what none of them shows
---     index-alike              where the index is alike too, so are start and end of every function
+--     index-alike              where the index is alike too, so are start and end of every function, and where its words and its constants begin
 --     Summarised, summary-met  what holds after a call of `chunk_summary`: its answer, and that the chunk is bytes, which `alike-exactly` asks. So it is after every call on a chunk (`Slices.antt`)
 -- Refused, left to right: a call that shows main's fields for every function, or leaves a field out; a reading that has a part which no call shows. Refused, right to left: an `EqualAsShown` that drops a field.
 -- Assumes nothing.
@@ -46,6 +46,7 @@ use Rattle.show_entry.specs.Entries.{shownWord, shownConstant, shownUpvalue, sh
 use Rattle.show_local.specs.Locals.{shownLocal, nameWritten}
 use Rattle.index.specs.declared.IndexAnswer.the-variants as index-answer
 use Rattle.index.specs.Index.{index, shownIndex, indexWritten}
+use Rattle.index.proofs.Whole.{index-length}
 use Rattle.demands.proofs.Slices.{bytes-known}
 use Rattle.demands.proofs.Calls.{ShowsFunction, shows, entry-is, located}
 use Rattle.demands.proofs.Same.{Pairwise, SameLocal}
@@ -170,13 +171,7 @@ index-back : (ps qs : List Prototype) → index ps ≡ index qs → Pairwise Sam
 index-back [] [] e = tt
 index-back [] (q ∷ qs) e = let z : _≡_ {A = ℕ} 0 1 = cc in absurd (omega arith)
 index-back (p ∷ ps) [] e = let z : _≡_ {A = ℕ} 0 1 = cc in absurd (omega arith)
-index-back (p ∷ ps) (q ∷ qs) e = (record { start = cc; end = cc }, index-back ps qs (cc))
-
-index-length : (ps qs : List Prototype) → length ps ≡ length qs → length (index ps) ≡ length (index qs)
-index-length [] [] e = refl
-index-length [] (q ∷ qs) e = absurd (omega arith)
-index-length (p ∷ ps) [] e = absurd (omega arith)
-index-length (p ∷ ps) (q ∷ qs) e = let rest = index-length ps qs (cc) in cc
+index-back (p ∷ ps) (q ∷ qs) e = (record { start = cc; end = cc; instructions-at = cc; constants-at = cc }, index-back ps qs (cc))
 
 pub index-alike : (L M : ResourceLimits) (s t : Bytes) (r q : Reading) → read L s ≡ shown r → read M t ≡ shown q → IndexAlike L s M t → Pairwise SamePlaces (r .functions) (q .functions)
 index-alike L M s t r q is is′ alike = index-back (r .functions) (q .functions) (go (le-leb (length x) (length old) (omega (arith, length-append x y))) (le-leb (length y) (length old) (omega (arith, length-append x y)))
@@ -195,7 +190,7 @@ index-alike L M s t r q is is′ alike = index-back (r .functions) (q .functions
     go one two e f =
         let said : index-answer.Ok (length (r .functions)) ≡ index-answer.Ok (length (q .functions)) = rw (one, two) at e in
         let wrote : x ++ drop (length x) old ≡ y ++ drop (length y) old = rw (one, two) at f in
-        front-same x y old (index-length (r .functions) (q .functions) (cc)) wrote
+        front-same x y old (let many : length (r .functions) ≡ length (q .functions) = cc in omega (arith, index-length (r .functions), index-length (q .functions))) wrote
 
 -- ## The chunk is bytes
 pub record Summarised (L : ResourceLimits) (chunk : Bytes) (r : SummaryAnswer) : Type 0 where

@@ -5,7 +5,7 @@
 --     Prototype        a function: 01's fields and entries, in the grammar's order
 --     Reading          a chunk
 -- Not shown by any call that takes a function's number: `places`, and the place of a local variable's name, whose bytes are shown. (The calls at a place show where lists begin, crates/c_parts, and a name that is there, crates/c_entries_at.)
--- `start` and `end` are shown by the index. All else is shown by the summary, the fields and the entries together (crates/demands/proofs/Together.antt, `alike-exactly`).
+-- `start` and `end`, and of `places` those of the instructions and the constants, are shown by the index. All else is shown by the summary, the fields and the entries together (crates/demands/proofs/Together.antt, `alike-exactly`).
 use mathlib.Core.Bool.{Bool}
 use mathlib.Core.List.{List}
 use mathlib.Core.Option.{Option}

@@ -1,3 +1,4 @@
 pub mod Cases
+pub mod PlaceCases
 pub mod Small
 pub mod Whole

@@ -80,13 +80,13 @@ within-many : {A : Type 0} {F : Form A} (n : ℕ) → Takes F → Within (Many n
 within-many n one = record { holds = λ at b xs d fits. let fewer = many-length one n at b xs d in omega arith }
 
 abbrev Few : {A : Type 0} → Listed A → Type 0
-Few l = length (l .items) ≤ MOST
+Few l = (length (l .items) ≤ MOST) × (l .place ≤ MOST)
 
 within-counted : {A : Type 0} {F : Form A} → Takes F → Within (Counted F) Few
-within-counted one = within-then any λ n _. within-then any λ place _. within-then (within-many n one) λ items h. within-is h
+within-counted one = within-then any λ n _. within-then within-here λ place p. within-then (within-many n one) λ items h. within-is (h, p)
 
 within-countedUpTo : {A : Type 0} {F : Form A} (limit : ℕ) → Takes F → Within (CountedUpTo limit F) Few
-within-countedUpTo limit one = within-then any λ n _. within-then any λ _ _. within-then any λ place _. within-then (within-many n one) λ items h. within-is h
+within-countedUpTo limit one = within-then any λ n _. within-then any λ _ _. within-then within-here λ place p. within-then (within-many n one) λ items h. within-is (h, p)
 
 -- ## Functions
 abbrev Small : List Prototype → Type 0
@@ -113,7 +113,7 @@ module _ (L : ResourceLimits) (few : L .«max_total_prototypes» ≤ MOST) where
       within-then any λ size _.
       within-then any λ _ _.
       within-then any λ _ _.
-      within-then any λ instructions-at _.
+      within-then within-here λ instructions-at h11.
       within-then (within-many size (takes-field 4 (omega arith))) λ instructions h2.
       within-then (within-countedUpTo (L .«max_constants_per_proto») (takes-then (takes-field 1 (omega arith)))) λ constants h3.
       within-then (within-countedUpTo (L .«max_upvalues_per_proto») (takes-then (takes-field 1 (omega arith)))) λ upvalues h4.
@@ -128,7 +128,7 @@ module _ (L : ResourceLimits) (few : L .«max_total_prototypes» ≤ MOST) where
       within-then (within-counted (takes-then (takes-then (takes-then takes-number)))) λ loc-vars h8.
       within-then (within-counted (takes-then takes-number)) λ upvalue-names h9.
       within-then within-here λ end h10.
-      within-is ((h1, (h10, (omega arith, (parent, (h2, (h3, (h4, (omega arith, (h6, (h7, (h8, (h9, tt)))))))))))), rest)
+      within-is ((h1, (h10, (omega arith, (parent, (h2, (h3 .0, (h4 .0, (omega arith, (h6, (h7 .0, (h8 .0, (h9 .0, (h11, (h3 .1, tt)))))))))))))), rest)
 
   within-function : (left : ℕ) (w : Where) → w .number ≤ MOST → w .parent ≤ MOST → w .depth + left ≤ DEEPEST → Within (Function L left w) Small
   unfolding Function

@@ -1,4 +1,5 @@
 -- The index of a whole chunk, in the code's terms: by what the first pass showed.
+--     index-length         so many numbers for each function
 --     refused-index        a refusal of the first pass
 --     no-room              the space is too short
 --     index-written        the second pass has written the index
@@ -34,7 +35,7 @@ use Rattle.index_row.specs.Inner.Stored.{COLUMNS, stored}
 use Rattle.index_walk.specs.Inner.Written.{Wrote}
 use Rattle.index.proofs.Small.{small-main, stored-index}
 
-index-length : (ps : List Prototype) → length (index ps) ≡ COLUMNS * length ps
+pub index-length : (ps : List Prototype) → length (index ps) ≡ COLUMNS * length ps
 index-length [] = refl
 index-length (p ∷ ps) = let more = index-length ps in omega arith
 

@@ -1,4 +1,4 @@
--- The index of a chunk: twelve numbers for each function, functions in the order their bytes begin.
+-- The index of a chunk: fourteen numbers for each function, functions in the order their bytes begin (01 'Calls'; 02, item 2: the last two).
 --     indexRow p           the numbers of the function p
 --     index ps             those of all functions, one after the other
 --     shownIndex n o       the answer, where o was read and n numbers have room
@@ -15,7 +15,8 @@ use Rattle.slice.specs.Over.{over}
 use Rattle.index.specs.declared.IndexAnswer.{IndexAnswer}
 use Rattle.index.specs.declared.IndexAnswer.the-variants as answer
 
--- where it begins and ends (just behind its last byte), its depth, its parent's number (main's is 0), and how long each list is, in the grammar's order
+-- where it begins and ends (just behind its last byte), its depth, its parent's number (main's is 0), how long each list is, in the grammar's order,
+-- and where its instruction words and its constants begin: just after their counts, also where there are none
 abbrev pub indexRow : Prototype → List ℕ
 indexRow p =
     p .start
@@ -30,6 +31,8 @@ indexRow p =
     ∷ length (p .abs-line-info)
     ∷ length (p .loc-vars)
     ∷ length (p .upvalue-names)
+    ∷ p .places .instructions
+    ∷ p .places .constants
     ∷ []
 
 abbrev pub index : List Prototype → List ℕ

@@ -19,8 +19,8 @@ pub enum IndexAnswer {
     Err(Refusal),
 }
 
-// Writes the index of a chunk at the start of `rows`: for each function, in the order their bytes begin, start, end, depth, parent and eight counts.
-// The first pass judges, the second writes. Ruled out: a count that is another list's, rows touched where the answer is a refusal.
+// Writes the index of a chunk at the start of `rows`: for each function, in the order their bytes begin, start, end, depth, parent, eight counts, and the places of its first instruction word and
+// of its first constant (with none, just after their count). The first pass judges, the second writes. Ruled out: a count or a place that is another list's, rows touched where the answer is a refusal.
 pub fn function_index(s: &[u8], limits: ResourceLimits, rows: &mut [u32]) -> IndexAnswer
     ensures { λ r. ⌜ r ≡ shownIndex (length (now (rows .entry))) (format.read limits (now (s .entry))) ⌝ }
     ensures { λ _. ⌜ now (rows .exit) ≡ indexWritten (now (rows .entry)) (format.read limits (now (s .entry))) ⌝ }

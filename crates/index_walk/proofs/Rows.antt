@@ -31,8 +31,8 @@ use Rattle.read_walk.proofs.OneFunction.{skim-err}
 use Rattle.read_walk.proofs.Passes.{begins, its-head, head-counts, first, inner, nested, ends, its-tail, tail-counted, function-read}
 use Rattle.read_walk.proofs.SoFar.{SoFar, starts, ended, goes-on, next-read}
 use Rattle.slice.specs.Inner.Splice.{splice}
-use Rattle.slice.proofs.Splices.{splice-none, splice-then, splice-before}
-use Rattle.index_row.specs.Inner.Stored.{COLUMNS, low, storedHead, storedTail, storedFunction, stored}
+use Rattle.slice.proofs.Splices.{splice-length, splice-none, splice-then, splice-before}
+use Rattle.index_row.specs.Inner.Stored.{COLUMNS, low, storedHead, storedPlaces, storedTail, storedFunction, stored}
 use Rattle.index_walk.specs.Inner.Written.{Wrote}
 
 -- ## Rows
@@ -56,17 +56,22 @@ over-second k a b e xs l h =
     ∙ over-first (take k l ++ (a ∷ [])) (xs ++ drop (k + length (a ∷ b ∷ xs)) l) b e (k + 1) (length-append (take k l) (a ∷ []) ∙ ap (λ (n : ℕ). n + 1) (length-take-le k l h))
     ∙ append-assoc (take k l) (a ∷ []) (e ∷ (xs ++ drop (k + length (a ∷ b ∷ xs)) l))
 
--- the front of a row, what stands behind the row, the row's last four numbers, and its second: one piece
-row-around : (at a b e : ℕ) (xs t more l₀ l₁ : List ℕ) → l₁ ≡ splice at (a ∷ b ∷ xs) l₀ → length l₁ ≡ length l₀ → length xs ≡ 6 → length t ≡ 4 → at + COLUMNS ≤ length l₀
-    → splice (at + 1) (e ∷ []) (splice (at + 8) t (splice (at + COLUMNS) more l₁)) ≡ splice at (a ∷ e ∷ (xs ++ (t ++ more))) l₀
-row-around at a b e xs t more l₀ l₁ front long six four fits =
+-- the front of a row, its two places, what stands behind the row, the four numbers before the places, and the row's second: one piece
+row-around : (at a b e : ℕ) (xs t places more l₀ l₁ : List ℕ) → l₁ ≡ splice (at + 12) places (splice at (a ∷ b ∷ xs) l₀) → length xs ≡ 6 → length t ≡ 4 → length places ≡ 2 → at + COLUMNS ≤ length l₀
+    → splice (at + 1) (e ∷ []) (splice (at + 8) t (splice (at + COLUMNS) more l₁)) ≡ splice at (a ∷ e ∷ (xs ++ (t ++ (places ++ more)))) l₀
+row-around at a b e xs t places more l₀ l₁ begun six four two fits =
+    let front = splice at (a ∷ b ∷ xs) l₀ in
+    let long : length front ≡ length l₀ = splice-length at (a ∷ b ∷ xs) l₀ (omega arith) in
     let eight : at + 8 ≡ at + length (a ∷ b ∷ xs) = omega arith in
-    let twelve : at + COLUMNS ≡ at + 8 + length t = omega arith in
-    ap (λ k. splice (at + 1) (e ∷ []) (splice (at + 8) t (splice k more l₁))) twelve
-    ∙ ap (splice (at + 1) (e ∷ [])) (splice-before (at + 8) t more l₁ (omega arith))
-    ∙ (λ i. splice (at + 1) (e ∷ []) (splice (eight i) (t ++ more) (front i)))
-    ∙ ap (splice (at + 1) (e ∷ [])) (splice-then at (a ∷ b ∷ xs) (t ++ more) l₀ (omega arith))
-    ∙ over-second at a b e (xs ++ (t ++ more)) l₀ (omega arith)
+    let twelve : at + 12 ≡ at + 8 + length t = omega arith in
+    let behind : at + COLUMNS ≡ at + 12 + length places = omega arith in
+    (λ i. splice (at + 1) (e ∷ []) (splice (at + 8) t (splice (behind i) more (begun i))))
+    ∙ ap (λ l. splice (at + 1) (e ∷ []) (splice (at + 8) t l)) (splice-then (at + 12) places more front (omega arith))
+    ∙ ap (λ k. splice (at + 1) (e ∷ []) (splice (at + 8) t (splice k (places ++ more) front))) twelve
+    ∙ ap (splice (at + 1) (e ∷ [])) (splice-before (at + 8) t (places ++ more) front (omega arith))
+    ∙ ap (λ k. splice (at + 1) (e ∷ []) (splice k (t ++ (places ++ more)) front)) eight
+    ∙ ap (splice (at + 1) (e ∷ [])) (splice-then at (a ∷ b ∷ xs) (t ++ (places ++ more)) l₀ (omega arith))
+    ∙ over-second at a b e (xs ++ (t ++ (places ++ more))) l₀ (omega arith)
 
 none-wrote : (w : Where) (o : Read (List Prototype)) (l l′ : List ℕ) (q : Refusal) → skim.Err q ≡ skimResult w o → Wrote w o l l′
 none-wrote w o l l′ q e = record { wrote = λ ps to rest f _. absurd (never (sym (skim-err w o q e) ∙ f)) }
@@ -92,11 +97,14 @@ module _ (s : Bytes) (L : ResourceLimits) (left : ℕ) (w : Where) (at : ℕ) {b
   abbrev before-those : List ℕ
   before-those = storedHead at at (w .depth) (w .parent) (headCounts (its-head s L left w at so-far h c₁ e₁))
 
+  abbrev its-places : List ℕ
+  its-places = storedPlaces (headCounts (its-head s L left w at so-far h c₁ e₁))
+
   abbrev behind-those : List ℕ
   behind-those = storedTail (tailCounts (its-tail s L left w at so-far h c₁ e₁ k e₂ t c₃ e₃))
 
   pub function-wrote : (number depth parent : ℕ) → number ≡ w .number → depth ≡ w .depth → parent ≡ w .parent
-      → (l₀ l₁ l₂ l₃ : List ℕ) → (COLUMNS * number + COLUMNS ≤ length l₀ → l₁ ≡ splice (COLUMNS * number) (storedHead at at depth parent h) l₀) → length l₁ ≡ length l₀
+      → (l₀ l₁ l₂ l₃ : List ℕ) → (COLUMNS * number + COLUMNS ≤ length l₀ → l₁ ≡ splice (COLUMNS * number + 12) (storedPlaces h) (splice (COLUMNS * number) (storedHead at at depth parent h) l₀)) → length l₁ ≡ length l₀
       → Wrote (first s L left w at so-far h c₁ e₁) (inner s L left w at so-far h c₁ e₁) l₁ l₂ → length l₂ ≡ length l₁
       → (COLUMNS * number + COLUMNS ≤ length l₂ → l₃ ≡ splice (COLUMNS * number + 1) (low (c₃ .at) ∷ []) (splice (COLUMNS * number + 8) (storedTail t) l₂))
       → Wrote w (function L left w at (drop at s)) l₀ l₃
@@ -110,8 +118,8 @@ module _ (s : Bytes) (L : ResourceLimits) (left : ℕ) (w : Where) (at : ℕ) {b
           put (omega arith)
           ∙ (λ i. splice (COLUMNS * n i + 1) (low (c₃ .at) ∷ []) (splice (COLUMNS * n i + 8) (storedTail (tail-counted s L left w at so-far h c₁ e₁ k e₂ t c₃ e₃ i)) (below i)))
           ∙ ap (λ m. splice (COLUMNS * w .number + 1) (low (c₃ .at) ∷ []) (splice (COLUMNS * w .number + 8) behind-those (splice m (stored those) l₁))) behind
-          ∙ row-around (COLUMNS * w .number) (low at) (low at) (low (c₃ .at)) (drop 2 before-those) behind-those (stored those) l₀ l₁
-          (begun (omega arith) ∙ (λ i. splice (COLUMNS * n i) (storedHead at at (d i) (p i) (head-counts s L left w at so-far h c₁ e₁ i)) l₀)) same-long refl refl (omega arith)
+          ∙ row-around (COLUMNS * w .number) (low at) (low at) (low (c₃ .at)) (drop 2 before-those) behind-those its-places (stored those) l₀ l₁
+          (begun (omega arith) ∙ (λ i. let h = head-counts s L left w at so-far h c₁ e₁ i in splice (COLUMNS * n i + 12) (storedPlaces h) (splice (COLUMNS * n i) (storedHead at at (d i) (p i) h) l₀))) refl refl refl (omega arith)
           ∙ ap (λ ps. splice (COLUMNS * w .number) (stored ps) l₀) same
 
 -- ## The loop

@@ -133,7 +133,7 @@ impl Asked {
         let mut rows = self.call("r").answer();
         rows.answered()?;
         assert_eq!(rows.number(), functions);
-        let rows: Vec<_> = (0..functions).map(|_| rows.joined(12)).collect();
+        let rows: Vec<_> = (0..functions).map(|_| rows.joined(14)).collect();
         for (function, row) in rows.iter().enumerate() {
             self.function(function as u64, row, &mut shown)?;
         }

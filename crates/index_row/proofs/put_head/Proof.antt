@@ -1,4 +1,4 @@
--- `index_row::put_head` meets its contract: two pieces of four numbers, the second right behind the first. Assumes nothing.
+-- `index_row::put_head` meets its contract: two pieces of four numbers, the second right behind the first, and one of two further on. Assumes nothing.
 use Prim.Native.Nat.{_*_}
 use mathlib.Core.Path.{_∙_, ap}
 use native.Mathlib.Omega.{arith}
@@ -19,9 +19,11 @@ put-head-spec =
     (λ c. search needs)
     (λ c κs. search needs)
     (λ c. search needs)
-    (λ c h. let second = c .before .before in
+    (λ c κs. search needs)
+    (λ c. search needs)
+    (λ c h. let third = c .before .before in
+    let second = third .before .before .before .before in
     let first = second .before .before .before .before in
     let a = first .before .before .before .before in
-    second .put-four2 .ensures
-    ∙ ap (splice _ _) (first .put-four .ensures)
-    ∙ splice-then (COLUMNS * a .args .number) _ _ (a .args .rows .now) (omega (arith, h))))
+    third .put-two .ensures
+    ∙ ap (splice _ _) (second .put-four2 .ensures ∙ ap (splice _ _) (first .put-four .ensures) ∙ splice-then (COLUMNS * a .args .number) _ _ (a .args .rows .now) (omega (arith, h)))))
