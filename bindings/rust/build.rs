@@ -1,9 +1,10 @@
 //! Links liblafzimdo.a from the folder in LAFZIMDO_LIB, or from the repository's target/staticlib.
 use std::env;
-use std::path::PathBuf;
+use std::path::{Path, PathBuf};
 use std::process::exit;
 
 fn main() {
+    repository();
     println!("cargo:rerun-if-env-changed=LAFZIMDO_LIB");
     let folder = match env::var_os("LAFZIMDO_LIB") {
         Some(folder) => PathBuf::from(folder),
@@ -19,4 +20,14 @@ fn main() {
     let folder = folder.canonicalize().expect("the folder holds the library");
     println!("cargo:rustc-link-search=native={}", folder.display());
     println!("cargo:rustc-link-lib=static=lafzimdo");
+}
+
+/// Tells the tests whether the repository is around the crate: some hold it against the repository's own files.
+fn repository() {
+    println!("cargo:rustc-check-cfg=cfg(repository)");
+    let kept = "../../crates/vectors/stdin";
+    println!("cargo:rerun-if-changed={kept}");
+    if Path::new(kept).is_file() {
+        println!("cargo:rustc-cfg=repository");
+    }
 }

@@ -33,8 +33,9 @@ impl fmt::Display for Verdict {
     }
 }
 
-/// The rule that an instruction breaks, with the number that breaks it.
+/// The rule that an instruction breaks, with the number that breaks it. There will be more of them.
 #[derive(Debug, Clone, Copy, PartialEq, Eq, Hash)]
+#[non_exhaustive]
 pub enum Rule {
     /// There is no such opcode.
     Opcode(u8),

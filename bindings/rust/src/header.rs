@@ -33,6 +33,7 @@ impl Header {
 
 /// What is unusual, with its place.
 #[derive(Debug, Clone, Copy, PartialEq, Eq, Hash)]
+#[non_exhaustive]
 pub enum Warning {
     /// The format byte is not 0.
     NonStandardFormat(usize),

@@ -2,7 +2,7 @@
 mod common;
 
 use common::run::{fresh, program, run, run_on};
-use common::{chunk, file, function};
+use common::{chunk, function, sample};
 use std::fs::{self, Permissions};
 use std::os::unix::fs::{symlink, PermissionsExt};
 use std::process::{Command, Stdio};
@@ -10,7 +10,7 @@ use std::process::{Command, Stdio};
 const COMMANDS: [&str; 5] = ["list", "dump", "copy", "check", "lines"];
 
 fn recentre() -> String {
-    file("samples/recentre.luac").to_str().unwrap().to_string()
+    sample().to_str().unwrap().to_string()
 }
 
 fn small() -> Vec<u8> {
@@ -103,6 +103,7 @@ fn the_longest_file_and_one_longer() {
 }
 
 #[test]
+#[cfg(repository)]
 fn listed_as_chunklist_lists() {
     assert_eq!(run(&["list", &recentre()]).text(0), common::text("crates/chunklist/stdout"));
     let listed = run_on(&["list", "-"], &small());
@@ -182,7 +183,7 @@ fn names_that_look_like_options() {
     let folder = env!("CARGO_TARGET_TMPDIR");
     fs::copy(recentre(), format!("{folder}/-q")).unwrap();
     let output = program().current_dir(folder).args(["list", "--", "-q"]).output().unwrap();
-    assert_eq!((output.status.code(), output.stdout), (Some(0), common::text("crates/chunklist/stdout").into_bytes()));
+    assert_eq!((output.status.code(), output.stdout), (Some(0), run(&["list", &recentre()]).stdout));
 }
 
 /// One instruction, the word.

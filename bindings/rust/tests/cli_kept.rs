@@ -1,4 +1,5 @@
 //! What the program prints of kept chunks, held against the answers of the Rust: every 16th, and all that luac made of the samples.
+#![cfg(repository)]
 mod common;
 
 use common::run::{options, run_on, run_under};

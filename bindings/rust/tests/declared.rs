@@ -1,4 +1,5 @@
 //! src/ffi.rs declares the calls as include/lafzimdo.h does: the same calls, with the same types and lengths of arrays, in the same order.
+#![cfg(repository)]
 mod common;
 
 use lafzimdo::Limits;
