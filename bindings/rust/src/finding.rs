@@ -115,7 +115,8 @@ impl Rule {
         }
     }
 
-    const fn why(&self) -> &'static str {
+    /// What is wrong, in words that its number completes.
+    pub const fn why(&self) -> &'static str {
         match self {
             Rule::Opcode(_) => "there is no opcode",
             Rule::Register(_) => "beyond the stack is register",

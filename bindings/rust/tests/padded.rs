@@ -90,7 +90,7 @@ fn copies_have_none() {
 #[test]
 fn dumped_behind_the_functions() {
     for zeros in [0, 1] {
-        let dump = run_on(&["dump", "-"], &spelt(EVERY_KIND, zeros, |_| true));
+        let dump = run_on(&["dump", "--raw", "-"], &spelt(EVERY_KIND, zeros, |_| true));
         let expected = format!("\nfunctions 4\npadded numbers {}\n\nfunction 0 ", 61 * zeros);
         assert!(dump.text(0).contains(&expected), "{:.400}", dump.text(0));
     }
