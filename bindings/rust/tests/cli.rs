@@ -23,6 +23,7 @@ fn help() {
     let all = all.text(0);
     assert_eq!(run(&["-h"]).text(0), all);
     assert_eq!(run(&["help"]).text(0), all);
+    assert_eq!(run(&["help", "--help"]).text(0), all);
     for command in COMMANDS {
         assert!(all.contains(&format!("\n  {command} ")), "{command}");
         assert!(all.lines().all(|line| line.len() <= 110), "{all}");

@@ -38,6 +38,7 @@ pub fn parsed(arguments: Vec<OsString>) -> Result<Request, Trouble> {
         Some("-V" | "--version") => Ok(Request::Help(help::VERSION.into())),
         Some("help") => match arguments.next() {
             None => Ok(Request::Help(help::all())),
+            Some(name) if name == "-h" || name == "--help" => Ok(Request::Help(help::all())),
             Some(name) => help_on(&name),
         },
         _ => asked(command(&first)?, arguments),
