@@ -4,6 +4,7 @@
 import os
 import pathlib
 import re
+import struct
 import subprocess
 import sys
 import tempfile
@@ -120,6 +121,183 @@ def rust_texts(refusals, opcodes):
     return told + [f"version {parts[0] * 1000000 + parts[1] * 1000 + parts[2]} {'.'.join(map(str, parts))}"]
 
 
+# ---- Items
+
+# Each array by the names of its items: how it is asked for, and the enum.
+ASKED = {
+    "summary": "lafzimdo_summary(chunk, len, limits, out)",
+    "function": "lafzimdo_function(chunk, len, limits, f, out)",
+    "head": "lafzimdo_head_at(chunk, len, limits, rows[f * LAFZIMDO_ROW_NUMBERS + LAFZIMDO_ROW_START], out)",
+    "tail": "lafzimdo_tail_at(chunk, len, limits, tail_of(f), out)",
+    "constant": "lafzimdo_constant(chunk, len, limits, f, e, out)",
+    "upvalue": "lafzimdo_upvalue(chunk, len, limits, f, e, out)",
+    "anchor": "lafzimdo_anchor(chunk, len, limits, f, e, out)",
+    "local": "lafzimdo_local(chunk, len, limits, f, e, name, sizeof name, out)",
+    "string": "lafzimdo_upvalue_name(chunk, len, limits, f, e, out)",
+    "word_at": "first(lafzimdo_head_at, rows[f * LAFZIMDO_ROW_NUMBERS], LAFZIMDO_HEAD_INSTRUCTIONS, lafzimdo_word_at)",
+    "delta_at": "first(lafzimdo_tail_at, tail_of(f), LAFZIMDO_TAIL_DELTAS, lafzimdo_delta_at)",
+    "local_at": "first(lafzimdo_tail_at, tail_of(f), LAFZIMDO_TAIL_LOCALS, lafzimdo_local_at)",
+    "field": "lafzimdo_instruction(chunk, len, limits, f, e, out) || lafzimdo_decode((uint32_t)out[0], out)",
+}
+
+
+def items_program(folder):
+    """Prints every item of every array, by its name."""
+    show = lambda name, memory="out": "".join(f'printf(" {item}=%llu", (unsigned long long){memory}[{item}]);\n' for item in enums(header)[f"lafzimdo_{name}_item"] if not item.endswith("_BEHIND") or name == "tail" or name.endswith("_at"))
+    one = lambda name: f'if (({ASKED[name]}) == 0) {{ printf("{name} %zu %zu", f, e); {show(name)} printf("\\n"); }}\n'
+    source = folder / "items.c"
+    source.write_text(f"""#include <lafzimdo.h>
+#include <stdio.h>
+#include <stdlib.h>
+static uint8_t chunk[1 << 24], name[1 << 16];
+static uint32_t rows[1 << 20];
+static uint64_t out[64], list[4 * LAFZIMDO_MOST_FINDINGS];
+static size_t len, functions;
+static const uint64_t limits[] = LAFZIMDO_CEILINGS;
+static uint64_t tail_of(size_t f) {{
+    uint64_t head[LAFZIMDO_HEAD_NUMBERS], at = 0;
+    lafzimdo_head_at(chunk, len, limits, rows[f * LAFZIMDO_ROW_NUMBERS], head);
+    at = head[LAFZIMDO_HEAD_NESTED_AT];
+    for (size_t g = f + 1; g < functions; g++)
+        if (rows[g * LAFZIMDO_ROW_NUMBERS + LAFZIMDO_ROW_PARENT] == f) at = rows[g * LAFZIMDO_ROW_NUMBERS + LAFZIMDO_ROW_END];
+    return at;
+}}
+typedef uint64_t at_place(const uint8_t *, size_t, const uint64_t *, size_t, uint64_t *);
+/* The first entry of the list whose count and place stand there in a part; 1 where it has none. */
+static uint64_t first(at_place *part, size_t place, size_t count, at_place *entry) {{
+    uint64_t parts[64];
+    return part(chunk, len, limits, place, parts) || parts[count] == 0 || entry(chunk, len, limits, parts[count + 1], out);
+}}
+int main(void) {{
+    size_t f = 0, e = 0;
+    len = fread(chunk, 1, sizeof chunk, stdin);
+    {one("summary")}
+    functions = out[LAFZIMDO_SUMMARY_FUNCTIONS];
+    if (lafzimdo_index(chunk, len, limits, rows, sizeof rows / sizeof *rows, out)) return 1;
+    for (f = 0; f < functions; f++) {{
+        const uint32_t *row = rows + f * LAFZIMDO_ROW_NUMBERS;
+        e = 0;
+        printf("row %zu 0", f); {show("row", "row")} printf("\\n");
+        {one("function")} {one("head")} {one("tail")} {one("word_at")} {one("delta_at")} {one("local_at")}
+        for (e = 0; e < 300; e++) {{ {"".join(one(name) for name in ("constant", "upvalue", "anchor", "local", "string", "field"))} }}
+    }}
+    if (lafzimdo_findings(chunk, len, limits, list, sizeof list / sizeof *list, out)) return 1;
+    printf("findings 0 0"); {show("findings")} printf("\\n");
+    for (e = 0; e < out[LAFZIMDO_FINDINGS_COUNT]; e++) {{ const uint64_t *finding = list + e * LAFZIMDO_FINDING_NUMBERS; printf("finding 0 %zu", e); {show("finding", "finding")} printf("\\n"); }}
+    return 0;
+}}
+""")
+    run("cc", *STRICT, "-I", include, source, library, "-o", folder / "items")
+
+
+LISTS = {"INSTRUCTIONS": "instructions", "CONSTANTS": "constants", "UPVALUES": "upvalues", "NESTED": "nested", "DELTAS": "deltas", "ANCHORS": "anchors", "LOCALS": "locals", "UPVALUE_NAMES": "upvalue_names"}
+
+
+RIGHT = object()
+
+
+def expected_item(kind, f, e, item, shown, dump, check, chunk):
+    """What an item is by its name alone, from the program's JSON; RIGHT where a place is right, None where the name says nothing that JSON has."""
+    name = item.removeprefix(f"LAFZIMDO_{kind.upper()}_")
+    function = dump["functions"][f]
+    at = lambda what: shown[f"LAFZIMDO_{kind.upper()}_{what}"]
+    text = lambda place, length, data: chunk[place:place + length] == (as_bytes(data) or b"")
+    if name in LISTS and kind in ("function", "row", "head", "tail"):
+        return len(function[LISTS[name]])
+    if name.endswith("_LINE") and kind in ("function", "head"):
+        return int(function["line_defined" if name == "FIRST_LINE" else "last_line_defined"])
+    if name.startswith("SOURCE_") and (kind == "function" or kind == "head" and at("HAS_SOURCE")):
+        return RIGHT if text(at("SOURCE_PLACE"), at("SOURCE_LENGTH"), function["source"]) else "source"
+    match kind, name:
+        case "summary", _:
+            h, warnings = dump["header"], dump["warnings"] + [{"place": 0, "code": ""}] * 2
+            codes = {"": 0, "L54-HEADER-003": 1, "L54-CHUNK-001": 2}
+            return {"VERSION": h["version"], "FORMAT": h["format"], "INSTRUCTION_SIZE": h["instruction_size"], "INTEGER_SIZE": h["lua_integer_size"], "SIZE_T_SIZE": 8, "NUMBER_SIZE": h["lua_number_size"],
+                    "TEST_NUMBER": struct.unpack("<Q", struct.pack("<d", h["luac_num"]))[0], "FUNCTIONS": dump["function_count"], "TRAILING_PLACE": dump["trailing_place"],
+                    "TRAILING_LENGTH": len(as_bytes(dump["trailing_bytes"])), "WARNING_1": codes[warnings[0]["code"]], "WARNING_1_PLACE": warnings[0]["place"], "WARNING_2": codes[warnings[1]["code"]],
+                    "WARNING_2_PLACE": warnings[1]["place"], "PADDED": dump["padded_numbers"]}[name]
+        case ("function" | "row" | "head"), _:
+            own = {"DEPTH": function["depth"], "PARENT": function["parent"], "PARAMETERS": function["numparams"], "VARARG": function["is_vararg"], "STACK": function["maxstacksize"],
+                   "START": function["start"], "END": function["end"], "HAS_SOURCE": int(function["source"] is not None) if kind == "function" or f == 0 else None}
+            if name == "INSTRUCTIONS_AT":
+                words = b"".join(i["word"].to_bytes(4, "little") for i in function["instructions"])
+                return RIGHT if text(at(name), len(words), {"hex": words.hex()}) else "words"
+            return own.get(name)
+        case "word_at", "WORD":
+            return function["instructions"][0]["word"]
+        case "delta_at", "DELTA":
+            return function["deltas"][0] % 2**64
+        case "local_at", ("STARTPC" | "ENDPC"):
+            return int(function["locals"][0][name.lower()])
+        case "local_at", "HAS_NAME":
+            return 1
+        case "local_at", ("NAME_PLACE" | "NAME_LENGTH"):
+            return RIGHT if text(at("NAME_PLACE"), at("NAME_LENGTH"), function["locals"][0]["name"]) else "name"
+        case ("word_at" | "delta_at" | "local_at"), "BEHIND":
+            return RIGHT if function["start"] < shown[item] <= function["end"] else "behind"
+        case "tail", "BEHIND":
+            return function["end"]
+        case "tail", "DELTAS_AT":
+            deltas = bytes(delta % 256 for delta in function["deltas"])
+            return RIGHT if text(at(name), len(deltas), {"hex": deltas.hex()}) else "deltas"
+        case "constant", _:
+            k = function["constants"][e]
+            tag = {"nil": 0, "boolean": 17 if k.get("value") else 1, "integer": 3, "float": 19, "short string": 4, "long string": 20}[k["type"]]
+            if "string" in k["type"] and name != "TAG":
+                return RIGHT if text(at("VALUE"), at("LENGTH"), k["value"]) else "string"
+            bits = int(k["value"]) % 2**64 if k["type"] == "integer" else int(k["bits"], 16) if k["type"] == "float" else None
+            return {"TAG": tag, "VALUE": bits}.get(name)
+        case "upvalue", _:
+            return function["upvalues"][e][name.lower()]
+        case "anchor", _:
+            return int(function["anchors"][e][name.lower()])
+        case "local", "NAME_LENGTH":
+            return len(as_bytes(function["locals"][e]["name"]))
+        case "local", _:
+            return int(function["locals"][e][name.lower()])
+        case "string", "PRESENT":
+            return int(function["upvalue_names"][e] is not None)
+        case "string", _:
+            return RIGHT if text(at("PLACE"), at("LENGTH"), function["upvalue_names"][e]) else "name"
+        case "findings", _:
+            return {"VERDICT": ["valid-for-analysis", "invalid", "incomplete"].index(check["verdict"]), "COUNT": len(check["findings"])}[name]
+        case "finding", "RULE":
+            return ["OPCODE-001", "REG-001", "CONST-001", "UPVAL-001", "UPVAL-002", "PROTO-001", "JUMP-001"].index(check["findings"][e]["rule"]) + 1
+        case "finding", _:
+            return check["findings"][e][name.lower()] % 2**64
+        case "field", "OPCODE":
+            return function["instructions"][e]["opcode"]
+        case "field", _:
+            return {o["field"].upper(): o["value"] % 2**64 for o in function["instructions"][e]["operands"]}.get(name)
+    return None
+
+
+def items(folder):
+    """Every item by its name, of samples with and without lines, one with anchors, and one that is damaged: what the name says is there."""
+    items_program(folder)
+    damaged = bytearray((top / "samples/recentre.luac").read_bytes() + b"xy")
+    damaged[5] = 1
+    at = damaged.index(0x800007B8.to_bytes(4, "little"))
+    damaged[at:at + 4] = 0xFFFFFFB8.to_bytes(4, "little")
+    damaged[at + 4:at + 8] = (14 | 30 << 7).to_bytes(4, "little")
+    named = dict(chunks(folder))
+    seen, path = {}, folder / "chunk"
+    for chunk in (bytes(damaged), named["recentre.stripped.luac"], named["line_gap plain"], named["deep_upvalues plain"], named["constants"], named["varargs plain"], named["to_be_closed plain"]):
+        path.write_bytes(chunk)
+        dump, check = (objects(subprocess.run([program, command, "--json", path], capture_output=True, text=True).stdout)[0] for command in ("dump", "check"))
+        for line in subprocess.run([folder / "items"], input=chunk, capture_output=True, check=True).stdout.decode().splitlines():
+            kind, f, e, *pairs = line.split(" ")
+            shown = {item: int(value) for item, value in (pair.split("=") for pair in pairs)}
+            for item, value in shown.items():
+                expected = expected_item(kind, int(f), int(e), item, shown, dump, check, chunk)
+                assert expected is None or expected is RIGHT or value == expected, (line, item, expected)
+                seen.setdefault(item, set()).update([] if expected is None else [value])
+    # What is not seen by its name: the mode, and places of lists whose entries are of any length (walk.c goes on from those).
+    unseen = {item for item, values in seen.items() if not values}
+    assert unseen <= {"LAFZIMDO_FIELD_MODE"} | {f"LAFZIMDO_{part}_{name}_AT" for part in ("HEAD", "TAIL") for name in LISTS}, unseen
+    return len(seen) - len(unseen)
+
+
 # ---- Examples
 
 def compiled(folder):
@@ -179,14 +357,14 @@ def main():
     refusals = [(int(number), name, why) for number, name, why in re.findall(r'^    (\d+) (\w+?)(?:\(usize\))? "(.*)";$', (top / "bindings/rust/src/refusal.rs").read_text(), re.M)]
     opcodes = re.findall(r'"(\w+)",', (top / "bindings/rust/src/word.rs").read_text().split("const NAMES")[1].split("];")[0])
     assert len(refusals) >= 28 and len(opcodes) == 83
-    groups, items = names(refusals, opcodes)
+    groups, count = names(refusals, opcodes)
     calls = costs()
     with tempfile.TemporaryDirectory() as folder:
         folder = pathlib.Path(folder)
         told, expected = told_by_c(folder), rust_texts(refusals, opcodes)
         assert sorted(told) == sorted(expected), set(told) ^ set(expected)
-        seen = examples(folder)
-    print(f"c: {groups} enums with {items} names, {calls} calls with their costs, {len(told)} texts, 3 examples on {seen} chunks")
+        by_name, seen = items(folder), examples(folder)
+    print(f"c: {groups} enums with {count} names, {by_name} items seen by their names, {calls} calls with their costs, {len(told)} texts, 3 examples on {seen} chunks")
     assert seen > 100
 
 
