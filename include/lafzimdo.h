@@ -19,7 +19,7 @@
 extern "C" {
 #endif
 
-/* The version of this header: as a number, 1,000,000 * major + 1,000 * minor + patch, and as a text. */
+/* The version of this header: as a number, 1,000,000 * major + 1,000 * minor + patch, and as a text. lafzimdo_version gives that of the library. */
 #define LAFZIMDO_VERSION_MAJOR 0
 #define LAFZIMDO_VERSION_MINOR 1
 #define LAFZIMDO_VERSION_PATCH 0
@@ -282,6 +282,9 @@ enum lafzimdo_local_at_item {
     LAFZIMDO_LOCAL_AT_BEHIND
 };
 #define LAFZIMDO_LOCAL_AT_NUMBERS 6
+
+/* No pass. LAFZIMDO_VERSION of the header that the library was built with: another than yours tells that arrays may have other lengths. */
+uint64_t lafzimdo_version(void);
 
 /* One pass. The summary: version, format, instruction size, integer size, size_t size, number size, the test number's bits; functions; place and length of the trailing bytes;
  * code and place of the first warning, code and place of the second (0: none, 1: L54-HEADER-003, 2: L54-CHUNK-001);

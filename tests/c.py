@@ -99,6 +99,7 @@ int main(void) {
     show("refusal", lafzimdo_refusal_text); show("opcode", lafzimdo_opcode_name); show("rule", lafzimdo_rule_name);
     show("why", lafzimdo_rule_text); show("verdict", lafzimdo_verdict_name); show("warning", lafzimdo_warning_text);
     printf("version %d %s\\n", LAFZIMDO_VERSION, LAFZIMDO_VERSION_TEXT);
+    if (lafzimdo_version() != LAFZIMDO_VERSION) return 1;
     return lafzimdo_opcode_name(~0u) != NULL;
 }
 """)

@@ -32,18 +32,28 @@ def _candidates():
     return ([str(own)] if own.is_file() else []) + [SONAME]
 
 
+def _version(text):
+    major, minor, patch = map(int, text.split("."))
+    return 1_000_000 * major + 1_000 * minor + patch
+
+
 def _load():
+    """The library, of this module's own version: in another, arrays may hold other numbers."""
     errors = []
     for name in _candidates():
         try:
-            return ctypes.CDLL(name)
-        except OSError as error:
+            library = ctypes.CDLL(name)
+            library.lafzimdo_version.restype = ctypes.c_uint64
+            if library.lafzimdo_version() == _version(__version__):
+                return library
+            errors.append(f"{name}: its version is {library.lafzimdo_version()}, and the module's {_version(__version__)}")
+        except (OSError, AttributeError) as error:
             errors.append(str(error))
     raise OSError(f"liblafzimdo is not found ({'; '.join(errors)}): run make at the top of the repository, or make install; or name its folder in LAFZIMDO_SO")
 
 
 _library = _load()
-# More than any call fills: an array that a later version makes longer is not overrun.
+# More than any call fills.
 _ROOM = 64
 _Out = ctypes.c_uint64 * _ROOM
 

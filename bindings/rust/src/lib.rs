@@ -65,3 +65,8 @@ pub use operand::{operand_kinds, Field, Operand, OperandKind};
 pub use owned::OwnedChunk;
 pub use refusal::Refusal;
 pub use word::{decode, encode, Instruction, Mode};
+
+/// The version of the library that is linked, 1,000,000 * major + 1,000 * minor + patch.
+pub fn library_version() -> u64 {
+    ffi::version()
+}

@@ -96,3 +96,9 @@ fn texts_in_debug() {
     assert_eq!(format!("{:?}", chunk.local(0, 0).unwrap()), format!("{local:?}"));
     assert_eq!(format!("{:?}", chunk.local_into(0, 0, &mut [0; 9])), "Ok(Local { name: 5, startpc: 4, endpc: 79 })");
 }
+
+#[test]
+fn the_librarys_version() {
+    let parts = env!("CARGO_PKG_VERSION").split('.').map(|part| part.parse::<u64>().unwrap());
+    assert_eq!(lafzimdo::library_version(), parts.fold(0, |number, part| number * 1_000 + part));
+}
