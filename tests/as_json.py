@@ -186,6 +186,12 @@ def odd(folder):
         with open(path, "wb") as file:
             file.write(sample)
         assert as_bytes(asked("list", path, status=0)[0]["file"]) == path
+    damaged = bytearray(sample)
+    at = sample.index(0x800007B8.to_bytes(4, "little"))
+    damaged[at:at + 4] = 0xFFFFFFB8.to_bytes(4, "little")
+    (folder / "damaged").write_bytes(damaged)
+    found = asked("check", folder / "damaged", status=4)
+    assert found == asked("check", "--quiet", folder / "damaged", status=4) and found[0]["findings"][0]["instruction"] == "JMP 16777216"
     two = asked("check", path, folder / "none", status=3)
     assert [one["status"] for one in two] == [0, 3] and "No such file" in two[1]["error"]
     assert asked("dump", "--function", "7", path, status=1)[0]["refused"]["number"] == 23

@@ -49,6 +49,7 @@ def looked_at(prefix):
     library = prefix / "lib/liblafzimdo.so"
     told = run("readelf", "-d", library)
     assert "Library soname: [liblafzimdo.so.0]" in told and "TEXTREL" not in told, told
+    assert re.search(r"GNU_STACK .* RW ", run("readelf", "-lW", library)), "its stack may be executed"
     needed = re.findall(r"Shared library: \[(.*)\]", told)
     assert set(needed) <= {"libc.so.6"}, needed
     shown = set(re.findall(r" T (\w+)", run("nm", "-D", "--defined-only", library)))

@@ -8,6 +8,7 @@ import subprocess
 import sys
 import tempfile
 
+sys.dont_write_bytecode = True
 top = pathlib.Path(__file__).resolve().parent.parent
 program = os.environ.get("LAFZIMDO", top / "target/rust/release/lafzimdo")
 luac = os.environ.get("LUAC", "luac5.4")

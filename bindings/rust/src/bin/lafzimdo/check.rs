@@ -31,7 +31,8 @@ const VERBOSE: Choice =
     Choice { short: "-v", long: "--verbose", value: "", text: "of many files also each warning and finding" };
 
 fn run(asked: &Asked) -> Result<u8, Trouble> {
-    let (quiet, verbose) = (asked.has(QUIET.long), asked.has(VERBOSE.long));
+    // Where nothing is printed the findings are not needed.
+    let (quiet, verbose) = (asked.has(QUIET.long) && !asked.has(files::JSON.long), asked.has(VERBOSE.long));
     files::run(asked, &|chunk| {
         let (verdict, findings) = if quiet { (chunk.verdict(), Vec::new()) } else { chunk.validate() };
         Ok(Box::new(Checked { chunk, verdict, findings, verbose }))
