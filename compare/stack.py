@@ -90,7 +90,9 @@ def build():
     out.mkdir(parents=True, exist_ok=True)
     runs, rows = [], []
     for call, parameters in declared().items():
-        runs.append(f"static uint64_t run_{call}(void) {{ return {call}({', '.join(arguments(call, parameters))}); }}\n")
+        # What takes nothing returns no refusal.
+        refusal = f"{call}() == 0" if parameters == "void" else f"{call}({', '.join(arguments(call, parameters))})"
+        runs.append(f"static uint64_t run_{call}(void) {{ return {refusal}; }}\n")
         names = re.findall(r"\w+(?=\s*(?:\[\w+\])?\s*(?:,|$))", parameters)
         takes = [bool({"function"} & set(names)), bool({"entry", "pc"} & set(names)), "place" in names]
         rows.append(f'    {{"{call}", run_{call}, {", ".join(str(int(t)) for t in takes)}}},\n')

@@ -9,9 +9,11 @@ use crate::index::{Counts, Index, Row};
 use crate::input::{granted, Input};
 use crate::limits::Limits;
 use crate::refusal::Refusal;
+use crate::text::Text;
+use std::fmt;
 use std::iter::FusedIterator;
 use std::ops::Range;
-use std::sync::OnceLock;
+use std::sync::{Arc, OnceLock};
 
 /// No list of findings is longer: validation stops at 10,000, and the last instruction may add two.
 const MOST_FINDINGS: usize = 10_001;
@@ -19,10 +21,15 @@ const MOST_FINDINGS: usize = 10_001;
 /// Names up to this length are found in one pass, longer ones in two.
 const USUAL_NAME: usize = 256;
 
-/// A chunk that was read under limits. It borrows the bytes, and its strings are parts of them.
-#[derive(Debug, Clone)]
+/// A chunk that was read under limits. It borrows the bytes, and its strings are parts of them ([`OwnedChunk`](crate::OwnedChunk) owns them). A clone shares the index.
+#[derive(Clone)]
 pub struct Chunk<'a> {
-    input: Input<'a>,
+    pub(crate) input: Input<'a>,
+    pub(crate) shown: Arc<Shown>,
+}
+
+/// What the summary showed, and the index, which is made when it is first asked for. It holds places, not parts of the bytes, so that a chunk, its functions and its owned form share it.
+pub(crate) struct Shown {
     header: Header,
     warnings: [Option<Warning>; 2],
     functions: usize,
@@ -38,15 +45,15 @@ impl<'a> Chunk<'a> {
         let summary = ffi::summary(input.bytes, &input.limits)?;
         let [version, format, isize, intsize, sizet, numsize, num, functions, place, len, rest @ ..] = summary;
         let [code1, place1, code2, place2, padded] = rest;
-        Ok(Chunk {
-            input,
+        let shown = Shown {
             header: Header::of_numbers([version, format, isize, intsize, sizet, numsize, num]),
             warnings: [Warning::of_numbers(code1, place1), Warning::of_numbers(code2, place2)],
             functions: functions as usize,
             trailing: (place, len),
             padded: padded as usize,
             index: OnceLock::new(),
-        })
+        };
+        Ok(Chunk { input, shown: Arc::new(shown) })
     }
 
     /// All of the bytes.
@@ -61,32 +68,32 @@ impl<'a> Chunk<'a> {
 
     /// The header's fields.
     pub fn header(&self) -> &Header {
-        &self.header
+        &self.shown.header
     }
 
     /// What was unusual: at most two warnings, and not more than `max_diagnostics`.
     pub fn warnings(&self) -> impl Iterator<Item = Warning> + '_ {
-        self.warnings.iter().flatten().copied()
+        self.shown.warnings.iter().flatten().copied()
     }
 
     /// How many functions there are: one at least.
     pub fn function_count(&self) -> usize {
-        self.functions
+        self.shown.functions
     }
 
     /// How many of its numbers, string sizes and counts among them, are padded: spelt with more bytes than their shortest form takes. The archive copy has none.
     pub fn padded_numbers(&self) -> usize {
-        self.padded
+        self.shown.padded
     }
 
     /// The bytes behind the main function.
     pub fn trailing_bytes(&self) -> &'a [u8] {
-        self.input.string(self.trailing.0, self.trailing.1)
+        self.input.string(self.shown.trailing.0, self.shown.trailing.1)
     }
 
     /// The place just behind the main function.
     pub fn trailing_place(&self) -> usize {
-        self.trailing.0 as usize
+        self.shown.trailing.0 as usize
     }
 
     /// A row for each function. It is made when it is first asked for, by this call, by [`function`](Chunk::function), [`functions`](Chunk::functions), [`instructions`](Chunk::instructions) or [`constants`](Chunk::constants), and kept.
@@ -94,13 +101,13 @@ impl<'a> Chunk<'a> {
         &self.indexed().rows
     }
 
-    fn indexed(&self) -> &Index {
-        self.index.get_or_init(|| Index::new(&self.input, self.functions))
+    pub(crate) fn indexed(&self) -> &Index {
+        self.shown.index.get_or_init(|| Index::new(&self.input, self.shown.functions))
     }
 
     /// A function by its number, with its lists.
     pub fn function(&self, function: usize) -> Result<Function<'a>, Refusal> {
-        if function >= self.functions {
+        if function >= self.shown.functions {
             return Err(Refusal::NoFunction);
         }
         Ok(self.found(function))
@@ -118,13 +125,26 @@ impl<'a> Chunk<'a> {
         Ok(Entries::new(self.input, row.counts().constants, row.constants_at(), entries::constant))
     }
 
-    fn found(&self, function: usize) -> Function<'a> {
-        Function::new(self.input, self.indexed(), function)
+    pub(crate) fn found(&self, function: usize) -> Function<'a> {
+        Function::new(self.clone(), function)
     }
 
     /// All functions, from main on, in the order their bytes begin.
     pub fn functions(&self) -> Functions<'_, 'a> {
-        Functions { chunk: self, numbers: 0..self.functions }
+        Functions { chunk: self, numbers: 0..self.shown.functions }
+    }
+}
+
+impl fmt::Debug for Chunk<'_> {
+    fn fmt(&self, f: &mut fmt::Formatter<'_>) -> fmt::Result {
+        f.debug_struct("Chunk")
+            .field("bytes", &self.input.bytes.len())
+            .field("header", &self.shown.header)
+            .field("warnings", &self.warnings().collect::<Vec<_>>())
+            .field("functions", &self.shown.functions)
+            .field("padded_numbers", &self.shown.padded)
+            .field("trailing_bytes", &Text(self.trailing_bytes()))
+            .finish_non_exhaustive()
     }
 }
 

@@ -1,8 +1,10 @@
 //! The entries of a function's lists.
 use crate::input::Input;
+use crate::text::Text;
+use std::fmt;
 
 /// A constant. Strings are parts of the chunk.
-#[derive(Debug, Clone, Copy)]
+#[derive(Clone, Copy)]
 #[allow(missing_docs)]
 pub enum Constant<'a> {
     Nil,
@@ -29,6 +31,20 @@ impl PartialEq for Constant<'_> {
 }
 
 impl Eq for Constant<'_> {}
+
+/// Strings as text.
+impl fmt::Debug for Constant<'_> {
+    fn fmt(&self, f: &mut fmt::Formatter<'_>) -> fmt::Result {
+        match self {
+            Constant::Nil => f.write_str("Nil"),
+            Constant::Boolean(value) => f.debug_tuple("Boolean").field(value).finish(),
+            Constant::Integer(value) => f.debug_tuple("Integer").field(value).finish(),
+            Constant::Float(value) => f.debug_tuple("Float").field(value).finish(),
+            Constant::ShortString(value) => f.debug_tuple("ShortString").field(&Text(value)).finish(),
+            Constant::LongString(value) => f.debug_tuple("LongString").field(&Text(value)).finish(),
+        }
+    }
+}
 
 impl<'a> Constant<'a> {
     /// Of its tag, its bits or its string's place, and its string's length.
@@ -70,10 +86,29 @@ pub struct Anchor {
 }
 
 /// A local variable, in scope from startpc up to endpc. `Name` is `&[u8]`, a part of the chunk, or `Vec<u8>`; an absent name is `?`.
-#[derive(Debug, Clone, Copy, PartialEq, Eq, Hash)]
+#[derive(Clone, Copy, PartialEq, Eq, Hash)]
 #[allow(missing_docs)]
 pub struct Local<Name> {
     pub name: Name,
     pub startpc: u64,
     pub endpc: u64,
+}
+
+/// Names as text; of [`Chunk::local_into`](crate::Chunk::local_into) the name's length.
+macro_rules! shown_locals {
+    ($($kind:ty, $name:ident => $shown:expr;)*) => {
+        $(impl fmt::Debug for Local<$kind> {
+            fn fmt(&self, f: &mut fmt::Formatter<'_>) -> fmt::Result {
+                let $name = &self.name;
+                let (startpc, endpc) = (&self.startpc, &self.endpc);
+                f.debug_struct("Local").field("name", &$shown).field("startpc", startpc).field("endpc", endpc).finish()
+            }
+        })*
+    };
+}
+
+shown_locals! {
+    &[u8], name => Text(name);
+    Vec<u8>, name => Text(name);
+    usize, name => name;
 }

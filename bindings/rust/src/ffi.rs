@@ -47,6 +47,7 @@ calls! {
 }
 
 extern "C" {
+    fn lafzimdo_version() -> u64;
     fn lafzimdo_local(
         chunk: *const u8,
         len: usize,
@@ -94,6 +95,12 @@ extern "C" {
         sj: i32,
         out: &mut [u64; 1],
     ) -> u64;
+}
+
+/// The version of the library.
+pub(crate) fn version() -> u64 {
+    // SAFETY: it takes nothing and returns a number.
+    unsafe { lafzimdo_version() }
 }
 
 /// The name's length, startpc, endpc; the name is at the front of `name`.

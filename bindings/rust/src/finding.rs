@@ -33,8 +33,9 @@ impl fmt::Display for Verdict {
     }
 }
 
-/// The rule that an instruction breaks, with the number that breaks it.
+/// The rule that an instruction breaks, with the number that breaks it. There will be more of them.
 #[derive(Debug, Clone, Copy, PartialEq, Eq, Hash)]
+#[non_exhaustive]
 pub enum Rule {
     /// There is no such opcode.
     Opcode(u8),
@@ -114,7 +115,8 @@ impl Rule {
         }
     }
 
-    const fn why(&self) -> &'static str {
+    /// What is wrong, in words that its number completes.
+    pub const fn why(&self) -> &'static str {
         match self {
             Rule::Opcode(_) => "there is no opcode",
             Rule::Register(_) => "beyond the stack is register",

@@ -1,14 +1,18 @@
 //! A function of a chunk.
+use crate::chunk::Chunk;
 use crate::entries::{self, Entries};
 use crate::entry::{Anchor, Constant, Local, Upvalue};
 use crate::ffi;
-use crate::index::{Counts, Index, Row};
-use crate::input::{granted, Input};
+use crate::index::{Counts, Row};
+use crate::input::granted;
 use crate::lines;
 use crate::refusal::Refusal;
+use crate::text::Text;
+use std::fmt;
+use std::iter::FusedIterator;
 
 /// A function's fields.
-#[derive(Debug, Clone, Copy, PartialEq, Eq, Hash)]
+#[derive(Clone, Copy, PartialEq, Eq, Hash)]
 #[allow(missing_docs)]
 pub struct Fields<'a> {
     /// How deep it is nested; main is 0.
@@ -25,10 +29,26 @@ pub struct Fields<'a> {
     pub counts: Counts,
 }
 
+impl fmt::Debug for Fields<'_> {
+    fn fmt(&self, f: &mut fmt::Formatter<'_>) -> fmt::Result {
+        f.debug_struct("Fields")
+            .field("depth", &self.depth)
+            .field("parent", &self.parent)
+            .field("source", &self.source.map(Text))
+            .field("line_defined", &self.line_defined)
+            .field("last_line_defined", &self.last_line_defined)
+            .field("numparams", &self.numparams)
+            .field("is_vararg", &self.is_vararg)
+            .field("maxstacksize", &self.maxstacksize)
+            .field("counts", &self.counts)
+            .finish()
+    }
+}
+
 /// A function of a chunk that was read, with its lists. It has been found once, and its lists go on from there.
-#[derive(Debug, Clone)]
+#[derive(Clone)]
 pub struct Function<'a> {
-    input: Input<'a>,
+    chunk: Chunk<'a>,
     number: usize,
     row: Row,
     fields: Fields<'a>,
@@ -47,7 +67,8 @@ struct Places {
 
 impl<'a> Function<'a> {
     /// The function of a number below the number of functions: the part before its nested functions is read, and the part behind them.
-    pub(crate) fn new(input: Input<'a>, index: &Index, number: usize) -> Function<'a> {
+    pub(crate) fn new(chunk: Chunk<'a>, number: usize) -> Function<'a> {
+        let (input, index) = (chunk.input, chunk.indexed());
         let row = index.rows[number];
         let head = granted(ffi::head_at(input.bytes, &input.limits, row.start()));
         // The source is in the index, with those of parents.
@@ -74,7 +95,7 @@ impl<'a> Function<'a> {
             loc_vars: locals_at as usize,
             upvalue_names: names_at as usize,
         };
-        Function { input, number, row, fields, places }
+        Function { chunk, number, row, fields, places }
     }
 
     /// Its number: functions are numbered from main, 0, in the order their bytes begin.
@@ -102,39 +123,44 @@ impl<'a> Function<'a> {
         self.fields.source
     }
 
+    /// The functions nested in it, in the order in which CLOSURE counts them.
+    pub fn nested(&self) -> Nested<'a> {
+        Nested { chunk: self.chunk.clone(), next: self.number + 1, left: self.fields.counts.protos }
+    }
+
     /// Its instruction words ([`decode`](crate::decode) takes one apart).
     pub fn instructions(&self) -> Entries<'a, u32> {
-        Entries::new(self.input, self.fields.counts.instructions, self.row.instructions_at(), entries::word)
+        Entries::new(self.chunk.input, self.fields.counts.instructions, self.row.instructions_at(), entries::word)
     }
 
     /// Its constants.
     pub fn constants(&self) -> Entries<'a, Constant<'a>> {
-        Entries::new(self.input, self.fields.counts.constants, self.row.constants_at(), entries::constant)
+        Entries::new(self.chunk.input, self.fields.counts.constants, self.row.constants_at(), entries::constant)
     }
 
     /// Its upvalues.
     pub fn upvalues(&self) -> Entries<'a, Upvalue> {
-        Entries::new(self.input, self.fields.counts.upvalues, self.places.upvalues, entries::upvalue)
+        Entries::new(self.chunk.input, self.fields.counts.upvalues, self.places.upvalues, entries::upvalue)
     }
 
     /// Its line information: how far each instruction's line is from the one before.
     pub fn deltas(&self) -> Entries<'a, i8> {
-        Entries::new(self.input, self.fields.counts.line_info, self.places.line_info, entries::delta)
+        Entries::new(self.chunk.input, self.fields.counts.line_info, self.places.line_info, entries::delta)
     }
 
     /// Its absolute line information.
     pub fn anchors(&self) -> Entries<'a, Anchor> {
-        Entries::new(self.input, self.fields.counts.abs_line_info, self.places.abs_line_info, entries::anchor)
+        Entries::new(self.chunk.input, self.fields.counts.abs_line_info, self.places.abs_line_info, entries::anchor)
     }
 
     /// Its local variables.
     pub fn locals(&self) -> Entries<'a, Local<&'a [u8]>> {
-        Entries::new(self.input, self.fields.counts.loc_vars, self.places.loc_vars, entries::local)
+        Entries::new(self.chunk.input, self.fields.counts.loc_vars, self.places.loc_vars, entries::local)
     }
 
     /// The names of its upvalues; there may be more or fewer of them than upvalues.
     pub fn upvalue_names(&self) -> Entries<'a, Option<&'a [u8]>> {
-        Entries::new(self.input, self.fields.counts.upvalue_names, self.places.upvalue_names, entries::string)
+        Entries::new(self.chunk.input, self.fields.counts.upvalue_names, self.places.upvalue_names, entries::string)
     }
 
     /// The line of each instruction, in one pass over deltas and anchors.
@@ -143,5 +169,45 @@ impl<'a> Function<'a> {
     /// and is tested against that call. Refused with 25 as that call is.
     pub fn lines(&self) -> Result<Vec<u64>, Refusal> {
         lines::lines(self)
+    }
+}
+
+impl fmt::Debug for Function<'_> {
+    fn fmt(&self, f: &mut fmt::Formatter<'_>) -> fmt::Result {
+        f.debug_struct("Function").field("number", &self.number).field("fields", &self.fields).finish_non_exhaustive()
+    }
+}
+
+/// The functions nested in one, in order.
+#[derive(Clone)]
+pub struct Nested<'a> {
+    chunk: Chunk<'a>,
+    next: usize,
+    left: usize,
+}
+
+impl<'a> Iterator for Nested<'a> {
+    type Item = Function<'a>;
+
+    fn next(&mut self) -> Option<Function<'a>> {
+        self.left = self.left.checked_sub(1)?;
+        let function = self.chunk.found(self.next);
+        // Functions are numbered as their bytes begin: the next is the first that does not begin in this one.
+        let end = function.end();
+        self.next = self.chunk.index().partition_point(|row| row.start() < end);
+        Some(function)
+    }
+
+    fn size_hint(&self) -> (usize, Option<usize>) {
+        (self.left, Some(self.left))
+    }
+}
+
+impl ExactSizeIterator for Nested<'_> {}
+impl FusedIterator for Nested<'_> {}
+
+impl fmt::Debug for Nested<'_> {
+    fn fmt(&self, f: &mut fmt::Formatter<'_>) -> fmt::Result {
+        f.debug_struct("Nested").field("next", &self.next).field("left", &self.left).finish_non_exhaustive()
     }
 }

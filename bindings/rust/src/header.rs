@@ -33,6 +33,7 @@ impl Header {
 
 /// What is unusual, with its place.
 #[derive(Debug, Clone, Copy, PartialEq, Eq, Hash)]
+#[non_exhaustive]
 pub enum Warning {
     /// The format byte is not 0.
     NonStandardFormat(usize),
@@ -56,6 +57,14 @@ impl Warning {
         }
     }
 
+    /// Why, in words.
+    pub const fn why(&self) -> &'static str {
+        match self {
+            Warning::NonStandardFormat(_) => "the format byte is not 0: Lua's own loader refuses the chunk",
+            Warning::TrailingBytes(_) => "bytes follow the main function: Lua's own loader does not look at them",
+        }
+    }
+
     /// Of a warning's code and place as the library numbers them.
     pub(crate) fn of_numbers(code: u64, place: u64) -> Option<Warning> {
         match code {
@@ -69,10 +78,6 @@ impl Warning {
 
 impl fmt::Display for Warning {
     fn fmt(&self, f: &mut fmt::Formatter<'_>) -> fmt::Result {
-        let why = match self {
-            Warning::NonStandardFormat(_) => "the format byte is not 0",
-            Warning::TrailingBytes(_) => "bytes follow the main function",
-        };
-        write!(f, "warning at {}: {why} ({})", self.place(), self.code())
+        write!(f, "warning at {}: {} ({})", self.place(), self.why(), self.code())
     }
 }

@@ -6,7 +6,7 @@
 //! ```
 //! use lafzimdo::{Chunk, Constant, Limits};
 //!
-//! # let file = concat!(env!("CARGO_MANIFEST_DIR"), "/../../samples/recentre.luac");
+//! # let file = concat!(env!("CARGO_MANIFEST_DIR"), "/tests/data/recentre.luac");
 //! # #[cfg(any())]
 //! let file = "recentre.luac";
 //! let bytes = std::fs::read(file)?;
@@ -47,16 +47,26 @@ mod index;
 mod input;
 mod limits;
 mod lines;
+mod operand;
+mod owned;
 mod refusal;
+mod text;
 mod word;
 
 pub use chunk::{Chunk, Functions};
 pub use entries::Entries;
 pub use entry::{Anchor, Constant, Local, Upvalue};
 pub use finding::{Finding, Rule, Severity, Verdict};
-pub use function::{Fields, Function};
+pub use function::{Fields, Function, Nested};
 pub use header::{Header, Warning};
 pub use index::{Counts, Row};
 pub use limits::Limits;
+pub use operand::{operand_kinds, Field, Operand, OperandKind};
+pub use owned::OwnedChunk;
 pub use refusal::Refusal;
 pub use word::{decode, encode, Instruction, Mode};
+
+/// The version of the library that is linked, 1,000,000 * major + 1,000 * minor + patch.
+pub fn library_version() -> u64 {
+    ffi::version()
+}

@@ -5,8 +5,9 @@ use std::fmt;
 /// One line a refusal: its number, its name, whether it holds a place, and why.
 macro_rules! refusals {
     ($($number:literal $name:ident $(($place:ty))? $why:literal;)*) => {
-        /// Why a call refuses. A case that holds a number holds the place in the file.
+        /// Why a call refuses. A case that holds a number holds the place in the file. There will be more of them.
         #[derive(Debug, Clone, Copy, PartialEq, Eq, Hash)]
+        #[non_exhaustive]
         pub enum Refusal {
             $(#[doc = concat!(stringify!($number), ": ", $why, ".")] $name $(($place))?,)*
         }
@@ -140,6 +141,7 @@ mod tests {
 
     /// In the library's own list, in the order of the numbers: `Name(usize),` with a place, `Name,` without one.
     #[test]
+    #[cfg(repository)]
     fn names_are_the_librarys() {
         let list = include_str!("../../../crates/format/src/refusal.rt");
         let (_, list) = list.split_once("pub enum Refusal {").unwrap();

@@ -174,7 +174,7 @@ pub fn encode(fields: &Instruction) -> Result<u32, Refusal> {
     ffi::encode(opcode, a, k, b, c, bx, sbx, ax, sj)
 }
 
-#[cfg(test)]
+#[cfg(all(test, repository))]
 mod tests {
     use super::*;
 

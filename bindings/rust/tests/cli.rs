@@ -2,7 +2,7 @@
 mod common;
 
 use common::run::{fresh, program, run, run_on};
-use common::{chunk, file, function};
+use common::{chunk, function, sample};
 use std::fs::{self, Permissions};
 use std::os::unix::fs::{symlink, PermissionsExt};
 use std::process::{Command, Stdio};
@@ -10,7 +10,7 @@ use std::process::{Command, Stdio};
 const COMMANDS: [&str; 5] = ["list", "dump", "copy", "check", "lines"];
 
 fn recentre() -> String {
-    file("samples/recentre.luac").to_str().unwrap().to_string()
+    sample().to_str().unwrap().to_string()
 }
 
 fn small() -> Vec<u8> {
@@ -23,14 +23,17 @@ fn help() {
     let all = all.text(0);
     assert_eq!(run(&["-h"]).text(0), all);
     assert_eq!(run(&["help"]).text(0), all);
+    assert_eq!(run(&["help", "--help"]).text(0), all);
     for command in COMMANDS {
         assert!(all.contains(&format!("\n  {command} ")), "{command}");
+        assert!(all.lines().all(|line| line.len() <= 110), "{all}");
         let one = run(&[command, "--help"]);
         let one = one.text(0);
         assert!(one.starts_with(&format!("Usage: lafzimdo {command} ")), "{one}");
         assert!(one.contains("Exit status:"), "{one}");
         assert_eq!(run(&["help", command]).text(0), one);
         assert_eq!(run(&[command, "-h", "x", "y"]).text(0), one);
+        assert!(one.lines().all(|line| line.len() <= 110), "{one}");
     }
     assert_eq!(run(&["--version"]).text(0), concat!("lafzimdo ", env!("CARGO_PKG_VERSION"), "\n"));
 }
@@ -41,9 +44,16 @@ fn wrong_arguments() {
         (&[][..], "a command is missing"),
         (&["frobnicate"], "there is no command \"frobnicate\""),
         (&["help", "frobnicate"], "there is no command"),
-        (&["list"], "list takes FILE"),
-        (&["list", "a", "b"], "list takes FILE"),
+        (&["list"], "list takes FILE..."),
         (&["copy", "a"], "copy takes FILE OUT"),
+        (&["copy", "a", "b", "c"], "copy takes FILE OUT"),
+        (&["copy", "a", "b", "--files-from", "c"], "--files-from needs --into"),
+        (&["copy", "--into", "a"], "copy takes FILE OUT, or with --into FILE..."),
+        (&["copy", "--into"], "--into needs DIR"),
+        (&["copy", "--force=1", "a", "b"], "--force takes no value"),
+        (&["dump", "--function", "x", "a"], "--function is a number"),
+        (&["dump", "--raw", "--luac", "a"], "only one may be given"),
+        (&["dump", "--raw", "--json", "a"], "only one may be given"),
         (&["lines", "a"], "lines takes FILE FUNCTION [PC...]"),
         (&["lines", "a", "x"], "FUNCTION is a number"),
         (&["lines", "a", "0", "-1"], "there is no option -1"),
@@ -79,7 +89,9 @@ fn refusals() {
     let far = chunk(&function(1 << 62, 1, &[], &[1], &[]));
     run_on(&["lines", "-", "0"], &far).says(1, "refused 25");
     run_on(&["lines", "-", "0", "0"], &far).says(1, "refused 25");
-    assert!(run_on(&["dump", "-"], &far).text(0).contains("\n    0 [-] 00000000 MOVE "));
+    assert!(run_on(&["dump", "--raw", "-"], &far).text(0).contains("\n    0 [-] 00000000 MOVE "));
+    assert!(run_on(&["dump", "-"], &far).text(0).contains("\n    0 [-] MOVE       R0 R0\n"));
+    run_on(&["dump", "--function", "1", "-"], &far).says(1, "refused 23");
     let path = fresh("refused.luac");
     fs::write(&path, &bytes[..45]).unwrap();
     let name = path.to_str().unwrap();
@@ -103,6 +115,7 @@ fn the_longest_file_and_one_longer() {
 }
 
 #[test]
+#[cfg(repository)]
 fn listed_as_chunklist_lists() {
     assert_eq!(run(&["list", &recentre()]).text(0), common::text("crates/chunklist/stdout"));
     let listed = run_on(&["list", "-"], &small());
@@ -182,7 +195,7 @@ fn names_that_look_like_options() {
     let folder = env!("CARGO_TARGET_TMPDIR");
     fs::copy(recentre(), format!("{folder}/-q")).unwrap();
     let output = program().current_dir(folder).args(["list", "--", "-q"]).output().unwrap();
-    assert_eq!((output.status.code(), output.stdout), (Some(0), common::text("crates/chunklist/stdout").into_bytes()));
+    assert_eq!((output.status.code(), output.stdout), (Some(0), run(&["list", &recentre()]).stdout));
 }
 
 /// One instruction, the word.
@@ -198,17 +211,37 @@ fn checks() {
     let ran = run_on(&["check", "-"], &jump);
     assert_eq!(
         ran.text(4),
-        "verdict invalid\nfindings 1\nerror in function 0 at pc 0: outside the function is the jump's target 1 (JUMP-001)\n"
+        "verdict invalid\nfindings 1\nwarnings 0\n\
+        error in function 0 at pc 0 (?:-, JMP 0): outside the function is the jump's target 1 (JUMP-001)\n"
     );
     assert_eq!(run_on(&["check", "--quiet", "-"], &jump).text(4), "");
     // MOVE to register 2 of 2 is warned of.
     let register = one_word(2 << 7);
     let ran = run_on(&["check", "-"], &register);
-    let expected = "verdict valid-for-analysis\nfindings 1\nwarning in function 0 at pc 0: beyond the stack is register 2 (REG-001)\n";
+    let expected = "verdict valid-for-analysis\nfindings 1\nwarnings 0\n\
+        warning in function 0 at pc 0 (?:-, MOVE R2 R0): beyond the stack is register 2 (REG-001)\n";
     assert_eq!(ran.text(0), expected);
     assert_eq!(run_on(&["check", "-q", "-"], &register).text(0), "");
     let ran = run(&["check", &recentre()]);
-    assert_eq!(ran.text(0), "verdict valid-for-analysis\nfindings 0\n");
+    assert_eq!(ran.text(0), "verdict valid-for-analysis\nfindings 0\nwarnings 0\n");
+}
+
+/// What was unusual in reading; source and line of a finding; a word without an opcode.
+#[test]
+fn checks_in_full() {
+    let mut bytes = fs::read(recentre()).unwrap();
+    bytes[5] = 1;
+    // Of main the instructions 51, JMP 16 in line 64, and 4.
+    let at = bytes.windows(4).position(|word| word == 0x8000_07b8u32.to_le_bytes()).unwrap();
+    bytes[at..at + 4].copy_from_slice(&0xffff_ffb8u32.to_le_bytes());
+    bytes[at - 47 * 4..at - 46 * 4].copy_from_slice(&0x7fu32.to_le_bytes());
+    bytes.push(9);
+    let expected = "verdict invalid\nfindings 2\nwarnings 2\n\
+        warning at 5: the format byte is not 0: Lua's own loader refuses the chunk (L54-HEADER-003)\n\
+        warning at 2372: bytes follow the main function: Lua's own loader does not look at them (L54-CHUNK-001)\n\
+        error in function 0 at pc 4 (recentre.lua:5, no opcode 127): there is no opcode 127 (OPCODE-001)\n\
+        error in function 0 at pc 51 (recentre.lua:64, JMP 16777216): outside the function is the jump's target 16777268 (JUMP-001)\n";
+    assert_eq!(run_on(&["check", "-"], &bytes).text(4), expected);
 }
 
 #[test]
@@ -220,8 +253,11 @@ fn a_check_that_stops() {
     }
     let ran = run_on(&["check", "-"], &bytes);
     let text = ran.text(5);
-    assert!(text.starts_with("verdict incomplete\nfindings 10000\nwarning in function 0 at pc 0: "), "{text:.200}");
-    assert_eq!(text.lines().count(), 10_002);
+    assert!(
+        text.starts_with("verdict incomplete\nfindings 10000\nwarnings 0\nwarning in function 0 at pc 0 (?:-, MOVE "),
+        "{text:.200}"
+    );
+    assert_eq!(text.lines().count(), 10_003);
     assert_eq!(run_on(&["check", "-q", "-"], &bytes).text(5), "");
 }
 

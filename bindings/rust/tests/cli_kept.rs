@@ -1,4 +1,5 @@
 //! What the program prints of kept chunks, held against the answers of the Rust: every 16th, and all that luac made of the samples.
+#![cfg(repository)]
 mod common;
 
 use common::run::{options, run_on, run_under};
@@ -59,26 +60,34 @@ fn listed(bytes: &[u8], answer: &[String]) -> String {
     shown
 }
 
-/// What `check` prints, from an answer, without the words for each finding.
+/// What `check` prints, from an answer, without the words for each warning and finding, and without source, line and instruction.
 fn checked(answer: &[String]) -> String {
-    let mut shown = format!("verdict {}\nfindings {}\n", of(answer, "verdict")[0], of(answer, "findings")[0]);
+    let (verdict, findings, warnings) =
+        (of(answer, "verdict")[0], of(answer, "findings")[0], of(answer, "warnings")[0]);
+    let mut shown = format!("verdict {verdict}\nfindings {findings}\nwarnings {warnings}\n");
+    for warning in answer.iter().filter(|line| line.starts_with("warning ")) {
+        let words: Vec<&str> = warning.split(' ').collect();
+        shown += &format!("warning at {} (L54-{})\n", words[2], words[1]);
+    }
     for finding in answer.iter().filter(|line| line.starts_with("finding ")) {
         let words: Vec<&str> = finding.split(' ').collect();
-        shown += &format!("{} in function {} at pc {}: {} ({})\n", words[5], words[1], words[2], words[4], words[3]);
+        shown += &format!("{} in function {} at pc {} {} ({})\n", words[5], words[1], words[2], words[4], words[3]);
     }
     shown
 }
 
-/// The same of what was printed: of `why NUMBER (RULE)` the number and the rule.
+/// The same of what was printed: of `.. at pc N (SOURCE:LINE, INSTRUCTION): why NUMBER (RULE)` the places, the number and the rule; of a warning place and code.
 fn without_words(printed: &str) -> String {
     let mut shown = String::new();
     for line in printed.lines() {
-        match line.split_once(": ") {
-            Some((place, why)) => {
-                let words: Vec<&str> = why.rsplitn(3, ' ').collect();
-                shown += &format!("{place}: {} {}\n", words[1], words[0]);
+        let words: Vec<&str> = line.split(' ').collect();
+        let last = words[words.len() - 1];
+        match words[..] {
+            ["warning", "at", place, ..] => shown += &format!("warning at {} {last}\n", place.trim_end_matches(':')),
+            ["error" | "warning", "in", ..] => {
+                shown += &format!("{} {} {last}\n", words[..7].join(" "), words[words.len() - 2])
             }
-            None => shown += &format!("{line}\n"),
+            _ => shown += &format!("{line}\n"),
         }
     }
     shown
@@ -114,7 +123,7 @@ fn dumps_hold_all_that_is_read() {
         if refused(&answer).is_some() {
             continue;
         }
-        let dump = run_under("dump", &limits, &bytes);
+        let dump = run_under("dump --raw", &limits, &bytes);
         let expected: Vec<&String> = answer.iter().take_while(|line| !line.starts_with("row ")).collect();
         let ours = undumped(dump.text(0));
         for (ours, expected) in ours.iter().zip(&expected) {

@@ -1,4 +1,5 @@
 //! What the iterators show is what the calls by number show, on every kept chunk; and each refusal of a number that is not there.
+#![cfg(repository)]
 mod common;
 
 use common::{file, kept_chunks};

@@ -1,4 +1,5 @@
 //! Every kept request, answered through the crate and compared with the answer of the Rust, line by line.
+#![cfg(repository)]
 mod common;
 
 use common::{bytes, hex, kept, limits, string};

@@ -1,4 +1,5 @@
 //! Memory lent to the library: what is behind a result stays, and all of it where the call is refused.
+#![cfg(repository)]
 mod common;
 
 use common::{file, kept_chunks};

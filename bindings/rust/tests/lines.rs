@@ -1,7 +1,7 @@
 //! The lines of all instructions are those of the call for one, which is proved.
 mod common;
 
-use common::{chunk, function, kept_chunks};
+use common::{chunk, function};
 use lafzimdo::{Chunk, Limits};
 
 fn compared(bytes: &[u8], limits: Limits) -> usize {
@@ -29,8 +29,9 @@ fn compared(bytes: &[u8], limits: Limits) -> usize {
 }
 
 #[test]
+#[cfg(repository)]
 fn of_every_kept_chunk() {
-    let lines: usize = kept_chunks().iter().map(|(limits, bytes, _)| compared(bytes, *limits)).sum();
+    let lines: usize = common::kept_chunks().iter().map(|(limits, bytes, _)| compared(bytes, *limits)).sum();
     assert!(lines > 10_000, "only {lines} lines");
 }
 

@@ -2,7 +2,7 @@
 mod common;
 
 use common::run::run_on;
-use common::{bytes, chunk, function, header, kept_chunks};
+use common::{bytes, chunk, function, header};
 use lafzimdo::{Chunk, Limits};
 
 /// The function of the smallest chunk, a dot before each of its eleven numbers.
@@ -68,9 +68,10 @@ fn numbers_of_one_byte_to_eleven() {
 
 /// Of every chunk that is kept and whose copy is read under its limits; all are but those that grow beyond a limit.
 #[test]
+#[cfg(repository)]
 fn copies_have_none() {
     let (mut with, mut copies) = (0, 0);
-    for (limits, bytes, _) in kept_chunks() {
+    for (limits, bytes, _) in common::kept_chunks() {
         let Ok(chunk) = Chunk::read(&bytes, limits) else {
             continue;
         };
@@ -89,7 +90,7 @@ fn copies_have_none() {
 #[test]
 fn dumped_behind_the_functions() {
     for zeros in [0, 1] {
-        let dump = run_on(&["dump", "-"], &spelt(EVERY_KIND, zeros, |_| true));
+        let dump = run_on(&["dump", "--raw", "-"], &spelt(EVERY_KIND, zeros, |_| true));
         let expected = format!("\nfunctions 4\npadded numbers {}\n\nfunction 0 ", 61 * zeros);
         assert!(dump.text(0).contains(&expected), "{:.400}", dump.text(0));
     }

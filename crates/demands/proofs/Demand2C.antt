@@ -28,6 +28,8 @@ use Rattle.c_words.specs.Words.{wordNumbers, spelt, ofEncoded}
 use Rattle.c_findings.specs.FindingNumbers.{ofFindings, numbersWritten}
 use Rattle.c_parts.specs.PartNumbers.{headAt, tailAt}
 use Rattle.c_entries_at.specs.EntryNumbers.{wordAt, constantAt, upvalueAt, deltaAt, anchorAt, localAt, stringAt}
+use Rattle.lafzimdo.specs.Version as of-version
+use Rattle.lafzimdo.proofs.version.lafzimdo_version as version-call
 use Rattle.lafzimdo.proofs.summary.lafzimdo_summary as summary-call
 use Rattle.lafzimdo.proofs.function.lafzimdo_function as function-call
 use Rattle.lafzimdo.proofs.entry.lafzimdo_instruction as instruction-call
@@ -185,3 +187,9 @@ local-at _ = local-at-call.Met.met
 pub string-at : Promise string-at-call.ended string-at-call.Symbol.routine (λ _ chunk limits place out out′ r.
     Answered r out out′ (stringAt (now limits) place (now chunk)))
 string-at _ = string-at-call.Met.met
+
+-- ## The version
+pub version : Promise version-call.ended version-call.Symbol.routine (λ _ r.
+    (r ≡ of-version.version)
+    ∷ [])
+version _ = version-call.Met.met

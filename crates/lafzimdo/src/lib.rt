@@ -6,5 +6,6 @@ pub mod function;
 pub mod part;
 pub mod space;
 pub mod summary;
+pub mod version;
 pub mod whole;
 pub mod word;

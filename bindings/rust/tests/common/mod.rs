@@ -8,7 +8,12 @@ pub mod kept;
 pub mod run;
 pub mod undump;
 
-/// A file of the repository.
+/// samples/recentre.luac, kept with the tests so that they run where the crate stands alone.
+pub fn sample() -> PathBuf {
+    Path::new(env!("CARGO_MANIFEST_DIR")).join("tests/data/recentre.luac")
+}
+
+/// A file of the repository. Tests that ask for one are marked `#[cfg(repository)]`: they are left out where the crate stands alone.
 pub fn file(name: &str) -> PathBuf {
     Path::new(env!("CARGO_MANIFEST_DIR")).join("../..").join(name)
 }

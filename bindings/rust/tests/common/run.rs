@@ -66,10 +66,11 @@ pub fn options(limits: &Limits) -> Vec<String> {
     names.iter().zip(limits.numbers()).map(|(name, number)| format!("--max-{name}={number}")).collect()
 }
 
-/// A command on a chunk under limits, from standard input.
+/// A command, with its options, on a chunk under limits, from standard input.
 pub fn run_under(command: &str, limits: &Limits, chunk: &[u8]) -> Ran {
     let options = options(limits);
-    let mut arguments = vec![command, "-"];
+    let mut arguments: Vec<&str> = command.split(' ').collect();
+    arguments.push("-");
     arguments.extend(options.iter().map(String::as_str));
     run_on(&arguments, chunk)
 }

@@ -1,19 +1,14 @@
 //! The arguments.
-use crate::file::Input;
+use crate::command::{number, Asked, Choice, Command, ALL};
 use crate::help;
 use crate::trouble::Trouble;
 use lafzimdo::Limits;
-use std::ffi::OsString;
-use std::str::FromStr;
+use std::ffi::{OsStr, OsString};
 
 /// What is asked for.
 pub enum Request {
     Help(String),
-    List(Input),
-    Dump(Input),
-    Copy { input: Input, out: OsString, force: bool },
-    Check { input: Input, quiet: bool },
-    Lines { input: Input, function: usize, pcs: Vec<usize> },
+    Run(Asked),
 }
 
 /// The options of the limits, in the order of `Limits`.
@@ -43,100 +38,93 @@ pub fn parsed(arguments: Vec<OsString>) -> Result<Request, Trouble> {
         Some("-V" | "--version") => Ok(Request::Help(help::VERSION.into())),
         Some("help") => match arguments.next() {
             None => Ok(Request::Help(help::all())),
-            Some(name) => topic(&name).map(|topic| Request::Help(help::of(topic))),
+            Some(name) if name == "-h" || name == "--help" => Ok(Request::Help(help::all())),
+            Some(name) => help_on(&name),
         },
-        _ => {
-            let topic = topic(&first)?;
-            let options = Options::parsed(topic.name, arguments)?;
-            if options.help {
-                return Ok(Request::Help(help::of(topic)));
-            }
-            options.request(topic)
-        }
+        _ => asked(command(&first)?, arguments),
     }
 }
 
-fn topic(name: &OsString) -> Result<&'static help::Topic, Trouble> {
-    match name.to_str().and_then(help::topic) {
-        Some(topic) => Ok(topic),
+fn command(name: &OsStr) -> Result<&'static Command, Trouble> {
+    match ALL.into_iter().find(|command| name == command.name) {
+        Some(command) => Ok(command),
         None => usage(format!("there is no command {name:?}")),
     }
 }
 
+fn help_on(name: &OsStr) -> Result<Request, Trouble> {
+    match name.to_str().and_then(help::topic) {
+        Some(text) => Ok(Request::Help(text)),
+        None => command(name).map(|command| Request::Help(help::of(command))),
+    }
+}
+
 /// The options of a command, and what is left.
-struct Options {
-    limits: [u64; 9],
-    help: bool,
-    force: bool,
-    quiet: bool,
-    operands: Vec<OsString>,
+fn asked(command: &'static Command, mut arguments: impl Iterator<Item = OsString>) -> Result<Request, Trouble> {
+    let mut limits = Limits::ceilings().numbers();
+    let (mut given, mut operands, mut help) = (Vec::new(), Vec::new(), false);
+    while let Some(argument) = arguments.next() {
+        let text = argument.to_string_lossy();
+        match text.as_ref() {
+            "--" => operands.extend(arguments.by_ref()),
+            "-h" | "--help" => help = true,
+            option if option.len() > 1 && option.starts_with('-') => {
+                let (name, mut value) = split(option, &argument);
+                if let Some(at) = LIMITS.iter().position(|limit| *limit == name) {
+                    limits[at] = number(&needed(name, "a number", value, &mut arguments)?, name)?;
+                } else if let Some(choice) = choice(command, name) {
+                    if !choice.value.is_empty() {
+                        value = Some(needed(name, choice.value, value, &mut arguments)?);
+                    } else if value.is_some() {
+                        return usage(format!("{name} takes no value"));
+                    }
+                    given.push((choice.long, value.unwrap_or_default()));
+                } else {
+                    return usage(format!("there is no option {name}"));
+                }
+            }
+            _ => operands.push(argument),
+        }
+    }
+    if help {
+        return Ok(Request::Help(help::of(command)));
+    }
+    Ok(Request::Run(Asked { command, limits: Limits::of_numbers(limits), given, operands }))
 }
 
-impl Options {
-    fn parsed(command: &str, mut arguments: impl Iterator<Item = OsString>) -> Result<Options, Trouble> {
-        let limits = Limits::ceilings().numbers();
-        let mut options = Options { limits, help: false, force: false, quiet: false, operands: Vec::new() };
-        while let Some(argument) = arguments.next() {
-            let text = argument.to_string_lossy();
-            match (text.as_ref(), command) {
-                ("--", _) => options.operands.extend(arguments.by_ref()),
-                ("-h" | "--help", _) => options.help = true,
-                ("-f" | "--force", "copy") => options.force = true,
-                ("-q" | "--quiet", "check") => options.quiet = true,
-                (option, _) if option.len() > 1 && option.starts_with('-') => options.limit(option, &mut arguments)?,
-                _ => options.operands.push(argument),
-            }
-        }
-        Ok(options)
-    }
-
-    /// The option of a limit, with its number behind `=` or as the next argument.
-    fn limit(&mut self, option: &str, arguments: &mut impl Iterator<Item = OsString>) -> Result<(), Trouble> {
-        let (name, value) = match option.split_once('=') {
-            Some((name, value)) => (name, Some(OsString::from(value))),
-            None => (option, None),
-        };
-        let Some(at) = LIMITS.iter().position(|limit| *limit == name) else {
-            return usage(format!("there is no option {name}"));
-        };
-        let Some(value) = value.or_else(|| arguments.next()) else {
-            return usage(format!("{name} needs a number"));
-        };
-        self.limits[at] = number(&value, name)?;
-        Ok(())
-    }
-
-    fn request(self, topic: &help::Topic) -> Result<Request, Trouble> {
-        let wrong = |given: usize| {
-            Trouble::Usage(format!("{} takes {}, and {given} arguments were given", topic.name, topic.operands))
-        };
-        let given = self.operands.len();
-        let mut operands = self.operands.into_iter();
-        let name = operands.next().ok_or_else(|| wrong(given))?;
-        let input = Input { name, limits: Limits::of_numbers(self.limits) };
-        let request = match topic.name {
-            "list" => Request::List(input),
-            "dump" => Request::Dump(input),
-            "check" => Request::Check { input, quiet: self.quiet },
-            "copy" => Request::Copy { input, out: operands.next().ok_or_else(|| wrong(given))?, force: self.force },
-            _ => {
-                let function = number(&operands.next().ok_or_else(|| wrong(given))?, "FUNCTION")?;
-                let pcs = operands.by_ref().map(|pc| number(&pc, "PC")).collect::<Result<_, _>>()?;
-                Request::Lines { input, function, pcs }
-            }
-        };
-        match operands.next() {
-            None => Ok(request),
-            Some(_) => Err(wrong(given)),
-        }
+/// The name of an option, and the value that stands behind its `=`.
+fn split<'a>(option: &'a str, argument: &OsStr) -> (&'a str, Option<OsString>) {
+    match option.split_once('=') {
+        Some((name, value)) => (name, Some(bytes_behind(argument, name).unwrap_or_else(|| value.into()))),
+        None => (option, None),
     }
 }
 
-/// A decimal number of 64 bits.
-fn number<T: FromStr>(text: &OsString, what: &str) -> Result<T, Trouble> {
-    let digits = text.to_str().filter(|digits| digits.bytes().all(|digit| digit.is_ascii_digit()));
-    match digits.and_then(|digits| digits.parse().ok()) {
-        Some(number) => Ok(number),
-        None => usage(format!("{what} is a number from 0 to 18446744073709551615, not {text:?}")),
+/// The value as it was typed, also where it is no UTF-8: a name of a file may be such.
+#[cfg(unix)]
+fn bytes_behind(argument: &OsStr, name: &str) -> Option<OsString> {
+    use std::os::unix::ffi::OsStrExt;
+    argument.as_bytes().get(name.len() + 1..).map(|bytes| OsStr::from_bytes(bytes).into())
+}
+
+#[cfg(not(unix))]
+fn bytes_behind(_: &OsStr, _: &str) -> Option<OsString> {
+    None
+}
+
+/// The value behind `=`, or the next argument.
+fn needed(
+    name: &str,
+    what: &str,
+    value: Option<OsString>,
+    arguments: &mut impl Iterator<Item = OsString>,
+) -> Result<OsString, Trouble> {
+    match value.or_else(|| arguments.next()) {
+        Some(value) => Ok(value),
+        None => usage(format!("{name} needs {what}")),
     }
+}
+
+fn choice(command: &Command, name: &str) -> Option<&'static Choice> {
+    command.options.iter().find(|choice| name == choice.long || (!name.is_empty() && name == choice.short))
 }

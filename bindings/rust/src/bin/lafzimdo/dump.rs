@@ -1,135 +1,95 @@
-//! `dump`: everything that a chunk holds.
-use crate::file::{Input, Out};
-use crate::quoted::{Quoted, QuotedIf};
-use crate::trouble::Trouble;
-use lafzimdo::{decode, Chunk, Constant, Function, Instruction, Mode};
-use std::fmt;
+//! `dump`: what a chunk holds, as a listing that can be read; or as luac lists it, or entry by entry, or as JSON.
+use crate::command::{Asked, Choice, Command};
+use crate::file::Out;
+use crate::files::{self, Found};
+use crate::json::Object;
+use crate::trouble::{Name, Trouble};
+use crate::{json_dump, listing, luac, raw};
+use lafzimdo::{Chunk, Function};
 use std::io::{self, Write};
 
-/// How many deltas, and trailing bytes, stand in a line.
-const IN_A_LINE: usize = 32;
+pub const COMMAND: Command = Command {
+    name: "dump",
+    operands: "FILE...",
+    short: "what the chunk holds, as a listing that can be read",
+    long: "\
+Of each function its code and its constants, upvalues, local variables and nested functions.
+An instruction is shown with its number (pc, from 0), its line in brackets (- where there is none: a
+stripped script, or lines too large to be told), its name, and those operands that its opcode has: R and
+a number is a register, K a constant, U an upvalue, k the bit k; other numbers stand for themselves, with
+their sign. Behind ; stands what they are at that pc: R7=is_peak is the local variable that lives there in
+register 7 (of a register that is set also the one that lives from the next pc on), K17=\"recentre\" a
+constant, U0=_ENV an upvalue's name; 'to 68' where it jumps to, '2 in, 1 out' what is called with how
+many values. L68: stands before an instruction that others jump to.
+Strings are quoted, with \\n, \\\" and the like, and \\xNN for all that is not printable ASCII; behind ; a long
+one is cut. With --raw a float is followed by its bits. Of many files each has its name before it.
+",
+    options: &[FUNCTION, RAW, LUAC, files::JSON, files::FROM],
+    run,
+};
 
-pub fn run(input: &Input) -> Result<u8, Trouble> {
-    input.print(print)
+const FUNCTION: Choice =
+    Choice { short: "", long: "--function", value: "N", text: "the function of that number alone; main is 0" };
+const RAW: Choice = Choice {
+    short: "",
+    long: "--raw",
+    value: "",
+    text: "every entry of every list as it is stored, and trailing bytes",
+};
+const LUAC: Choice = Choice {
+    short: "",
+    long: "--luac",
+    value: "",
+    text: "as luac5.4 -l -l lists it: pcs from 1; for an address a place in the file",
+};
+
+/// In which form.
+#[derive(Clone, Copy)]
+enum Form {
+    Listing,
+    Raw,
+    Luac,
 }
 
-fn print(out: &mut Out, chunk: &Chunk<'_>) -> io::Result<()> {
-    let h = chunk.header();
-    writeln!(out, "chunk of {} bytes", chunk.bytes().len())?;
-    write!(out, "version {:02x} format {:02x} instruction size {}", h.version, h.format, h.instruction_size)?;
-    write!(
-        out,
-        " integer size {} size_t size {} number size {}",
-        h.lua_integer_size, h.sizeof_sizet, h.lua_number_size
-    )?;
-    writeln!(out, " test number {:?}", h.luac_num)?;
-    for warning in chunk.warnings() {
-        writeln!(out, "{warning}")?;
-    }
-    writeln!(out, "functions {}", chunk.function_count())?;
-    writeln!(out, "padded numbers {}", chunk.padded_numbers())?;
-    for function in chunk.functions() {
-        print_function(out, &function)?;
-    }
-    let trailing = chunk.trailing_bytes();
-    writeln!(out, "trailing bytes {} at {}", trailing.len(), chunk.trailing_place())?;
-    for part in trailing.chunks(IN_A_LINE) {
-        write!(out, "   ")?;
-        for byte in part {
-            write!(out, " {byte:02x}")?;
-        }
-        writeln!(out)?;
-    }
-    out.flush()
+fn run(asked: &Asked) -> Result<u8, Trouble> {
+    let only: Option<usize> = asked.number(FUNCTION.long)?;
+    let form = match (asked.has(RAW.long), asked.has(LUAC.long), asked.has(files::JSON.long)) {
+        (false, false, _) => Form::Listing,
+        (true, false, false) => Form::Raw,
+        (false, true, false) => Form::Luac,
+        _ => return Err(Trouble::Usage("of --raw, --luac and --json only one may be given".into())),
+    };
+    files::run(asked, &|chunk| {
+        let only = only.map(|function| chunk.function(function)).transpose()?;
+        Ok(Box::new(Dumped { chunk, only, form }))
+    })
 }
 
-fn print_function(out: &mut Out, function: &Function<'_>) -> io::Result<()> {
-    let f = function.fields();
-    write!(out, "\nfunction {} depth {} parent {}", function.number(), f.depth, f.parent)?;
-    writeln!(out, " bytes {} to {}", function.start(), function.end())?;
-    writeln!(out, "  source {}", QuotedIf(f.source))?;
-    writeln!(out, "  lines {} to {}", f.line_defined, f.last_line_defined)?;
-    writeln!(out, "  parameters {} vararg {} stack {}", f.numparams, f.is_vararg, f.maxstacksize)?;
-    print_code(out, function)?;
-    print_data(out, function)?;
-    print_debug(out, function)
+struct Dumped<'a> {
+    chunk: Chunk<'a>,
+    only: Option<Function<'a>>,
+    form: Form,
 }
 
-fn print_code(out: &mut Out, function: &Function<'_>) -> io::Result<()> {
-    writeln!(out, "  instructions {}", function.fields().counts.instructions)?;
-    let lines = function.lines().ok();
-    for (pc, word) in function.instructions().enumerate() {
-        match &lines {
-            Some(lines) => write!(out, "    {pc} [{}]", lines[pc])?,
-            None => write!(out, "    {pc} [-]")?,
+impl Found for Dumped<'_> {
+    fn alone(&self, out: &mut Out) -> io::Result<()> {
+        match (self.form, &self.only) {
+            (Form::Listing, None) => listing::print_chunk(out, &self.chunk),
+            (Form::Listing, Some(function)) => listing::print_alone(out, function.clone()),
+            (Form::Raw, None) => raw::print_chunk(out, &self.chunk),
+            (Form::Raw, Some(function)) => raw::print_function(out, function),
+            (Form::Luac, None) => luac::print_chunk(out, &self.chunk),
+            (Form::Luac, Some(function)) => luac::print_function(out, function.clone()),
         }
-        writeln!(out, " {word:08x} {}", Shown(decode(word)))?;
     }
-    Ok(())
-}
 
-fn print_data(out: &mut Out, function: &Function<'_>) -> io::Result<()> {
-    writeln!(out, "  constants {}", function.fields().counts.constants)?;
-    for (entry, constant) in function.constants().enumerate() {
-        write!(out, "    {entry} ")?;
-        match constant {
-            Constant::Nil => writeln!(out, "nil")?,
-            Constant::Boolean(value) => writeln!(out, "{value}")?,
-            Constant::Integer(value) => writeln!(out, "integer {value}")?,
-            Constant::Float(value) => writeln!(out, "float {value:?} {:016x}", value.to_bits())?,
-            Constant::ShortString(value) => writeln!(out, "short string {}", Quoted(value))?,
-            Constant::LongString(value) => writeln!(out, "long string {}", Quoted(value))?,
-        }
+    fn among(&self, out: &mut Out, name: &Name<'_>) -> io::Result<()> {
+        writeln!(out, "==> {name} <==")?;
+        self.alone(out)?;
+        writeln!(out)
     }
-    writeln!(out, "  upvalues {}", function.fields().counts.upvalues)?;
-    for (entry, upvalue) in function.upvalues().enumerate() {
-        writeln!(out, "    {entry} instack {} idx {} kind {}", upvalue.instack, upvalue.idx, upvalue.kind)?;
-    }
-    writeln!(out, "  nested functions {}", function.fields().counts.protos)
-}
 
-fn print_debug(out: &mut Out, function: &Function<'_>) -> io::Result<()> {
-    let counts = function.fields().counts;
-    writeln!(out, "  deltas {}", counts.line_info)?;
-    for (entry, delta) in function.deltas().enumerate() {
-        match entry % IN_A_LINE {
-            0 => write!(out, "    {delta}")?,
-            _ => write!(out, " {delta}")?,
-        }
-        if entry % IN_A_LINE == IN_A_LINE - 1 || entry + 1 == counts.line_info {
-            writeln!(out)?;
-        }
-    }
-    writeln!(out, "  anchors {}", counts.abs_line_info)?;
-    for (entry, anchor) in function.anchors().enumerate() {
-        writeln!(out, "    {entry} pc {} line {}", anchor.pc, anchor.line)?;
-    }
-    writeln!(out, "  locals {}", counts.loc_vars)?;
-    for (entry, local) in function.locals().enumerate() {
-        writeln!(out, "    {entry} {} pc {} to {}", Quoted(local.name), local.startpc, local.endpc)?;
-    }
-    writeln!(out, "  upvalue names {}", counts.upvalue_names)?;
-    for (entry, name) in function.upvalue_names().enumerate() {
-        writeln!(out, "    {entry} {}", QuotedIf(name))?;
-    }
-    Ok(())
-}
-
-/// An instruction: its name, and the fields that its mode uses.
-struct Shown(Instruction);
-
-impl fmt::Display for Shown {
-    fn fmt(&self, f: &mut fmt::Formatter<'_>) -> fmt::Result {
-        let i = &self.0;
-        let (Some(name), Some(mode)) = (i.name(), i.mode) else {
-            return write!(f, "no opcode {}", i.opcode);
-        };
-        match mode {
-            Mode::IABC => write!(f, "{name} A {} k {} B {} C {}", i.a, i.k, i.b, i.c),
-            Mode::IABx => write!(f, "{name} A {} Bx {}", i.a, i.bx),
-            Mode::IAsBx => write!(f, "{name} A {} sBx {}", i.a, i.sbx),
-            Mode::IAx => write!(f, "{name} Ax {}", i.ax),
-            Mode::IsJ => write!(f, "{name} sJ {}", i.sj),
-        }
+    fn json(&self, object: &mut Object<'_>) -> io::Result<()> {
+        json_dump::put(object, &self.chunk, self.only.as_ref())
     }
 }

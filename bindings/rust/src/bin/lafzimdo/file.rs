@@ -1,5 +1,5 @@
 //! The file that a command works on.
-use crate::trouble::{printed, Trouble};
+use crate::trouble::Trouble;
 use lafzimdo::{Chunk, Limits, Refusal};
 use std::ffi::{OsStr, OsString};
 use std::fs::File;
@@ -32,20 +32,13 @@ impl Input {
         Chunk::read(bytes, self.limits).map_err(|refusal| self.refused(refusal))
     }
 
-    /// Reads the chunk and has it printed.
-    pub fn print(&self, print: fn(&mut Out, &Chunk<'_>) -> io::Result<()>) -> Result<u8, Trouble> {
-        let bytes = self.bytes()?;
-        let chunk = self.chunk(&bytes)?;
-        printed(print(&mut out(), &chunk))?;
-        Ok(0)
-    }
-
     /// A refusal of the library, of this file.
     pub fn refused(&self, refusal: Refusal) -> Trouble {
         Trouble::Refused(self.shown(), refusal)
     }
 
-    fn shown(&self) -> OsString {
+    /// Its name, as it is told.
+    pub fn shown(&self) -> OsString {
         if self.name == OsStr::new("-") {
             "standard input".into()
         } else {

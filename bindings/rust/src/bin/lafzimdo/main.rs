@@ -8,13 +8,23 @@ use trouble::{printed, Trouble};
 
 mod args;
 mod check;
+mod code;
+mod command;
 mod copy;
 mod dump;
 mod file;
+mod files;
 mod help;
+mod json;
+mod json_dump;
 mod lines;
 mod list;
+mod listing;
+mod luac;
+mod names;
+mod progress;
 mod quoted;
+mod raw;
 mod trouble;
 
 fn main() -> ExitCode {
@@ -33,10 +43,6 @@ fn run() -> Result<u8, Trouble> {
     let arguments = env::args_os().skip(1).collect();
     match args::parsed(arguments)? {
         Request::Help(text) => printed(write!(io::stdout(), "{text}")).map(|()| 0),
-        Request::List(input) => list::run(&input),
-        Request::Dump(input) => dump::run(&input),
-        Request::Copy { input, out, force } => copy::run(&input, &out, force),
-        Request::Check { input, quiet } => check::run(&input, quiet),
-        Request::Lines { input, function, pcs } => lines::run(&input, function, &pcs),
+        Request::Run(asked) => (asked.command.run)(&asked),
     }
 }
