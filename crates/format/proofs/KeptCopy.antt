@@ -1,15 +1,15 @@
 -- What is set aside does not show in the copy.
---     kept-copy        readings that are equal in what is kept have equal copies
+--     functions-kept   functions, and what is kept of them, are written alike (so readings that are equal in what is kept have equal copies: crates/format_copy/proofs/CopyChunk.antt)
 -- Assumes nothing.
-use mathlib.Core.Path.{_≡_, refl, sym, _∙_, ap, ap₂}
+use mathlib.Core.Path.{_≡_, refl, ap, ap₂}
 use mathlib.Core.List.{List, [], _∷_, _++_, map, foldr, flatten}
 use mathlib.Core.Option.{Option, none, some, Option·map}
 use lib.ListN.{take, length-map}
 use Rattle.format.specs.Form.{Bytes}
 use Rattle.format.specs.GrammarFields.{LuaString}
-use Rattle.format.specs.Reading.{ConstantValue, nil, boolean, integer, float, short-string, long-string, Prototype, Reading}
+use Rattle.format.specs.Reading.{ConstantValue, nil, boolean, integer, float, short-string, long-string, Prototype}
 use Rattle.format.specs.Shortest.{shortest}
-use Rattle.format.specs.Copy.{optionBytes, constantBytes, localBytes, listBytes, behindSource, nest, functionsBytes, upvaluesOfMain, copy, keptConstant, keptLocal, keptFunction, keptNested, keptFunctions, kept, keptString}
+use Rattle.format.specs.Copy.{optionBytes, constantBytes, localBytes, listBytes, behindSource, nest, functionsBytes, upvaluesOfMain, keptConstant, keptLocal, keptFunction, keptNested, keptFunctions, keptString}
 
 list-kept : {A : Type 0} (enc : A → Bytes) (plainly : A → A) → ((x : A) → enc (plainly x) ≡ enc x) → (xs : List A) → listBytes enc (map plainly xs) ≡ listBytes enc xs
 unfolding listBytes
@@ -19,7 +19,7 @@ list-kept enc plainly h xs = ap₂ _++_ (ap shortest (length-map xs plainly)) (a
     maps [] = refl
     maps (x ∷ xs) = ap₂ _∷_ (h x) (maps xs)
 
-option-kept : (t : Option LuaString) → optionBytes (Option·map keptString t) ≡ optionBytes t
+pub option-kept : (t : Option LuaString) → optionBytes (Option·map keptString t) ≡ optionBytes t
 option-kept none = refl
 option-kept (some t) = refl
 
@@ -31,7 +31,7 @@ constant-kept (float n) = refl
 constant-kept (short-string t) = refl
 constant-kept (long-string t) = refl
 
-behind-kept : (source : Option LuaString) (p : Prototype) (nested : Bytes) → behindSource (keptFunction source p) nested ≡ behindSource p nested
+pub behind-kept : (source : Option LuaString) (p : Prototype) (nested : Bytes) → behindSource (keptFunction source p) nested ≡ behindSource p nested
 unfolding behindSource
 behind-kept source p nested =
     rw (list-kept constantBytes keptConstant constant-kept (p .constants), list-kept localBytes keptLocal (λ x. refl) (p .loc-vars), list-kept optionBytes (Option·map keptString) option-kept (p .upvalue-names))
@@ -40,17 +40,10 @@ nested-kept : (ps : List Prototype) (later : List Bytes) → foldr nest later (m
 nested-kept [] later = refl
 nested-kept (p ∷ ps) later = rw (nested-kept ps later, behind-kept none p (flatten (take (p .protos) (foldr nest later ps))))
 
-functions-kept : (ps : List Prototype) → functionsBytes (keptFunctions ps) ≡ functionsBytes ps
+pub functions-kept : (ps : List Prototype) → functionsBytes (keptFunctions ps) ≡ functionsBytes ps
 functions-kept [] = refl
 functions-kept (p ∷ ps) = rw (nested-kept ps [], option-kept (p .source-name), behind-kept (Option·map keptString (p .source-name)) p (flatten (foldr nest [] ps)))
 
-upvalues-kept : (ps : List Prototype) → upvaluesOfMain (keptFunctions ps) ≡ upvaluesOfMain ps
+pub upvalues-kept : (ps : List Prototype) → upvaluesOfMain (keptFunctions ps) ≡ upvaluesOfMain ps
 upvalues-kept [] = refl
 upvalues-kept (p ∷ ps) = refl
-
-copy-of-kept : (r : Reading) → copy (kept r) ≡ copy r
-unfolding copy kept
-copy-of-kept r = rw (functions-kept (r .functions), upvalues-kept (r .functions))
-
-pub kept-copy : (r q : Reading) → kept r ≡ kept q → copy r ≡ copy q
-kept-copy r q e = sym (copy-of-kept r) ∙ ap copy e ∙ copy-of-kept q

@@ -29,3 +29,6 @@ pub mod Wider
 pub mod WiderChunk
 pub mod Sources
 pub mod KeptCopy
+pub mod FullSources
+pub mod KeptFull
+pub mod FullCases

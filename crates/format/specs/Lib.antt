@@ -14,3 +14,4 @@ pub mod ReadHeader
 pub mod ReadChunk
 pub mod Shortest
 pub mod Copy
+pub mod FullCopy

@@ -20,14 +20,14 @@ use Rattle.format.proofs.Below.{below-join, parts}
 use Rattle.format.proofs.Build.{put, skip, last}
 use Rattle.format.proofs.FieldBytes.{field-below, field-spells}
 use Rattle.format.proofs.ShortestLaws.{shortest-spells, shortest-below}
-use Rattle.format_copy.proofs.Copies.{Copies, As, then-copies, is-copies, none-copies, here-copies, given-copies, number-copies, field-copies, run-copies, many-copies, uncounted, shortest-tidy}
+use Rattle.format_copy.proofs.Copies.{Measure, uncounted-same, Copies, As, then-copies, is-copies, none-copies, here-copies, given-copies, number-copies, field-copies, run-copies, many-copies, uncounted, shortest-tidy}
 
 -- ## Strings
-content-copies : (limit size : ℕ) → Copies (Content limit size) (Content limit size) tally.none (λ t t′ c. As optionBytes (Option·map keptString) t t′ (shortest size ++ c))
+content-copies : {m : Measure} (limit size : ℕ) → Copies m (Content limit size) (Content limit size) tally.none (λ t t′ c. As optionBytes (Option·map keptString) t t′ (shortest size ++ c))
 content-copies limit zero = is-copies (append-nil _, refl)
 content-copies limit (suc n) = uncounted (given-copies (λ le. le) (here-copies λ p p′. run-copies λ c size. is-copies (rw (append-nil, size), refl)))
 
-pub string-copies : (limit : ℕ) → Copies (String limit) (String limit) (tally.string limit) (As optionBytes (Option·map keptString))
+pub string-copies : {m : Measure} (limit : ℕ) → Copies m (String limit) (String limit) (tally.string limit) (As optionBytes (Option·map keptString))
 unfolding tally.string
 string-copies limit = number-copies λ size. content-copies limit size
 
@@ -36,25 +36,28 @@ main-kept : (t : Option LuaString) → tally.dropping outermost t ≡ same
 main-kept none = refl
 main-kept (some t) = refl
 
-pub source-copies : (limit : ℕ) → Copies (String limit) (String limit) (tally.source limit outermost) (As optionBytes (Option·map keptString))
+pub source-copies : {m : Measure} (limit : ℕ) → Copies m (String limit) (String limit) (tally.source limit outermost) (As optionBytes (Option·map keptString))
 unfolding tally.source tally.besides
-source-copies limit = record {
+source-copies {m} limit = record {
   again = λ at to b x h d.
-      let a = string-copies limit .again at to b x h d in
-      record { value = a .value; bytes = a .bytes; below = a .below; spelt = a .spelt; tidy = ap₂ _⊕_ (a .tidy) (main-kept (a .value)); holds = a .holds };
+      let a = string-copies {m = m} limit .again at to b x h d in
+      record { value = a .value; bytes = a .bytes; below = a .below; spelt = a .spelt; tidy = m .adds _ _ (a .tidy) (uncounted-same m (main-kept (a .value))); holds = a .holds };
 }
 
 -- a nested function's source: written as absent, whatever it was
-pub absent-copies : (limit : ℕ) (w : Where) → Copies (String limit) (String limit) (tally.source limit w) (λ t t′ b. b ≡ optionBytes none)
+abbrev pub Absent : Option LuaString → Option LuaString → Bytes → Type 0
+Absent t t′ b = (b ≡ optionBytes none) × (t′ ≡ none)
+
+pub absent-copies : {m : Measure} (limit : ℕ) (w : Where) → Copies m (String limit) (String limit) (tally.source limit w) Absent
 unfolding tally.source tally.besides tally.string tally.both tally.none last
-absent-copies limit w = record {
+absent-copies {m} limit w = record {
   again = λ at to b x h d. record {
     value = none;
     bytes = shortest 0;
     below = shortest-below 0;
     spelt = last 0 (shortest-spells 0 to (lit< tt)) (refl, refl);
-    tidy = ap (λ a. a ⊕ same ⊕ same) (shortest-tidy 0 to (lit< tt));
-    holds = refl;
+    tidy = uncounted-same m (ap (λ a. a ⊕ same ⊕ same) (shortest-tidy 0 to (lit< tt)));
+    holds = (refl, refl);
   };
 }
 
@@ -81,9 +84,9 @@ content-spellable limit (suc n) at b t u fits h d k =
     rw (← e .two .1) (record { within = rw size (d .one .1); fits = rw size fits; below = rw (e .one .0) at front })
 
 -- a string that is never absent is written as it reads, absent or not: where the limit allows what an absent one reads as
-always-copies : (limit : ℕ) (instead : Bytes) → Spellable limit instead → Copies (Always limit instead) (Always limit instead) (tally.always limit instead) (As stringBytes keptString)
+always-copies : {m : Measure} (limit : ℕ) (instead : Bytes) → Spellable limit instead → Copies m (Always limit instead) (Always limit instead) (tally.always limit instead) (As stringBytes keptString)
 unfolding tally.always tally.besides tally.string tally.both tally.none always-put put last
-always-copies limit instead k = record {
+always-copies {m} limit instead k = record {
   again = λ at to b x h d.
       let s = d .one in
       let back = parts s (parts d h .0) .1 in
@@ -94,13 +97,13 @@ always-copies limit instead k = record {
         bytes = stringBytes x;
         below = below-join 256 (shortest (suc (length (x .bytes)))) (x .bytes) (shortest-below (suc (length (x .bytes)))) (now .below);
         spelt = always-put limit to instead (x .bytes) now;
-        tidy = ap (λ a. a ⊕ same ⊕ same ⊕ same) (shortest-tidy (suc (length (x .bytes))) to (now .fits));
+        tidy = uncounted-same m (ap (λ a. a ⊕ same ⊕ same ⊕ same) (shortest-tidy (suc (length (x .bytes))) to (now .fits)));
         holds = (refl, refl);
       };
 }
 
 -- ## Constants, upvalues, anchors, locals, words
-when-copies : {A : Type 0} {F G : Form A} {p : Tally F} {q : Tally G} {S : A → A → Bytes → Type 0} (b : Bool) → (T b → Copies F F p S) → Copies G G q S → Copies (When b F G) (When b F G) (tally.either b p q) S
+when-copies : {A : Type 0} {m : Measure} {F G : Form A} {p : Tally F} {q : Tally G} {S : A → A → Bytes → Type 0} (b : Bool) → (T b → Copies m F F p S) → Copies m G G q S → Copies m (When b F G) (When b F G) (tally.either b p q) S
 unfolding tally.either
 when-copies true one two = one tt
 when-copies false one two = two
@@ -108,7 +111,7 @@ when-copies false one two = two
 empty-spellable : (limit : ℕ) → Spellable limit []
 empty-spellable limit = record { within = zero-le; fits = lit< tt; below = tt }
 
-tagged-copies : (limit tag : ℕ) → Copies (Tagged limit tag) (Tagged limit tag) (tally.tagged limit tag) (λ c c′ b. As constantBytes keptConstant c c′ (fieldBytes 1 tag ++ b))
+tagged-copies : {m : Measure} (limit tag : ℕ) → Copies m (Tagged limit tag) (Tagged limit tag) (tally.tagged limit tag) (λ c c′ b. As constantBytes keptConstant c c′ (fieldBytes 1 tag ++ b))
 unfolding tally.tagged
 tagged-copies limit tag =
     when-copies (eqb tag 0) (λ t. is-copies (ap (fieldBytes 1) (eqb→eq tag 0 t), refl))
@@ -122,22 +125,22 @@ tagged-copies limit tag =
     is-copies (ap₂ (λ k c. fieldBytes 1 k ++ c) (eqb→eq tag 20 t) (append-nil b ∙ r .0), ap long-string (r .1)))
     none-copies))))))
 
-pub constant-copies : (limit : ℕ) → Copies (Constant limit) (Constant limit) (tally.constant limit) (As constantBytes keptConstant)
+pub constant-copies : {m : Measure} (limit : ℕ) → Copies m (Constant limit) (Constant limit) (tally.constant limit) (As constantBytes keptConstant)
 unfolding tally.constant
 constant-copies limit = field-copies λ tag. tagged-copies limit tag
 
 abbrev itself : {A : Type 0} → A → A
 itself x = x
 
-pub upvalue-copies : Copies Upvalue Upvalue tally.none (As upvalueBytes itself)
+pub upvalue-copies : {m : Measure} → Copies m Upvalue Upvalue tally.none (As upvalueBytes itself)
 upvalue-copies = uncounted (field-copies λ instack. field-copies λ idx. field-copies λ kind. is-copies (refl, refl))
 
-pub anchor-copies : Copies Anchor Anchor tally.anchor (As anchorBytes itself)
+pub anchor-copies : {m : Measure} → Copies m Anchor Anchor tally.anchor (As anchorBytes itself)
 unfolding tally.anchor
 anchor-copies = number-copies λ pc. number-copies λ line. is-copies (rw append-nil, refl)
 
 -- an absent name is written as `?`, one byte
-pub local-copies : (limit : ℕ) → 1 ≤ limit → Copies (Local limit) (Local limit) (tally.local limit) (As localBytes keptLocal)
+pub local-copies : {m : Measure} (limit : ℕ) → 1 ≤ limit → Copies m (Local limit) (Local limit) (tally.local limit) (As localBytes keptLocal)
 unfolding tally.local
 local-copies limit h =
     then-copies (always-copies limit (63 ∷ []) (record { within = h; fits = lit< tt; below = (lit< tt, tt) })) λ x x′ b r.
@@ -145,10 +148,10 @@ local-copies limit h =
     number-copies λ endpc.
     is-copies (rw (append-nil, r .0), ap (λ t. record { name = t; startpc = startpc; endpc = endpc }) (r .1))
 
-pub field-again : (n : ℕ) → Copies (Field n) (Field n) tally.none (As (fieldBytes n) itself)
+pub field-again : {m : Measure} (n : ℕ) → Copies m (Field n) (Field n) tally.none (As (fieldBytes n) itself)
 unfolding tally.none
-field-again n = record {
-  again = λ at to b v h d. record { value = v; bytes = fieldBytes n v; below = field-below n v; spelt = field-spells n at to b v h d; tidy = refl; holds = (refl, refl) };
+field-again {m} n = record {
+  again = λ at to b v h d. record { value = v; bytes = fieldBytes n v; below = field-below n v; spelt = field-spells n at to b v h d; tidy = m .nothing; holds = (refl, refl) };
 }
 
 -- ## Lists behind their counts
@@ -161,19 +164,19 @@ pub as-list : {A : Type 0} (enc : A → Bytes) (n : ℕ) (xs : List A) (b c : By
 unfolding listBytes
 as-list enc n xs b c p q = rw (p, ← q, append-assoc)
 
-module _ {A : Type 0} {F : Form A} {p : Tally F} {enc : A → Bytes} {plainly : A → A} (one : Copies F F p (As enc plainly)) where
+module _ {A : Type 0} {m : Measure} {F : Form A} {p : Tally F} {enc : A → Bytes} {plainly : A → A} (one : Copies m F F p (As enc plainly)) where
   -- behind the count n
   listed-copies : (n place place′ : ℕ)
-      → Copies (Then (Many n F) (λ items. Is (record { place = place; items = items }))) (Then (Many n F) (λ items. Is (record { place = place′; items = items })))
+      → Copies m (Then (Many n F) (λ items. Is (record { place = place; items = items }))) (Then (Many n F) (λ items. Is (record { place = place′; items = items })))
       (tally.both (tally.each n p) (λ items. tally.none)) (λ xs xs′ c. Relisted enc plainly xs xs′ (shortest n ++ c))
   listed-copies n place place′ =
       then-copies (many-copies n one) λ xs xs′ c q. is-copies (record { bytes-are = as-list enc n xs c [] (q .0) (q .2) ∙ append-nil _; alike = q .1 })
 
-  pub counted-copies : Copies (Counted F) (Counted F) (tally.counted p) (Relisted enc plainly)
+  pub counted-copies : Copies m (Counted F) (Counted F) (tally.counted p) (Relisted enc plainly)
   unfolding tally.counted
   counted-copies = number-copies λ n. here-copies λ at at′. listed-copies n at at′
 
-  pub upTo-copies : (limit : ℕ) → Copies (CountedUpTo limit F) (CountedUpTo limit F) (tally.countedUpTo limit p) (Relisted enc plainly)
+  pub upTo-copies : (limit : ℕ) → Copies m (CountedUpTo limit F) (CountedUpTo limit F) (tally.countedUpTo limit p) (Relisted enc plainly)
   unfolding tally.countedUpTo
   upTo-copies limit = number-copies λ n. given-copies (λ le. le) (here-copies λ at at′. listed-copies n at at′)
 

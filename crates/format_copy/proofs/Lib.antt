@@ -4,7 +4,11 @@ pub mod CopyEntries
 pub mod CopyForest
 pub mod CopyFunctions
 pub mod CopyMain
+pub mod CopyBy
 pub mod CopyChunk
 pub mod Own
 pub mod OwnChunk
 pub mod PlainCopy
+pub mod FullFunctions
+pub mod FullChunk
+pub mod FullPlain

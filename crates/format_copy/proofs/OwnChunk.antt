@@ -25,9 +25,9 @@ use Rattle.format_spelling.specs.Spelling as tally
 use Rattle.format.specs.Copy.{fieldBytes, stringBytes, optionBytes, constantBytes, upvalueBytes, anchorBytes, localBytes, listBytes, behindSource, functionsBytes, upvaluesOfMain, headerBytes, copy, keptString}
 use Rattle.format.proofs.Below.{below-split, parts}
 use Rattle.format_copy.proofs.Copies.{As}
-use Rattle.format_copy.proofs.CopyEntries.{as-list}
-use Rattle.format_copy.proofs.CopyForest.{Once, Each, each-cons}
-use Rattle.format_copy.proofs.CopyFunctions.{Behind, once, Whole, whole}
+use Rattle.format_copy.proofs.CopyEntries.{Absent, as-list}
+use Rattle.format_copy.proofs.CopyForest.{Way, Once, Each, each-none, each-cons}
+use Rattle.format_copy.proofs.CopyFunctions.{Behind, archive, once, Whole, whole}
 use Rattle.format_copy.proofs.Own.{Own, then-own, uncounted, field-one, is-own, nothing-own, when-own, here-own, given-own, number-own, field-own, run-own, weaken, many-own}
 
 -- ## Strings
@@ -36,7 +36,7 @@ unfolding tally.both tally.none
 content-own limit zero = is-own (append-nil _)
 content-own limit (suc n) = uncounted (λ at b x d. refl) (given-own (here-own λ place. run-own λ c size. is-own {p = tally.none} (rw (append-nil, size))))
 
-string-own : (limit : ℕ) → Own (String limit) (tally.string limit) (λ t b. b ≡ optionBytes t)
+pub string-own : (limit : ℕ) → Own (String limit) (tally.string limit) (λ t b. b ≡ optionBytes t)
 unfolding tally.string
 string-own limit = number-own λ size. content-own limit size
 
@@ -113,38 +113,38 @@ main-own : (limit : ℕ) → Own (String limit) (tally.source limit outermost) (
 unfolding tally.source tally.besides
 main-own limit = record { own = λ at b t h d z. (string-own limit .own at b t h d (omega (arith, z)), refl) }
 
-absent : (w : Where) → 1 ≤ w .number → (t : Option LuaString) (b : Bytes) → dropping w t .sources ≡ 0 → b ≡ optionBytes t → b ≡ optionBytes none
-absent w nested none b z e = e
-absent w nested (some t) b z e =
+pub unspelt : (w : Where) → 1 ≤ w .number → (t : Option LuaString) → dropping w t .sources ≡ 0 → t ≡ none
+unspelt w nested none z = refl
+unspelt w nested (some t) z =
     let one : dropping w (some t) .sources ≡ 1 = ap (λ b. cond b 0 1) (ne-eqb (w .number) 0 (λ i. omega (arith, i, nested))) in
     absurd (omega (arith, z, one))
 
-nested-own : (limit : ℕ) (w : Where) → 1 ≤ w .number → Own (String limit) (tally.source limit w) (λ t b. b ≡ optionBytes none)
+nested-own : (limit : ℕ) (w : Where) → 1 ≤ w .number → Own (String limit) (tally.source limit w) (λ t b. Absent t t b)
 unfolding tally.source tally.besides
-nested-own limit w nested = record { own = λ at b t h d z. absent w nested t b (omega (arith, z)) (string-own limit .own at b t h d (omega (arith, z))) }
+nested-own limit w nested = record { own = λ at b t h d z. let e = unspelt w nested t (omega (arith, z)) in (string-own limit .own at b t h d (omega (arith, z)) ∙ ap optionBytes e, e) }
 
-forest-own : {F : Where → Form (List Prototype)} {p : (w : Where) → Tally (F w)} (n : ℕ) (w : Where) → 1 ≤ w .number → ((w : Where) → 1 ≤ w .number → Own (F w) (p w) (λ ps b. Once ps ps b))
-    → Own (Forest n F w) (tally.forest n p w) (λ ps b. Each n ps ps b)
-unfolding flatten tally.forest
-forest-own zero w nested one = is-own (record { pieces = []; joined = refl; count = refl; alike = refl; stack = λ later. refl })
-forest-own (suc n) w nested one =
+forest-own : (way : Way) {F : Where → Form (List Prototype)} {p : (w : Where) → Tally (F w)} (n : ℕ) (w : Where) → 1 ≤ w .number → ((w : Where) → 1 ≤ w .number → Own (F w) (p w) (λ ps b. Once way (w .source) ps ps b))
+    → Own (Forest n F w) (tally.forest n p w) (λ ps b. Each way (w .source) n ps ps b)
+unfolding tally.forest
+forest-own way zero w nested one = is-own (each-none way (w .source))
+forest-own way (suc n) w nested one =
     then-own (one w nested) λ ps b r.
-    then-own (forest-own n (after ps w) (omega (arith, nested)) one) λ more c q.
-    is-own (each-cons n ps ps more more b c r q)
+    then-own (forest-own way n (after ps w) (omega (arith, nested)) one) λ more c q.
+    is-own (each-cons way (w .source) n ps ps more more b c r q)
 
-each-none : {A : Type 0} (F : Form A) (n at : ℕ) (b : Bytes) (x : List A) (d : Many n F at b x) → respelt (tally.each n (tally.none {F = F}) .of at b x d) ≡ 0
+words-none : {A : Type 0} (F : Form A) (n at : ℕ) (b : Bytes) (x : List A) (d : Many n F at b x) → respelt (tally.each n (tally.none {F = F}) .of at b x d) ≡ 0
 unfolding tally.each tally.both tally.none
-each-none F zero at b x d = refl
-each-none F (suc n) at b x d = let rest = each-none F n (at + length (d .front)) (d .two .front) (d .two .value) (d .two .one) in omega (arith, rest)
+words-none F zero at b x d = refl
+words-none F (suc n) at b x d = let rest = words-none F n (at + length (d .front)) (d .two .front) (d .two .value) (d .two .one) in omega (arith, rest)
 
 words-own : (n : ℕ) → Own (Many n (Field 4)) tally.none (λ xs b. (b ≡ flatten (map (fieldBytes 4) xs)) × (length xs ≡ n))
-words-own n = uncounted (λ at b x d. each-none (Field 4) n at b x d) (many-own n (field-one 4))
+words-own n = uncounted (λ at b x d. words-none (Field 4) n at b x d) (many-own n (field-one 4))
 
-body-own : (L : ResourceLimits) {F : Where → Form (List Prototype)} {p : (w : Where) → Tally (F w)} {R : Option LuaString → Option LuaString → Bytes → Type 0} (w : Where)
-    → ((w : Where) → 1 ≤ w .number → Own (F w) (p w) (λ ps b. Once ps ps b)) → Own (String (L .«max_string_bytes»)) (tally.source (L .«max_string_bytes») w) (λ t b. R t t b)
-    → Own (Body L F w) (tally.body L p w) (λ ps b. Behind R w w ps ps b)
+pub body-own : (way : Way) (L : ResourceLimits) {F : Where → Form (List Prototype)} {p : (w : Where) → Tally (F w)} {R : Option LuaString → Option LuaString → Bytes → Type 0} (w : Where)
+    → ((w : Where) → 1 ≤ w .number → Own (F w) (p w) (λ ps b. Once way (w .source) ps ps b)) → Own (String (L .«max_string_bytes»)) (tally.source (L .«max_string_bytes») w) (λ t b. R t t b)
+    → Own (Body L F w) (tally.body L p w) (λ ps b. Behind way R w w ps ps b)
 unfolding Body behindSource tally.body
-body-own L w one src =
+body-own way L w one src =
     here-own λ start.
     then-own src λ spelt front r.
     number-own λ line-defined.
@@ -162,7 +162,7 @@ body-own L w one src =
     number-own λ protos.
     given-own (
     here-own λ protos-at.
-    then-own (forest-own protos (within w (inherit spelt (w .source)) (length instructions)) (omega arith) one) λ inner c e.
+    then-own (forest-own way protos (within w (inherit spelt (w .source)) (length instructions)) (omega arith) one) λ inner c e.
     number-own λ line-info-size.
     here-own λ line-info-at.
     run-own λ line-info h.
@@ -189,12 +189,12 @@ body-own L w one src =
     })))
 
 module _ (L : ResourceLimits) where
-  function-own : (left : ℕ) (w : Where) → 1 ≤ w .number → Own (Function L left w) (tally.function L left w) (λ ps b. Once ps ps b)
+  function-own : (left : ℕ) (w : Where) → 1 ≤ w .number → Own (Function L left w) (tally.function L left w) (λ ps b. Once archive (w .source) ps ps b)
   unfolding Function tally.function
-  function-own zero w nested = weaken (λ ps b. once w w ps ps b) (body-own L w (λ w nested. nothing-own) (nested-own _ w nested))
-  function-own (suc left) w nested = weaken (λ ps b. once w w ps ps b) (body-own L w (λ w nested. given-own (function-own left w nested)) (nested-own _ w nested))
+  function-own zero w nested = weaken (λ ps b. once w w ps ps b) (body-own archive L w (λ w nested. nothing-own) (nested-own _ w nested))
+  function-own (suc left) w nested = weaken (λ ps b. once w w ps ps b) (body-own archive L w (λ w nested. given-own (function-own left w nested)) (nested-own _ w nested))
 
   pub function-main : (left : ℕ) → Own (Function L left outermost) (tally.function L left outermost) (λ ps b. Whole ps ps b)
   unfolding Function tally.function
-  function-main zero = weaken (λ ps b. whole ps ps b) (body-own L outermost (λ w nested. nothing-own) (main-own _))
-  function-main (suc left) = weaken (λ ps b. whole ps ps b) (body-own L outermost (λ w nested. given-own (function-own left w nested)) (main-own _))
+  function-main zero = weaken (λ ps b. whole ps ps b) (body-own archive L outermost (λ w nested. nothing-own) (main-own _))
+  function-main (suc left) = weaken (λ ps b. whole ps ps b) (body-own archive L outermost (λ w nested. given-own (function-own left w nested)) (main-own _))

@@ -4,6 +4,8 @@
 --     alike-meets          a chunk of two functions, with constants, an upvalue, a local and a trailing byte, meets all that is asked there,
 --     alike-copied         and so its copy is what `luaU_dump` writes
 --     bare-meets           and a chunk with nothing to strip meets what is asked there of such
+--     full-part            where the full copy is that, and where not (`proofs/LdumpFull.antt`)
+--     joined-meets         a chunk with a second source, and one in it that inherits it, meets all that is asked there
 -- So this refuses a dumper that writes every source, or no nested one, that compares sources by their bytes or by their places alone, that writes the tags, the local names or the upvalue names as they
 -- were read, or that keeps the byte behind the header.
 -- Assumes nothing.
@@ -19,12 +21,14 @@ use Rattle.format.specs.ReadHeader.{sameBytes}
 use Rattle.format.specs.ReadChunk.{body, function, Outcome, shown, refusal, read}
 use Rattle.format.specs.Shortest.{shortest}
 use Rattle.format.specs.Copy.{listBytes, behindSource, copy}
+use Rattle.format.specs.FullCopy.{allWithin, fullFunction, fullCopy}
 use Rattle.format_lua.specs.Ldump.{dumpSize}
 use Rattle.format_lua.specs.LdumpFunctions.{dumpFunction, «luaU_dump»}
 use Rattle.format.proofs.Every.{All}
 use Rattle.format.proofs.Distinct.{functionsOf}
 use Rattle.format.proofs.ReadChunkLaws.{read-sound}
 use Rattle.format_lua.proofs.LdumpWhole.{sourceOf, AsLua, AsStripped, copy-as-dumped}
+use Rattle.format_lua.proofs.LdumpFull.{AsLuaInFull}
 use Rattle.format_lua.proofs.LuaChunks.{header, full}
 
 -- a function of lines 1 and 2, no words, and two registers: its source, constants, upvalues, nested functions, no deltas and no anchors, its locals and upvalue names
@@ -80,36 +84,38 @@ record Case : Type 0 where
   chunk : Bytes
   dump : Bytes
   copied : Bool
+  kept : Bool
 
 cases : List Case
 unfolding fn empty leaf around holding a40 a41 alike bare full-stripped
 cases =
     -- all conditions are met; and byte 31 and padding are not kept
-    record { strip = false; chunk = alike; dump = alike; copied = true }
+    record { strip = false; chunk = alike; dump = alike; copied = true; kept = true }
     ∷ record {
       strip = false;
       chunk = header ++ 9 ∷ 0 ∷ 0x83 ∷ 0x40 ∷ 0x6d ∷ 0 ∷ 0x81 ∷ 0 ∷ 0 ∷ 0x82 ∷ 0 ∷ 0 ∷ 2 ∷ 0x80 ∷ 0x80 ∷ 0x81 ∷ 1 ∷ 0 ∷ 0 ∷ 0x80 ∷ 0x80 ∷ 0x80 ∷ 0x80 ∷ 0x81 ∷ 0x82 ∷ 0x75 ∷ [];
       dump = header ++ 1 ∷ 0x83 ∷ 0x40 ∷ 0x6d ∷ 0x81 ∷ 0x82 ∷ 0 ∷ 0 ∷ 2 ∷ 0x80 ∷ 0x80 ∷ 0x81 ∷ 1 ∷ 0 ∷ 0 ∷ 0x80 ∷ 0x80 ∷ 0x80 ∷ 0x80 ∷ 0x81 ∷ 0x82 ∷ 0x75 ∷ [];
       copied = true;
+      kept = true;
     }
     -- a nested source: another; the same, short; the same, long; a long one that is inherited; one where main has none
-    ∷ record { strip = false; chunk = around (0x82 ∷ 0x6d ∷ []) (leaf (0x82 ∷ 0x6e ∷ [])); dump = around (0x82 ∷ 0x6d ∷ []) (leaf (0x82 ∷ 0x6e ∷ [])); copied = false }
-    ∷ record { strip = false; chunk = around a40 (leaf a40); dump = around a40 (leaf empty); copied = true }
-    ∷ record { strip = false; chunk = around a41 (leaf a41); dump = around a41 (leaf a41); copied = false }
-    ∷ record { strip = false; chunk = around a41 (leaf empty); dump = around a41 (leaf empty); copied = true }
-    ∷ record { strip = false; chunk = around empty (leaf (0x82 ∷ 0x6e ∷ [])); dump = around empty (leaf (0x82 ∷ 0x6e ∷ [])); copied = false }
+    ∷ record { strip = false; chunk = around (0x82 ∷ 0x6d ∷ []) (leaf (0x82 ∷ 0x6e ∷ [])); dump = around (0x82 ∷ 0x6d ∷ []) (leaf (0x82 ∷ 0x6e ∷ [])); copied = false; kept = true }
+    ∷ record { strip = false; chunk = around a40 (leaf a40); dump = around a40 (leaf empty); copied = true; kept = true }
+    ∷ record { strip = false; chunk = around a41 (leaf a41); dump = around a41 (leaf a41); copied = false; kept = false }
+    ∷ record { strip = false; chunk = around a41 (leaf empty); dump = around a41 (leaf empty); copied = true; kept = true }
+    ∷ record { strip = false; chunk = around empty (leaf (0x82 ∷ 0x6e ∷ [])); dump = around empty (leaf (0x82 ∷ 0x6e ∷ [])); copied = false; kept = true }
     -- an absent local name
-    ∷ record { strip = false; chunk = holding empty (0x81 ∷ 0x80 ∷ 0x80 ∷ 0x81 ∷ []); dump = holding empty (0x81 ∷ 0x80 ∷ 0x80 ∷ 0x81 ∷ []); copied = false }
+    ∷ record { strip = false; chunk = holding empty (0x81 ∷ 0x80 ∷ 0x80 ∷ 0x81 ∷ []); dump = holding empty (0x81 ∷ 0x80 ∷ 0x80 ∷ 0x81 ∷ []); copied = false; kept = false }
     -- an upvalue without a name
-    ∷ record { strip = false; chunk = header ++ 1 ∷ fn empty empty (0x81 ∷ 1 ∷ 0 ∷ 0 ∷ []) empty empty empty; dump = header ++ 1 ∷ fn empty empty (0x81 ∷ 1 ∷ 0 ∷ 0 ∷ []) empty empty (0x81 ∷ 0x80 ∷ []); copied = false }
+    ∷ record { strip = false; chunk = header ++ 1 ∷ fn empty empty (0x81 ∷ 1 ∷ 0 ∷ 0 ∷ []) empty empty empty; dump = header ++ 1 ∷ fn empty empty (0x81 ∷ 1 ∷ 0 ∷ 0 ∷ []) empty empty (0x81 ∷ 0x80 ∷ []); copied = false; kept = false }
     -- a long tag on a short string, a short one on a long string
-    ∷ record { strip = false; chunk = holding (0x81 ∷ 20 ∷ 0x82 ∷ 0x78 ∷ []) empty; dump = holding (0x81 ∷ 4 ∷ 0x82 ∷ 0x78 ∷ []) empty; copied = false }
-    ∷ record { strip = false; chunk = holding (0x81 ∷ 4 ∷ a41) empty; dump = holding (0x81 ∷ 20 ∷ a41) empty; copied = false }
+    ∷ record { strip = false; chunk = holding (0x81 ∷ 20 ∷ 0x82 ∷ 0x78 ∷ []) empty; dump = holding (0x81 ∷ 4 ∷ 0x82 ∷ 0x78 ∷ []) empty; copied = false; kept = false }
+    ∷ record { strip = false; chunk = holding (0x81 ∷ 4 ∷ a41) empty; dump = holding (0x81 ∷ 20 ∷ a41) empty; copied = false; kept = false }
     -- all at once
-    ∷ record { strip = false; chunk = full; dump = full; copied = false }
+    ∷ record { strip = false; chunk = full; dump = full; copied = false; kept = false }
     -- stripped: what has nothing to strip, and `full`
-    ∷ record { strip = true; chunk = bare; dump = bare; copied = true }
-    ∷ record { strip = true; chunk = full; dump = full-stripped; copied = false }
+    ∷ record { strip = true; chunk = bare; dump = bare; copied = true; kept = true }
+    ∷ record { strip = true; chunk = full; dump = full-stripped; copied = false; kept = false }
     ∷ []
 
 copyOf : Outcome → Bytes
@@ -126,6 +132,14 @@ dumps-hold = refl
 copies-part : map (λ (c : Case). sameBytes (copyOf (read ceilings (c .chunk))) (dumped c)) cases ≡ map (λ (c : Case). c .copied) cases
 unfolding cases dumped copyOf read body function copy behindSource listBytes shortest «luaU_dump» dumpFunction dumpSize mathlib.Core.List.flatten fn empty leaf around holding a40 a41 alike bare full-stripped
 copies-part = refl
+
+fullOf : Outcome → Bytes
+fullOf (shown r) = fullCopy r
+fullOf (refusal q) = []
+
+full-part : map (λ (c : Case). sameBytes (fullOf (read ceilings (c .chunk))) (dumped c)) cases ≡ map (λ (c : Case). c .kept) cases
+unfolding cases dumped fullOf read body function fullCopy allWithin fullFunction behindSource listBytes shortest «luaU_dump» dumpFunction dumpSize mathlib.Core.List.flatten fn empty leaf around holding a40 a41 alike bare full-stripped
+full-part = refl
 
 -- ## What is asked can be met
 trailed : Bytes
@@ -162,6 +176,26 @@ bare-meets = (
     record { tags = tt; line-info = refl; abs-line-info = refl; loc-vars = refl; upvalue-names = refl },
     (
       record { tags = tt; line-info = refl; abs-line-info = refl; loc-vars = refl; upvalue-names = refl },
+      tt,
+    ),
+  ),
+)
+
+joined : Bytes
+unfolding fn empty leaf around
+joined = around (0x82 ∷ 0x6d ∷ []) (fn (0x82 ∷ 0x6e ∷ []) empty empty (0x81 ∷ leaf empty) empty empty)
+
+joined-functions : List Prototype
+joined-functions = functionsOf (read ceilings joined)
+
+joined-meets : All (AsLuaInFull joined-functions) joined-functions
+unfolding joined-functions joined read body function fn empty leaf around
+joined-meets = (
+  record { source = refl; tags = tt; locals = tt; names = refl },
+  (
+    record { source = refl; tags = tt; locals = tt; names = refl },
+    (
+      record { source = refl; tags = tt; locals = tt; names = refl },
       tt,
     ),
   ),

@@ -2,6 +2,7 @@ pub mod LdumpLaws
 pub mod LdumpChunk
 pub mod LdumpKnown
 pub mod LdumpWhole
+pub mod LdumpFull
 pub mod LundumpLaws
 pub mod LundumpParts
 pub mod LundumpChunk
