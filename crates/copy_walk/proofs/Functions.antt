@@ -4,19 +4,18 @@
 --     end-shows, whole-put     behind the end of a function: what is shown, and what was put
 -- Assumes nothing.
 use mathlib.Core.Path.{_≡_, refl, sym, subst, _∙_, ap}
-use mathlib.Core.Bool.{Bool, true}
-use mathlib.Core.List.{List, [], _∷_, foldr, flatten}
-use mathlib.Core.Option.{none}
+use mathlib.Core.Bool.{Bool}
+use mathlib.Core.List.{List, _∷_, _++_}
 use Prim.Native.Nat.{ℕ, _+_, _≤_}
 use lib.ListN.{drop}
 use Rattle.format.specs.declared.limits.ResourceLimits.{ResourceLimits}
 use Rattle.format.specs.declared.refusal.Refusal.{Refusal}
-use Rattle.format.specs.Form.{Bytes, Below}
+use Rattle.format.specs.Form.{Bytes}
 use Rattle.format.specs.Reading.{Prototype}
 use Rattle.format.specs.GrammarChunk.{Where}
 use Rattle.format.specs.Read.{Read, ok, refused, next}
 use Rattle.format.specs.ReadChunk.{forest, function}
-use Rattle.format.specs.Copy.{nest, upvaluesOfMain}
+use Rattle.format.specs.Copy.{upvaluesOfMain}
 use Rattle.format.proofs.Exact.{never}
 use Rattle.slice.specs.declared.cursor.Cursor.{Cursor}
 use Rattle.read_prototype.specs.Parts.{Head, head, Tail, tail}
@@ -31,7 +30,7 @@ use Rattle.read_walk.proofs.OneFunction as one
 use Rattle.read_walk.proofs.OneFunction.{skim-err, Skims}
 use Rattle.copy_put.specs.Inner.Put.{Put}
 use Rattle.copy_put.proofs.Writes.{put-then}
-use Rattle.copy_parts.specs.Inner.Parts.{functionBytes}
+use Rattle.copy_parts.specs.Inner.Parts.{headBytes, tailBytes}
 use Rattle.copy_parts.specs.Inner.Ends.{PutsTail, endShown}
 use Rattle.copy_parts.specs.declared.parts.Counts.{Counts}
 use Rattle.copy_parts.specs.declared.parts.CountsResult.the-variants as counts-answer
@@ -39,15 +38,14 @@ use Rattle.copy_parts.specs.Inner.Heads.{countsOf, headCounted, PutsHead}
 use Rattle.copy_parts.proofs.HeadPut.{CountsWere, counts-were, counts-stops}
 use Rattle.copy_walk.specs.Inner.Walk.{PutsFunction}
 use Rattle.copy_parts.proofs.PutParts.{put-as}
-use Rattle.copy_walk.proofs.Nests.{made}
 
 -- what a return with a refusal shows, and what is then asked of the memory
-module _ (named : Bool) (from : Skimmed) (s : Bytes) (o : Where → Read (List Prototype)) (r : SkimResult) (l : Bytes) (upvalues len : ℕ) (l′ : Bytes) (q : Refusal) (is : r ≡ skim.Err q) where
+module _ (bytes : Where → List Prototype → Bytes) (from : Skimmed) (o : Where → Read (List Prototype)) (r : SkimResult) (l : Bytes) (upvalues len : ℕ) (l′ : Bytes) (q : Refusal) (is : r ≡ skim.Err q) where
   pub not-read : ((w : Where) → from .number ≡ w .number → from .instructions ≡ w .instructions → skim.Err q ≡ skimResult w (o w))
-      → ((w : Where) → from .number ≡ w .number → from .instructions ≡ w .instructions → r ≡ skimResult w (o w)) × ((w : Where) → from .number ≡ w .number → from .instructions ≡ w .instructions → (named ≡ true → w .source ≡ none) → Below 256 s → PutsFunction named (o w) l upvalues len l′)
+      → ((w : Where) → from .number ≡ w .number → from .instructions ≡ w .instructions → r ≡ skimResult w (o w)) × ((w : Where) → from .number ≡ w .number → from .instructions ≡ w .instructions → PutsFunction (bytes w) (o w) l upvalues len l′)
   not-read shows = (
     λ w n i. is ∙ shows w n i,
-    λ w n i _ _. record {
+    λ w n i. record {
       counts = λ ps to rest f. absurd (never (sym (skim-err w (o w) q (shows w n i)) ∙ f));
       put = λ ps to rest f. absurd (never (sym (skim-err w (o w) q (shows w n i)) ∙ f));
     },
@@ -105,12 +103,14 @@ module _ (s : Bytes) (L : ResourceLimits) (left : ℕ) (w : Where) (at : ℕ) {b
           by (ok t to rest) f = one.function-shown s L left w at c₁ head-on (h .protos) many k nested f
           by (refused q) f = one.tail-refused s L left w at c₁ head-on (h .protos) many k nested q f
 
-      pub whole-put : (named : Bool) → (named ≡ true → w .source ≡ none) → {l l₁ l₂ l₃ : Bytes} {upvalues n₁ n₂ n₃ : ℕ} → upvalues ≡ h .upvalues
+      -- by the bytes of the nested functions, and how those of the function are made of its parts and of them
+      pub whole-put : (bytes : List Prototype → Bytes) (named : Bool) (inner : Bytes) → ((t : Tail) (end : ℕ) → bytes (prototypeOf w at its-head t end ∷ nested .value) ≡ headBytes named its-head ++ (inner ++ tailBytes t))
+          → {l l₁ l₂ l₃ : Bytes} {upvalues n₁ n₂ n₃ : ℕ} → upvalues ≡ h .upvalues
           → PutsHead named (head L before at (drop at s)) l n₁ l₁
-          → Put (flatten (foldr nest [] (nested .value))) n₁ l₁ n₂ l₂
+          → Put inner n₁ l₁ n₂ l₂
           → PutsTail ends n₂ l₂ n₃ l₃
-          → PutsFunction named (function L left w at (drop at s)) l upvalues n₃ l₃
-      whole-put named main {l} {l₁} {l₂} {l₃} {upvalues} {n₁} {n₂} {n₃} u p q r = record {
+          → PutsFunction bytes (function L left w at (drop at s)) l upvalues n₃ l₃
+      whole-put bytes named inner made {l} {l₁} {l₂} {l₃} {upvalues} {n₁} {n₂} {n₃} u p q r = record {
         counts = λ ps to rest e. count ps to rest ends (sym in-order ∙ e);
         put = λ ps to rest e. by ps to rest ends refl (sym in-order ∙ e);
       }
@@ -124,11 +124,11 @@ module _ (s : Bytes) (L : ResourceLimits) (left : ℕ) (w : Where) (at : ℕ) {b
               let all : prototypeOf w at its-head t up ∷ nested .value ≡ ps = cc in
               u ∙ ap (λ (h : Counts). h .upvalues) kept ∙ ap upvaluesOfMain all
 
-          by : (ps : List Prototype) (to : ℕ) (rest : Bytes) (o : Read Tail) → ends ≡ o → next o (λ t e f. ok (prototypeOf w at its-head t e ∷ nested .value) e f) ≡ ok ps to rest → Put (functionBytes named ps) 0 l n₃ l₃
+          by : (ps : List Prototype) (to : ℕ) (rest : Bytes) (o : Read Tail) → ends ≡ o → next o (λ t e f. ok (prototypeOf w at its-head t e ∷ nested .value) e f) ≡ ok ps to rest → Put (bytes ps) 0 l n₃ l₃
           by ps to rest (refused x) f e = absurd (never e)
           by ps to rest (ok t up rest′) f e =
               let all : prototypeOf w at its-head t up ∷ nested .value ≡ ps = cc in
-              subst (λ ps. Put (functionBytes named ps) 0 l n₃ l₃) all
-              (put-as (sym (made named w at its-head t up (nested .value) main))
+              subst (λ ps. Put (bytes ps) 0 l n₃ l₃) all
+              (put-as (sym (made t up))
               (put-then (p .put its-head (c₁ .at) _ (headed .is))
               (put-then q (r .put t up rest′ f))))

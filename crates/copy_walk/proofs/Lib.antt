@@ -1,4 +1,5 @@
 pub mod Nests
+pub mod Archive
 pub mod Tails
 pub mod Loops
 pub mod Functions

@@ -10,6 +10,7 @@ ghost use Rattle.format.specs.Form.{Below};
 ghost use Rattle.format.specs.GrammarChunk as grammar;
 ghost use Rattle.format.specs.ReadChunk.{function};
 ghost use Rattle.read_walk.specs.Inner.Skim.{skimResult};
+ghost use Rattle.copy_parts.specs.Inner.Parts.{functionBytes};
 ghost use Rattle.copy_walk.specs.Inner.Walk.{PutsFunction};
 use copy_parts::ends::Copied;
 use copy_parts::ends::copy_end;
@@ -41,7 +42,7 @@ pub fn copy_function(
 ) -> Copied
     requires { ⌜ Walkable limits × (from .number ≤ MOST) ⌝ }
     ensures { λ r. ⌜ ((w : grammar.Where) → from .number ≡ w .number → from .instructions ≡ w .instructions → r .walk ≡ skimResult w (function limits left w (from .next .at) (drop (from .next .at) (now (s .entry))))) ⌝ }
-    ensures { λ r. ⌜ ((w : grammar.Where) → from .number ≡ w .number → from .instructions ≡ w .instructions → (named ≡ true → w .source ≡ none) → Below 256 (now (s .entry)) → PutsFunction named (function limits left w (from .next .at) (drop (from .next .at) (now (s .entry)))) (now (out .entry)) (r .upvalues) (r .len) (now (out .exit))) ⌝ }
+    ensures { λ r. ⌜ ((w : grammar.Where) → from .number ≡ w .number → from .instructions ≡ w .instructions → (named ≡ true → w .source ≡ none) → Below 256 (now (s .entry)) → PutsFunction (functionBytes named) (function limits left w (from .next .at) (drop (from .next .at) (now (s .entry)))) (now (out .entry)) (r .upvalues) (r .len) (now (out .exit))) ⌝ }
 {
     let begun = copy_head(s, limits, named, from.instructions, from.next, out);
     let begins = begun.begins;

@@ -1,4 +1,3 @@
-pub mod Same
 pub mod Expects
 pub mod FixedParts
 pub mod Answers

@@ -1,9 +1,8 @@
 // header.rs: the 31 bytes at the front of a chunk.
 ghost use mathlib.Core.Path.{_≡_};
-ghost use Prim.Native.Nat.{_≤_};
 ghost use mathlib.Core.List.{[], _∷_};
 ghost use Rattle.format.specs.declared.refusal.Refusal.the-variants.{Signature};
-ghost use lib.ListN.{length, take, drop};
+ghost use lib.ListN.{drop};
 ghost use Rattle.format.specs.ReadHeader as spec;
 ghost use Rattle.slice.specs.Inner.Results.{cursorResult, andThen};
 ghost use Rattle.format.specs.GrammarHeader.{headerOf, formatWarnings};
@@ -14,6 +13,7 @@ use format::header::Warning;
 use format::refusal::Refusal;
 use read_field::field::U8Result;
 use read_field::field::read_u8;
+use slice::bytes::same_bytes;
 use slice::cursor::Cursor;
 use slice::cursor::CursorResult;
 use slice::cursor::read_exact;
@@ -30,21 +30,6 @@ pub enum HeaderResult {
         next: Cursor,
     },
     Err(Refusal),
-}
-
-// Whether the bytes at a place are these.
-fn same_bytes(s: &[u8], at: usize, bytes: &[u8]) -> bool
-    requires { ⌜ length (now bytes) ≤ length (drop at (now s)) ⌝ }
-    ensures { λ r. ⌜ r ≡ spec.sameBytes (take (length (now (bytes .entry))) (drop at (now (s .entry)))) (now (bytes .entry)) ⌝ }
-{
-    let mut i = 0;
-    while i < bytes.len() {
-        if s[at + i] != bytes[i] {
-            return false;
-        }
-        i += 1;
-    }
-    true
 }
 
 // Passes over bytes that must be these.

@@ -1,3 +1,4 @@
 pub mod Fields
 pub mod Splices
 pub mod Tails
+pub mod Same

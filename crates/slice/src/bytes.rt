@@ -1,6 +1,8 @@
-// Parts of a slice, for any place and length.
+// Parts of a slice, for any place and length; and whether the bytes at a place are given ones.
 ghost use mathlib.Core.Path.{_≡_};
-ghost use lib.ListN.{take, drop};
+ghost use Prim.Native.Nat.{_≤_};
+ghost use lib.ListN.{length, take, drop};
+ghost use Rattle.format.specs.ReadHeader.{sameBytes};
 
 // The bytes of a slice from a place on; none where the place is behind its end. Ruled out: one byte too few, the front of the slice.
 pub fn bytes_from(s: &[u8], place: usize) -> &[u8]
@@ -22,4 +24,19 @@ pub fn bytes_at(s: &[u8], place: usize, len: usize) -> &[u8]
         return &rest[0..len];
     }
     rest
+}
+
+// Whether the bytes at a place are these. Ruled out: the last of them not looked at.
+pub fn same_bytes(s: &[u8], at: usize, bytes: &[u8]) -> bool
+    requires { ⌜ length (now bytes) ≤ length (drop at (now s)) ⌝ }
+    ensures { λ r. ⌜ r ≡ sameBytes (take (length (now (bytes .entry))) (drop at (now (s .entry)))) (now (bytes .entry)) ⌝ }
+{
+    let mut i = 0;
+    while i < bytes.len() {
+        if s[at + i] != bytes[i] {
+            return false;
+        }
+        i += 1;
+    }
+    true
 }

@@ -1,7 +1,6 @@
 -- What the walk puts of what it reads.
---     PutsFunction named o l upvalues len l′   where a function was read, with all that nest in it, its bytes, at the start; and how many upvalues it has
+--     PutsFunction bytes o l upvalues len l′   where a function was read, with all that nest in it, its bytes, at the start; and how many upvalues it has
 use mathlib.Core.Path.{_≡_}
-use mathlib.Core.Bool.{Bool}
 use mathlib.Core.List.{List}
 use Prim.Native.Nat.{ℕ}
 use Rattle.format.specs.Form.{Bytes}
@@ -9,8 +8,7 @@ use Rattle.format.specs.Reading.{Prototype}
 use Rattle.format.specs.Read.{Read, ok}
 use Rattle.format.specs.Copy.{upvaluesOfMain}
 use Rattle.copy_put.specs.Inner.Put.{Put}
-use Rattle.copy_parts.specs.Inner.Parts.{functionBytes}
 
-pub record PutsFunction (named : Bool) (o : Read (List Prototype)) (l : Bytes) (upvalues len : ℕ) (l′ : Bytes) : Type 0 where
+pub record PutsFunction (bytes : List Prototype → Bytes) (o : Read (List Prototype)) (l : Bytes) (upvalues len : ℕ) (l′ : Bytes) : Type 0 where
   pub counts : (ps : List Prototype) (to : ℕ) (rest : Bytes) → o ≡ ok ps to rest → upvalues ≡ upvaluesOfMain ps
-  pub put : (ps : List Prototype) (to : ℕ) (rest : Bytes) → o ≡ ok ps to rest → Put (functionBytes named ps) 0 l len l′
+  pub put : (ps : List Prototype) (to : ℕ) (rest : Bytes) → o ≡ ok ps to rest → Put (bytes ps) 0 l len l′

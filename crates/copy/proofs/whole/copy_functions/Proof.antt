@@ -7,7 +7,7 @@ use Rattle.format.specs.GrammarChunk.{outermost}
 use Rattle.format.specs.ReadChunk.{function}
 use Rattle.copy_parts.specs.Inner.Parts.{functionBytes}
 use Rattle.copy_walk.proofs.Tails.{tail-inside, put-part}
-use Rattle.copy.proofs.Chunks.{functions-stops, functions-put}
+use Rattle.copy.proofs.Chunks.{functions-stops, main-put}
 use Rattle.copy.proofs.whole.copy_functions.Statement.{statement}
 use Rattle.copy.proofs.whole.copy_functions.Tie as tie
 
@@ -27,7 +27,7 @@ returns-2 c =
     let k = c .before .before .before .before .before .before .before .before .before .before .before .before .walk2 in
     let r = c .before .before .before .before .before .before .before .before .before .before .before .before .before .before .before .before .copy-function in
     let part = c .before .before .before .before .before .before .before .before .before .before .before .before .before .before .before .before .before .before .within .ensures in
-    λ bytes short. functions-put (a .s .now) bytes short (a .limits) (a .cursor .at) (k .given .0 .0) _ _ (sym (k .given .1) ∙ r .ensures .0 outermost refl refl) (c .before .before .before .before .remaining .ensures)
+    λ bytes short. main-put (a .s .now) bytes short (a .limits) (a .cursor .at) (k .given .0 .0) _ _ (sym (k .given .1) ∙ r .ensures .0 outermost refl refl) (c .before .before .before .before .remaining .ensures)
     (r .ensures .1 outermost refl refl (λ _. refl) bytes .counts)
     (λ ps to rest e. put-part (functionBytes _ ps) 32 _ (a .out .now) _ _ _ part (r .ensures .1 outermost refl refl (λ _. refl) bytes .put ps to rest e) (c .before .before .before .before .before .plus .ensures))
     (c .before .before .before .before .before .before .before .before .put-front .ensures) (c .before .before .put-bytes .ensures)

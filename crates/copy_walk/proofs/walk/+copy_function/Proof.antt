@@ -3,19 +3,25 @@
 -- Assumes nothing.
 use Prim.Native.Nat.{ℕ, _<_, _+_}
 use mathlib.Core.Path.{_≡_, refl, sym, _∙_}
-use mathlib.Core.Bool.{true≢false}
+use mathlib.Core.Bool.{Bool, true, true≢false}
+use mathlib.Core.List.{List}
+use mathlib.Core.Option.{none}
 use native.Mathlib.Omega.{arith}
 use lib.ListN.{length, drop}
 use borrow.Author.Needs.{needs}
 use borrow.Fn.Kinds.{In}
 use borrow.Fn.PlainCycle.{Measures, is, falls, and}
+use Rattle.format.specs.Form.{Bytes, Below}
+use Rattle.format.specs.Reading.{Prototype}
 use Rattle.format.specs.GrammarChunk.{Where}
+use Rattle.format.specs.Read.{Read}
 use Rattle.format.specs.ReadChunk.{forest, function}
 use Rattle.format.specs.declared.refusal.Refusal.{Refusal}
 use Rattle.slice.specs.declared.cursor.Cursor.{Cursor}
 use Rattle.read_prototype.specs.Parts as parts
 use Rattle.read_prototype.specs.PartsShown.{headResult}
 use Rattle.read_walk.specs.declared.walk.Skimmed.{Skimmed}
+use Rattle.read_walk.specs.declared.walk.SkimResult.{SkimResult}
 use Rattle.read_walk.specs.declared.walk.SkimResult.the-variants as skim
 use Rattle.read_walk.specs.Inner.Skim.{entered, on, skimResult}
 use Rattle.read_walk.proofs.SoFar as so-far
@@ -23,7 +29,9 @@ use Rattle.copy_parts.specs.declared.parts.Counts.{Counts}
 use Rattle.copy_parts.specs.declared.parts.CountsResult.the-variants as counts-answer
 use Rattle.copy_parts.specs.Inner.Parts.{functionBytes}
 use Rattle.copy_parts.specs.Inner.Heads.{headCounted}
+use Rattle.copy_walk.specs.Inner.Walk.{PutsFunction}
 use Rattle.copy_walk.proofs.Tails.{tail-inside, part-kept, put-part}
+use Rattle.copy_walk.proofs.Archive.{archive, single, made}
 use Rattle.copy_walk.proofs.Loops.{Copies, copies-none, copies-one, copies-all}
 use Rattle.copy_walk.proofs.Functions as copied
 use Rattle.copy_walk.proofs.Functions.{not-read, counted-total}
@@ -41,6 +49,13 @@ use Rattle.copy_walk.proofs.walk.+copy_function.Tie.{close}
 -- a level is left where the number of levels is not 0
 level : (left : ℕ) → (left ≡ 0 → ⊥) → 0 < left
 level left h = omega arith
+
+-- whatever is asked, nothing is said of the memory
+unread : (named : Bool) (from : Skimmed) (s : Bytes) (o : Where → Read (List Prototype)) (r : SkimResult) (l : Bytes) (upvalues len : ℕ) (l′ : Bytes) (q : Refusal) → r ≡ skim.Err q
+    → ((w : Where) → from .number ≡ w .number → from .instructions ≡ w .instructions → skim.Err q ≡ skimResult w (o w))
+    → ((w : Where) → from .number ≡ w .number → from .instructions ≡ w .instructions → r ≡ skimResult w (o w))
+    × ((w : Where) → from .number ≡ w .number → from .instructions ≡ w .instructions → (named ≡ true → w .source ≡ none) → Below 256 s → PutsFunction (functionBytes named) (o w) l upvalues len l′)
+unread named from s o r l upvalues len l′ q is shows = let (a, b) = not-read (λ w. functionBytes named) from o r l upvalues len l′ q is shows in (a, λ w n i _ _. b w n i)
 
 abbrev μ : Measures 2 copy-function-kinds.ps ℕ
 μ κs a = a .1 .1 .1 .0
@@ -71,7 +86,7 @@ calls t = (
 
 abbrev Inv : copy-function-lts.InvT-loop
 Inv s limits named left out₀ head len₀ nested₀ more₀ out len nested more =
-    (length out ≡ length out₀) × ((w : Where) → nested₀ .number ≡ w .number → nested₀ .instructions ≡ w .instructions → Copies s limits left w more₀ (nested₀ .next .at) len₀ out₀ nested more len out)
+    (length out ≡ length out₀) × ((w : Where) → nested₀ .number ≡ w .number → nested₀ .instructions ≡ w .instructions → Copies archive (Below 256 s) s limits left w more₀ (nested₀ .next .at) len₀ out₀ nested more len out)
 
 abbrev μ-loop : copy-function-lts.MeasureT-loop
 μ-loop s limits named left out₀ head len₀ nested₀ more₀ out len nested more = more
@@ -121,20 +136,20 @@ number t c = let few = c .before .before .before .before .before .before .before
 loop-holds : (t : ℕ) → copy-function-lts.Need-loop-holds (calls t) (at t) copy-function.Post Inv μ-loop
 loop-holds t c =
     let f = c .before .before .before .before in
-    (refl, λ w n i. copies-none (a t f .s .now) (a t f .limits) (a t f .left) w (head t f .protos) (inside t f) _ _ n i)
+    (refl, λ w n i. copies-none archive (Below 256 (a t f .s .now)) (a t f .s .now) (a t f .limits) (a t f .left) w (head t f .protos) (inside t f) _ _ n i)
 
 returns : (t : ℕ) → copy-function-lts.Need-returns (calls t) (at t) copy-function.Post Inv μ-loop
 returns t c =
     let l = c .before .before .before in
     let f = c .before .before .before .before .before .before .before .before in
-    not-read (a t f .named) (a t f .from) (a t f .s .now) (λ w. function (a t f .limits) (a t f .left) w (a t f .from .next .at) (drop (a t f .from .next .at) (a t f .s .now))) _ _ _ _ _ _ (c .stopped2 .ensures) λ w n i.
+    unread (a t f .named) (a t f .from) (a t f .s .now) (λ w. function (a t f .limits) (a t f .left) w (a t f .from .next .at) (drop (a t f .from .next .at) (a t f .s .now))) _ _ _ _ _ _ (c .stopped2 .ensures) λ w n i.
     refused-inside t f w n i _ (so-far.deep _ _ (l .loop .inv .1 (first t f w n i) (first-number t f w n i) (first-instructions t f w n i) .so-far) (c .before .before .loop-test .taken) (c .before .if1 .taken))
 
 returns-2 : (t : ℕ) → copy-function-lts.Need-returns-2 (calls t) (at t) copy-function.Post Inv μ-loop
 returns-2 t c =
     let l = c .before .before .before .before .before .before in
     let f = c .before .before .before .before .before .before .before .before .before .before .before in
-    not-read (a t f .named) (a t f .from) (a t f .s .now) (λ w. function (a t f .limits) (a t f .left) w (a t f .from .next .at) (drop (a t f .from .next .at) (a t f .s .now))) _ _ _ _ _ _ (c .stopped3 .ensures) λ w n i.
+    unread (a t f .named) (a t f .from) (a t f .s .now) (λ w. function (a t f .limits) (a t f .left) w (a t f .from .next .at) (drop (a t f .from .next .at) (a t f .s .now))) _ _ _ _ _ _ (c .stopped3 .ensures) λ w n i.
     refused-inside t f w n i _ (so-far.many _ _ (l .loop .inv .1 (first t f w n i) (first-number t f w n i) (first-instructions t f w n i) .so-far) (c .before .before .before .before .before .loop-test .taken) (level (a t f .left) (c .before .before .before .before .if1 .left)) (c .before .if2 .taken))
 
 copy-function-requires : (t : ℕ) → copy-function-lts.Need-copy-function-requires (calls t) (at t) copy-function.Post Inv μ-loop
@@ -150,7 +165,7 @@ returns-3 t c =
     let l = c .before .before .before .before .before .before .before .before .before .before .before .before .before .before in
     let f = c .before .before .before .before .before .before .before .before .before .before .before .before .before .before .before .before .before .before .before in
     let r = c .before .before .before .before .before .before in
-    not-read (a t f .named) (a t f .from) (a t f .s .now) (λ w. function (a t f .limits) (a t f .left) w (a t f .from .next .at) (drop (a t f .from .next .at) (a t f .s .now))) _ _ _ _ _ _ (c .stopped4 .ensures) λ w n i.
+    unread (a t f .named) (a t f .from) (a t f .s .now) (λ w. function (a t f .limits) (a t f .left) w (a t f .from .next .at) (drop (a t f .from .next .at) (a t f .s .now))) _ _ _ _ _ _ (c .stopped4 .ensures) λ w n i.
     refused-inside t f w n i _ (so-far.stops _ _ (l .loop .inv .1 (first t f w n i) (first-number t f w n i) (first-instructions t f w n i) .so-far) (c .before .before .before .before .before .before .before .before .before .before .before .before .before .loop-test .taken) (level (a t f .left) (c .before .before .before .before .before .before .before .before .before .before .before .before .if1 .left)) (c .before .before .before .before .before .before .before .before .before .if2 .left) _ (sym (c .before .before .walk .given .1) ∙ r .copy-function .ensures .0 (on (first t f w n i) (l .loop .nested)) refl refl))
 
 loop-again : (t : ℕ) → copy-function-lts.Need-loop-again (calls t) (at t) copy-function.Post Inv μ-loop
@@ -163,14 +178,14 @@ loop-again t c =
     let few = c .before .before .before .before .before .before .before .before .before .if2 .left in
     let part = c .before .before .before .before .before .before .before .before .within .ensures in (
       part-kept (l .loop .len) _ (l .loop .out) (r .copy-function .last .1 .1 .1 .1 .1 .0) part (r .copy-function .kept .1 .1 .1 .1 .1 .0) ∙ l .loop .inv .0,
-      λ w n i. copies-one (a t f .limits) (a t f .left) (l .loop .inv .1 w n i) some levels few _ (sym (c .before .before .walk2 .given .1) ∙ r .copy-function .ensures .0 (on w (l .loop .nested)) refl refl)
+      λ w n i. copies-one (a t f .limits) (a t f .left) (l .loop .inv .1 w n i) single (λ bytes. bytes) some levels few _ (sym (c .before .before .walk2 .given .1) ∙ r .copy-function .ensures .0 (on w (l .loop .nested)) refl refl)
           (λ bytes ps to rest e. put-part (functionBytes _ ps) _ _ (l .loop .out) _ _ _ part (r .copy-function .ensures .1 (on w (l .loop .nested)) refl refl (λ f. absurd (true≢false (sym f))) bytes .put ps to rest e) (c .plus .ensures)),
     )
 
 returns-4 : (t : ℕ) → copy-function-lts.Need-returns-4 (calls t) (at t) copy-function.Post Inv μ-loop
 returns-4 t c =
     let a = c .before .before .before .before .before .before .before .before .before .before .args in
-    not-read (a .named) (a .from) (a .s .now) (λ w. function (a .limits) (a .left) w (a .from .next .at) (drop (a .from .next .at) (a .s .now))) _ _ _ _ _ _ (c .stopped .ensures) λ w n i.
+    unread (a .named) (a .from) (a .s .now) (λ w. function (a .limits) (a .left) w (a .from .next .at) (drop (a .from .next .at) (a .s .now))) _ _ _ _ _ _ (c .stopped .ensures) λ w n i.
     copied.head-refused (a .s .now) (a .limits) (a .left) w (a .from .next .at) i _ (sym (c .before .before .begins .given .1) ∙ c .before .before .before .before .before .before .copy-head .ensures .0)
 
 returns-5 : (t : ℕ) → copy-function-lts.Need-returns-5 (calls t) (at t) copy-function.Post Inv μ-loop
@@ -184,7 +199,7 @@ returns-5 t c =
           copied.end-shows (a t f .s .now) (a t f .limits) (a t f .left) w (a t f .from .next .at) i (head t f) (behind t f) (begun t f) (l .loop .nested) (so-far.those (those .so-far) over) _ (z .1 .0),
       λ w n i main bytes.
           let those = l .loop .inv .1 (first t f w n i) (first-number t f w n i) (first-instructions t f w n i) in
-          copied.whole-put (a t f .s .now) (a t f .limits) (a t f .left) w (a t f .from .next .at) i (head t f) (behind t f) (begun t f) (l .loop .nested) (so-far.those (those .so-far) over) (a t f .named) main (z .0)
+          copied.whole-put (a t f .s .now) (a t f .limits) (a t f .left) w (a t f .from .next .at) i (head t f) (behind t f) (begun t f) (l .loop .nested) (so-far.those (those .so-far) over) (functionBytes (a t f .named)) (a t f .named) _ (λ x end. made (a t f .named) w (a t f .from .next .at) _ x end (those .passed) main) (z .0)
           (c .before .before .before .before .before .before .before .before .before .before .before .before .before .before .copy-head .ensures .1 bytes)
           (copies-all (a t f .limits) (a t f .left) those bytes)
           (z .1 .1),

@@ -1,15 +1,13 @@
--- `read_header::same_bytes` meets its contract. The invariant: the whole comparison is that of the rest (`Same.antt`). Assumes nothing.
+-- `slice::bytes::same_bytes` meets its contract. The invariant: the whole comparison is that of the rest (`Same.antt`). Assumes nothing.
 use mathlib.Core.Path.{_≡_, refl, sym, _∙_}
 use Prim.Native.Nat.{_+_, _-_}
 use native.Mathlib.Omega.{arith}
 use borrow.Author.Needs.{needs}
 use lib.ListN.{length, take, drop}
 use Rattle.format.specs.ReadHeader.{sameBytes}
-use Rattle.read_header.proofs.Same.{rest, start, all, inside, differs, agrees}
-use Rattle.read_header.proofs.same_bytes.Statement.{statement}
-use Rattle.read_header.proofs.same_bytes.Tie as tie
-use Rattle.read_header.proofs.same_bytes.Reads as reads
-use Rattle.read_header.proofs.same_bytes.Lts as lts
+use Rattle.slice.proofs.Same.{rest, start, all, inside, differs, agrees}
+use Rattle.slice.proofs.bytes.same_bytes.Statement.{statement}
+use Rattle.slice.proofs.bytes.same_bytes.Tie as tie
 
 abbrev Inv-loop : tie.InvT-loop
 Inv-loop s at bytes i₀ i = sameBytes (take (length bytes) (drop at s)) bytes ≡ rest s at bytes i

@@ -1,0 +1,3 @@
+pub mod FullMain
+pub mod PlainFull
+pub mod Cases
