@@ -38,6 +38,7 @@ macro_rules! calls {
 calls! {
     SUMMARY: Whole, 15, lafzimdo_summary;
     COPY_LENGTH: Whole, 1, lafzimdo_copy_length;
+    FULL_COPY_LENGTH: Whole, 1, lafzimdo_full_copy_length;
     VERDICT: Whole, 1, lafzimdo_verdict;
     FINDING_COUNT: Whole, 1, lafzimdo_finding_count;
     FUNCTION: Numbered, 18, lafzimdo_function;
@@ -50,6 +51,7 @@ calls! {
     UPVALUE_NAME: Entry, 3, lafzimdo_upvalue_name;
     INDEX: Lending<u32>, 1, lafzimdo_index;
     COPY: Lending<u8>, 1, lafzimdo_copy;
+    FULL_COPY: Lending<u8>, 1, lafzimdo_full_copy;
     FINDINGS: Lending<u64>, 2, lafzimdo_findings;
     HEAD_AT: Numbered, 16, lafzimdo_head_at;
     TAIL_AT: Numbered, 9, lafzimdo_tail_at;

@@ -6,6 +6,7 @@ use crate::check_read::read_chunk;
 use crate::check_refused::refused_chunk;
 use crate::check_words::words;
 use crate::difference::Difference;
+use crate::full::full_copy;
 use crate::judged::Judged;
 use crate::lender::Lender;
 use crate::limits::read;
@@ -36,6 +37,9 @@ pub fn check(case: &Case, lender: &mut Lender, tally: &mut Tally) -> Result<(), 
             let mut judged = judge("the Rust's answers", || Judged::of(&chunk, &case.chunk, &limits))?;
             asked.tally.read(&judged);
             judged.summary[14] -= asked.lender.left_out(&judged.padded);
+            if let Some(wrong) = asked.lender.wrong_sources() {
+                judged.full = full_copy(&judged.functions, &judged.heads, &judged.copy, Some(wrong));
+            }
             read_chunk(&mut asked, &judged)?;
             parts_in_order(&mut asked, &judged)?;
         }

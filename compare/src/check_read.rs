@@ -1,4 +1,4 @@
-// A chunk that is read: the summary, the index, the copy and its summary, verdict and findings, and by number each function's fields, entries and lines.
+// A chunk that is read: the summary, the index, the copies and their summaries, verdict and findings, and by number each function's fields, entries and lines.
 use crate::calls::*;
 use crate::case::Case;
 use crate::chance::Chance;
@@ -20,10 +20,12 @@ pub fn read_chunk(asked: &mut Asked, judged: &Judged) -> Result<(), Difference> 
     let functions = judged.functions.len();
     asked.whole(&SUMMARY, Ok(judged.summary))?;
     asked.whole(&COPY_LENGTH, Ok([judged.copy.len() as u64]))?;
+    asked.whole(&FULL_COPY_LENGTH, Ok([judged.full.len() as u64]))?;
     asked.whole(&VERDICT, Ok([judged.verdict]))?;
     asked.whole(&FINDING_COUNT, Ok([judged.finding_count()]))?;
     lent(asked, &INDEX, [functions as u64], &judged.rows)?;
     lent(asked, &COPY, [judged.copy.len() as u64], &judged.copy)?;
+    lent(asked, &FULL_COPY, [judged.full.len() as u64], &judged.full)?;
     lent(asked, &FINDINGS, [judged.verdict, judged.finding_count()], &judged.findings)?;
 
     let calls: usize = judged
@@ -39,14 +41,17 @@ pub fn read_chunk(asked: &mut Asked, judged: &Judged) -> Result<(), Difference> 
     }
     no_function(asked, functions)?;
     if asked.chance.one_in(COPIES) {
-        copied(asked, judged)?;
+        copied(asked, &judged.copy)?;
+        if judged.full != judged.copy {
+            copied(asked, &judged.full)?;
+        }
     }
     Ok(())
 }
 
-/// The copy under the same limits: its summary, which shows no padded number, or its refusal.
-fn copied(asked: &mut Asked, judged: &Judged) -> Result<(), Difference> {
-    let case = Case { chunk: judged.copy.clone(), ..*asked.case };
+/// A copy under the same limits: its summary, which shows no padded number, or its refusal.
+fn copied(asked: &mut Asked, copy: &[u8]) -> Result<(), Difference> {
+    let case = Case { chunk: copy.to_vec(), ..*asked.case };
     let expected = judge("the Rust's reading of its copy", || {
         let copy = read(&case.resource_limits(), &case.chunk).map_err(coded)?;
         let padded = Padded::of(&case.chunk, &copy.main_proto);

@@ -11,7 +11,7 @@ const LENT: [usize; 5] = [0, 1, 7, 48, 200];
 
 pub fn refused_chunk(asked: &mut Asked, refusal: Refusal) -> Result<(), Difference> {
     let code = coded(refusal);
-    for call in [&COPY_LENGTH, &VERDICT, &FINDING_COUNT] {
+    for call in [&COPY_LENGTH, &FULL_COPY_LENGTH, &VERDICT, &FINDING_COUNT] {
         asked.whole(call, Err(code))?;
     }
     asked.whole(&SUMMARY, Err(code))?;
@@ -29,5 +29,6 @@ pub fn refused_chunk(asked: &mut Asked, refusal: Refusal) -> Result<(), Differen
     asked.local(function, entry, lent, Err(code))?;
     asked.lending(&INDEX, lent, Err(code))?;
     asked.lending(&COPY, lent, Err(code))?;
+    asked.lending(&FULL_COPY, lent, Err(code))?;
     asked.lending(&FINDINGS, lent, Err(code))
 }

@@ -199,8 +199,34 @@ fn tiny(chance: &mut Chance) -> Made {
     Made { bytes: [0, 0, chance.below(3) as u8], ..Made::default() }
 }
 
-/// A tree of functions: one, a few, a chain, or many small ones.
+/// Few, so that a function often has its parent's: an empty one, two of one length, and two of more than 40 bytes, which Lua keeps apart.
+const SOURCES: [&str; 6] = [
+    "",
+    "a",
+    "b",
+    "ab",
+    "@a source of more than forty bytes, and of one",
+    "@a source of more than forty bytes, and of two",
+];
+
+fn few_sources(chance: &mut Chance, made: &mut Made) {
+    made.source = (!chance.one_in(3)).then(|| chance.of(&SOURCES).as_bytes().to_vec());
+    for nested in &mut made.nested {
+        few_sources(chance, nested);
+    }
+}
+
+/// A tree of functions, one in three of them with few sources.
 pub fn tree(chance: &mut Chance) -> Made {
+    let mut made = any_tree(chance);
+    if chance.one_in(3) {
+        few_sources(chance, &mut made);
+    }
+    made
+}
+
+/// One function, a few, a chain, or many small ones.
+fn any_tree(chance: &mut Chance) -> Made {
     match chance.below(40) {
         0..=19 => function(chance, Vec::new()),
         20..=36 => {

@@ -1,5 +1,6 @@
 // What the Rust answers to a chunk that is read, in the numbers of include/lafzimdo.h.
 use crate::findings::{findings, judged};
+use crate::full::full_copy;
 use crate::functions::{functions, Function};
 use crate::padded::Padded;
 use crate::parts::{Head, Parts, Tail, Text};
@@ -25,6 +26,7 @@ pub struct Judged<'a> {
     pub sources: Vec<Text>,
     pub rows: Vec<u32>,
     pub copy: Vec<u8>,
+    pub full: Vec<u8>,
     pub verdict: u64,
     /// Function, pc, rule and number of each.
     pub findings: Vec<u64>,
@@ -40,6 +42,8 @@ impl<'a> Judged<'a> {
         let code = heads.iter().map(|head| [head.lists[0][1] as usize, head.lists[1][1] as usize]);
         assert!(code.eq(padded.code.iter().copied()), "where words and constants begin");
         let rows = functions.iter().zip(&heads).flat_map(|(function, head)| row(function, head)).collect();
+        let copy = encode_chunk_lua54(chunk);
+        let full = full_copy(&functions, &heads, &copy, None);
         Judged {
             summary: summary(chunk, bytes, &padded),
             padded,
@@ -48,7 +52,8 @@ impl<'a> Judged<'a> {
             behind,
             sources,
             rows,
-            copy: encode_chunk_lua54(chunk),
+            copy,
+            full,
             verdict: verdict_number(verdict),
             findings: findings(&list, &functions)
                 .flat_map(|finding| {

@@ -39,8 +39,9 @@ filled!(u8, u32, u64);
 pub enum Way {
     /// A number of the answer.
     Number(usize),
-    /// Not the answer, but what is expected: the padded numbers of one kind are left out.
+    /// Not the answer, but what is expected: the padded numbers of one kind are left out; the sources of the full copy go by a wrong rule.
     Kind(usize),
+    Sources(usize),
     /// The refusal's number, and its place.
     Refusal,
     Place,
@@ -131,6 +132,14 @@ impl Lender {
         match self.alteration {
             Some(Alteration { way: Way::Kind(kind), .. }) => padded.by_kind[kind],
             _ => 0,
+        }
+    }
+
+    /// The wrong rule for the full copy's sources, if the self-test has one.
+    pub fn wrong_sources(&self) -> Option<usize> {
+        match self.alteration {
+            Some(Alteration { way: Way::Sources(rule), .. }) => Some(rule),
+            _ => None,
         }
     }
 

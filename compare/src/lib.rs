@@ -34,6 +34,7 @@ mod check_refused;
 mod check_words;
 mod damage;
 pub mod difference;
+mod full;
 mod functions_made;
 mod judged;
 pub mod lender;

@@ -22,8 +22,9 @@ pub struct Tally {
     pub lines: u64,
     pub words: u64,
     pub parts: u64,
-    /// Copies that are read.
+    /// Copies that are read, and cases whose full copy is another than the archive copy.
     pub copies: u64,
+    sourced: u64,
 }
 
 impl Tally {
@@ -37,6 +38,7 @@ impl Tally {
         self.functions += judged.functions.len() as u64;
         self.padded.iter_mut().zip(judged.padded.by_kind).for_each(|(sum, count)| *sum += count);
         self.cases_padded += u64::from(judged.padded.sum() > 0);
+        self.sourced += u64::from(judged.full != judged.copy);
         let mut rules = [0; 7];
         for finding in judged.findings.chunks_exact(4) {
             rules[finding[2] as usize - 1] += 1;
@@ -68,6 +70,7 @@ impl Tally {
         self.words += other.words;
         self.parts += other.parts;
         self.copies += other.copies;
+        self.sourced += other.sourced;
     }
 
     pub fn print(&self) {
@@ -91,8 +94,9 @@ impl Tally {
         println!("padded     cases: {}", self.cases_padded);
         row("", KINDS.iter().zip(self.padded).map(|(kind, count)| format!("{kind}: {count}")).collect());
         println!(
-            "compared   functions: {}  entries by number: {}  parts at a place: {}  lines: {}  words: {}  copies: {}",
-            self.functions, self.entries, self.parts, self.lines, self.words, self.copies
+            "compared   functions: {}  entries by number: {}  parts at a place: {}  lines: {}  words: {}  copies: {}  \
+             cases with a full copy of its own: {}",
+            self.functions, self.entries, self.parts, self.lines, self.words, self.copies, self.sourced
         );
     }
 }

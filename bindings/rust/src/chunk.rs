@@ -148,7 +148,7 @@ impl fmt::Debug for Chunk<'_> {
     }
 }
 
-/// Validation and the archive copy.
+/// Validation, the archive copy and the full copy.
 impl Chunk<'_> {
     /// The verdict alone.
     pub fn verdict(&self) -> Verdict {
@@ -191,6 +191,24 @@ impl Chunk<'_> {
     /// Writes the archive copy at the front of `copy`, and gives its length; what is behind it stays. Refused with 26, and nothing is written, where the space is too short.
     pub fn copy_into(&self, copy: &mut [u8]) -> Result<usize, Refusal> {
         ffi::copy(self.input.bytes, &self.input.limits, copy)
+    }
+
+    /// The length of the full copy.
+    pub fn full_copy_length(&self) -> usize {
+        let [length] = granted(ffi::full_copy_length(self.input.bytes, &self.input.limits));
+        length as usize
+    }
+
+    /// The full copy: the archive copy, with the source of every nested function that has another than the function around it.
+    pub fn full_copy(&self) -> Vec<u8> {
+        let mut copy = vec![0; self.full_copy_length()];
+        granted(self.full_copy_into(&mut copy));
+        copy
+    }
+
+    /// Writes the full copy at the front of `copy`, and gives its length; what is behind it stays. Refused with 26, and nothing is written, where the space is too short.
+    pub fn full_copy_into(&self, copy: &mut [u8]) -> Result<usize, Refusal> {
+        ffi::full_copy(self.input.bytes, &self.input.limits, copy)
     }
 }
 

@@ -32,6 +32,7 @@ calls! {
     anchor lafzimdo_anchor(function, entry) 2;
     upvalue_name lafzimdo_upvalue_name(function, entry) 3;
     copy_length lafzimdo_copy_length() 1;
+    full_copy_length lafzimdo_full_copy_length() 1;
     verdict lafzimdo_verdict() 1;
     finding_count lafzimdo_finding_count() 1;
 
@@ -67,6 +68,14 @@ extern "C" {
         out: &mut [u64; 1],
     ) -> u64;
     fn lafzimdo_copy(
+        chunk: *const u8,
+        len: usize,
+        limits: &[u64; 9],
+        copy: *mut u8,
+        copy_len: usize,
+        out: &mut [u64; 1],
+    ) -> u64;
+    fn lafzimdo_full_copy(
         chunk: *const u8,
         len: usize,
         limits: &[u64; 9],
@@ -134,6 +143,15 @@ pub(crate) fn copy(chunk: &[u8], limits: &[u64; 9], copy: &mut [u8]) -> Result<u
     let (lent, room) = (copy.as_mut_ptr(), copy.len());
     // SAFETY: as above; the copy is written into `copy`, for which this function has the only reference.
     let status = unsafe { lafzimdo_copy(chunk.as_ptr(), chunk.len(), limits, lent, room, &mut out) };
+    Refusal::of_status(status).map(|()| out[0] as usize)
+}
+
+/// The full copy's length; it is at the front of `copy`.
+pub(crate) fn full_copy(chunk: &[u8], limits: &[u64; 9], copy: &mut [u8]) -> Result<usize, Refusal> {
+    let mut out = [0; 1];
+    let (lent, room) = (copy.as_mut_ptr(), copy.len());
+    // SAFETY: as above; the copy is written into `copy`, for which this function has the only reference.
+    let status = unsafe { lafzimdo_full_copy(chunk.as_ptr(), chunk.len(), limits, lent, room, &mut out) };
     Refusal::of_status(status).map(|()| out[0] as usize)
 }
 

@@ -7,8 +7,9 @@ ghost use lib.ListN.{length};
 ghost use Rattle.format.specs.ReadChunk as format;
 ghost use Rattle.copy_full.specs.InFull.{shownFullLength, shownFull, fullWritten};
 use crate::whole::full_chunk;
+use copy::plain::begins_padded;
 use copy::plain::is_plain;
-use copy::plain::main_head;
+use copy::plain::main_upvalues;
 use copy::plain::put_plain;
 use copy::whole::CopyAnswer;
 use format::limits::ResourceLimits;
@@ -46,8 +47,7 @@ fn respell(s: &[u8], limits: ResourceLimits, out: &mut [u8]) -> CopyAnswer
 pub fn full_copy_length(s: &[u8], limits: ResourceLimits) -> CopyAnswer
     ensures { λ r. ⌜ r ≡ shownFullLength (format.read limits (now (s .entry))) ⌝ }
 {
-    let main = main_head(s, limits);
-    if !main.plain {
+    if begins_padded(s) {
         return measure(s, limits);
     }
     let judged = judge_spelling(s, limits);
@@ -70,8 +70,7 @@ pub fn full_copy(s: &[u8], limits: ResourceLimits, out: &mut [u8]) -> CopyAnswer
     ensures { λ r. ⌜ r ≡ shownFull (length (now (out .entry))) (format.read limits (now (s .entry))) ⌝ }
     ensures { λ _. ⌜ now (out .exit) ≡ fullWritten (now (out .entry)) (format.read limits (now (s .entry))) ⌝ }
 {
-    let main = main_head(s, limits);
-    if !main.plain {
+    if begins_padded(s) {
         return respell(s, limits, out);
     }
     let judged = judge_spelling(s, limits);
@@ -87,7 +86,8 @@ pub fn full_copy(s: &[u8], limits: ResourceLimits, out: &mut [u8]) -> CopyAnswer
             if out.len() < s.len() {
                 CopyAnswer::Err(Refusal::LentSpace)
             } else {
-                put_plain(s, main.upvalues, out);
+                let upvalues = main_upvalues(s, limits);
+                put_plain(s, upvalues, out);
                 CopyAnswer::Ok(s.len())
             }
         }

@@ -25,6 +25,7 @@ use Rattle.format.specs.Form.{Bytes}
 use Rattle.format.specs.Reading.{Reading, Prototype, LocalVar}
 use Rattle.format.specs.ReadChunk.{Outcome, shown, refusal, read}
 use Rattle.format.specs.Copy.{copy}
+use Rattle.format.specs.FullCopy.{fullCopy}
 use Rattle.format_spelling.specs.ReadSpelling.{spelling}
 use Rattle.read_field.specs.Shown.{optionString}
 use Rattle.read_entry.specs.Shown.{constantValue}
@@ -35,6 +36,7 @@ use Rattle.line_lookup.specs.declared.line.LineAnswer.the-variants as line-answ
 use Rattle.line_lookup.specs.Lines.{large, lineOf, shownLine}
 use Rattle.copy.specs.declared.whole.CopyAnswer.the-variants as copy-answer
 use Rattle.copy.specs.Copied.{shownLength, shownCopy, copyWritten}
+use Rattle.copy_full.specs.InFull.{shownFullLength, shownFull, fullWritten}
 use Rattle.show_chunk.specs.declared.summary.SummaryAnswer.the-variants as summary-answer
 use Rattle.show_chunk.specs.declared.fields.FieldsAnswer.the-variants as fields-answer
 use Rattle.read_chunk.specs.Decoded.{summaryOf}
@@ -120,6 +122,9 @@ module _ (L : ResourceLimits) (s : Bytes) where
     pub copy-length : Accepted L s (λ r. shownLength (read L s) ≡ copy-answer.Ok (length (copy r)))
     copy-length = whole shownLength
 
+    pub full-length : Accepted L s (λ r. shownFullLength (read L s) ≡ copy-answer.Ok (length (fullCopy r)))
+    full-length = whole shownFullLength
+
     -- `chunk_findings`, whose array has room for 10,001
     pub all-fit : Accepted L s (λ r. shownFindings 10001 (read L s) ≡ findings-answer.Ok (verdict (chunkFindings r)) (length (chunkFindings r .findings)))
     all-fit =
@@ -148,6 +153,10 @@ module _ (L : ResourceLimits) (s : Bytes) where
   pub copied : (old : Bytes) → first (forSpace L s copy (length old)) ≡ none
       → Accepted L s (λ r. (shownCopy (length old) (read L s) ≡ copy-answer.Ok (length (copy r))) × (copyWritten old (read L s) ≡ copy r ++ drop (length (copy r)) old))
   copied old = into shownCopy copyWritten copy (λ r. copy-answer.Ok (length (copy r))) (λ r. copy-answer.Err refusals.LentSpace) old (λ r. refl) (λ r. refl)
+
+  pub full-copied : (old : Bytes) → first (forSpace L s fullCopy (length old)) ≡ none
+      → Accepted L s (λ r. (shownFull (length old) (read L s) ≡ copy-answer.Ok (length (fullCopy r))) × (fullWritten old (read L s) ≡ fullCopy r ++ drop (length (fullCopy r)) old))
+  full-copied old = into shownFull fullWritten fullCopy (λ r. copy-answer.Ok (length (fullCopy r))) (λ r. copy-answer.Err refusals.LentSpace) old (λ r. refl) (λ r. refl)
 
   pub findings : (old : List Finding) → first (forSpace L s (λ r. chunkFindings r .findings) (length old)) ≡ none
       → Accepted L s (λ r. (shownFindings (length old) (read L s) ≡ findings-answer.Ok (verdict (chunkFindings r)) (length (chunkFindings r .findings)))

@@ -2,7 +2,7 @@
 -- where none holds it returns 0, and the array holds the answer. One law, and a line for each call.
 --     InC a qs             so it is of a call whose answer is a and whose conditions are qs, in 01's order
 --     law                  it is enough that the refusal in the answer is the first of the conditions
---     findings-kept        a call that refuses leaves its list as it was. (Rows, copy and name: Demand1.antt, `index-kept`, `copy-kept`, `local-kept`, of the same definitions.)
+--     findings-kept        a call that refuses leaves its list as it was. (Rows, copies and name: Demand1.antt, `index-kept`, `copy-kept`, `full-kept`, `local-kept`, of the same definitions.)
 -- (crates/c_boundary/proofs/Numbers.antt: 0 is returned nowhere else, and number and place can be got back.)
 -- Assumes nothing.
 use mathlib.Core.Path.{_≡_, refl, sym, _∙_, ap}
@@ -21,6 +21,7 @@ use Rattle.format.specs.Refusals.{reported}
 use Rattle.format.specs.Form.{Bytes}
 use Rattle.format.specs.ReadChunk.{Outcome, shown, refusal, read}
 use Rattle.format.specs.Copy.{copy}
+use Rattle.format.specs.FullCopy.{fullCopy}
 use Rattle.format_spelling.specs.ReadSpelling.{spelling}
 use Rattle.show_row.specs.Asked.{functionOf, entryOf}
 use Rattle.index.specs.declared.IndexAnswer.{IndexAnswer}
@@ -32,6 +33,7 @@ use Rattle.line_lookup.specs.Lines.{shownLine}
 use Rattle.copy.specs.declared.whole.CopyAnswer.{CopyAnswer}
 use Rattle.copy.specs.declared.whole.CopyAnswer.the-variants as copy-answer
 use Rattle.copy.specs.Copied.{shownLength, shownCopy}
+use Rattle.copy_full.specs.InFull.{shownFullLength, shownFull}
 use Rattle.show_chunk.specs.declared.summary.SummaryAnswer.{SummaryAnswer}
 use Rattle.show_chunk.specs.declared.summary.SummaryAnswer.the-variants as summary-answer
 use Rattle.show_chunk.specs.declared.fields.FieldsAnswer.{FieldsAnswer}
@@ -171,6 +173,9 @@ module _ (limits : List ℕ) (s : Bytes) where
   pub lafzimdo-copy-length : InC (ofCopy (shownLength (read L s))) (forChunk L s)
   lafzimdo-copy-length = law _ _ (of-copy (shownLength (read L s)) ∙ calls.copy-length L s)
 
+  pub lafzimdo-full-copy-length : InC (ofCopy (shownFullLength (read L s))) (forChunk L s)
+  lafzimdo-full-copy-length = law _ _ (of-copy (shownFullLength (read L s)) ∙ calls.full-length L s)
+
   pub lafzimdo-verdict : InC (ofVerdict (shownVerdict (read L s))) (forChunk L s)
   lafzimdo-verdict = law _ _ (of-verdict (shownVerdict (read L s)) ∙ calls.verdict L s)
 
@@ -182,6 +187,9 @@ module _ (limits : List ℕ) (s : Bytes) where
 
   pub lafzimdo-copy : (space : ℕ) → InC (ofCopy (shownCopy space (read L s))) (forSpace L s copy space)
   lafzimdo-copy space = law _ _ (of-copy (shownCopy space (read L s)) ∙ calls.copied L s space)
+
+  pub lafzimdo-full-copy : (space : ℕ) → InC (ofCopy (shownFull space (read L s))) (forSpace L s fullCopy space)
+  lafzimdo-full-copy space = law _ _ (of-copy (shownFull space (read L s)) ∙ calls.full-copied L s space)
 
   -- four numbers for each finding
   pub lafzimdo-findings : (list : List ℕ) → InC (ofFindings (shownFindings (length list / 4) (read L s))) (forSpace L s (λ r. chunkFindings r .findings) (length list / 4))

@@ -12,6 +12,8 @@
 --     validate_chunk_lua54    answers    shownFindings space (read L s), and leaves findingsWritten old (read L s); chunk_findings does so with a list of its own
 --     copy_length             answers    shownLength (read L s)
 --     encode_chunk_lua54      answers    shownCopy space (read L s), and leaves copyWritten old (read L s)
+--     full_copy_length        answers    shownFullLength (read L s)
+--     full_copy               answers    shownFull space (read L s), and leaves fullWritten old (read L s)
 -- and the theorems below say what these are: `shows` where the chunk is read, `refuses` where it is refused.
 -- Assumes nothing.
 use mathlib.Core.Path.{_≡_, refl, _∙_, ap}
@@ -31,6 +33,7 @@ use Rattle.format.specs.Reading.{Reading, Prototype, ConstantValue, LocalVar}
 use Rattle.format.specs.ReadFields.{string}
 use Rattle.format.specs.ReadChunk.{constant, shown, refusal, read}
 use Rattle.format.specs.Copy.{copy}
+use Rattle.format.specs.FullCopy.{fullCopy}
 use Rattle.format_spelling.specs.ReadSpelling.{spelling}
 use Rattle.format.proofs.Located.{Located, StandsIf}
 use Rattle.read_nth.proofs.Items.{many-nth}
@@ -50,6 +53,7 @@ use Rattle.line_lookup.specs.Lines.{answerOf, shownLine}
 use Rattle.index.specs.Index.{index, shownIndex, indexWritten}
 use Rattle.index.specs.declared.IndexAnswer.the-variants as index-answer
 use Rattle.copy.specs.Copied.{shownLength, shownCopy, copyWritten}
+use Rattle.copy_full.specs.InFull.{shownFullLength, shownFull, fullWritten}
 use Rattle.copy.specs.declared.whole.CopyAnswer.the-variants as copy-answer
 use Rattle.show_chunk.specs.declared.summary.SummaryAnswer.the-variants as summary-answer
 use Rattle.show_chunk.specs.declared.fields.FieldsAnswer.the-variants as fields-answer
@@ -143,6 +147,10 @@ pub record Shows (L : ResourceLimits) (s : Bytes) (r : Reading) : Type 0 where
   -- the copy is written into lent space that has room for it, and what stood behind it stays; else 26, and all that stood there stays
   pub copied : (old : Bytes) → length (copy r) ≤ length old → (shownCopy (length old) (read L s) ≡ copy-answer.Ok (length (copy r))) × (copyWritten old (read L s) ≡ copy r ++ drop (length (copy r)) old)
   pub copy-too-long : (old : Bytes) → length old < length (copy r) → (shownCopy (length old) (read L s) ≡ copy-answer.Err LentSpace) × (copyWritten old (read L s) ≡ old)
+  -- so is the full copy
+  pub full-length : shownFullLength (read L s) ≡ copy-answer.Ok (length (fullCopy r))
+  pub full-copied : (old : Bytes) → length (fullCopy r) ≤ length old → (shownFull (length old) (read L s) ≡ copy-answer.Ok (length (fullCopy r))) × (fullWritten old (read L s) ≡ fullCopy r ++ drop (length (fullCopy r)) old)
+  pub full-too-long : (old : Bytes) → length old < length (fullCopy r) → (shownFull (length old) (read L s) ≡ copy-answer.Err LentSpace) × (fullWritten old (read L s) ≡ old)
 
 -- the array of `chunk_findings` is as long as there can be findings
 array-length : length blankList ≡ LONGEST
@@ -207,6 +215,9 @@ module _ (L : ResourceLimits) (s : Bytes) (r : Reading) (is : read L s ≡ shown
     copy-length = ap shownLength is;
     copied = λ old room. let test = le-leb (length (copy r)) (length old) room in (ap (shownCopy (length old)) is ∙ rw test, ap (copyWritten old) is ∙ rw test);
     copy-too-long = λ old short. let test = lt-leb (length (copy r)) (length old) short in (ap (shownCopy (length old)) is ∙ rw test, ap (copyWritten old) is ∙ rw test);
+    full-length = ap shownFullLength is;
+    full-copied = λ old room. let test = le-leb (length (fullCopy r)) (length old) room in (ap (shownFull (length old)) is ∙ rw test, ap (fullWritten old) is ∙ rw test);
+    full-too-long = λ old short. let test = lt-leb (length (fullCopy r)) (length old) short in (ap (shownFull (length old)) is ∙ rw test, ap (fullWritten old) is ∙ rw test);
   }
 
 -- ## A chunk that is refused: every call answers with the same refusal, and lent memory stays as it was
@@ -221,6 +232,8 @@ pub record Refuses (L : ResourceLimits) (s : Bytes) (q : Refusal) : Type 0 where
   pub finding-array : (shownFindings LONGEST (read L s) ≡ findings-answer.Err q) × (findingsWritten blankList (read L s) ≡ blankList)
   pub copy-length : shownLength (read L s) ≡ copy-answer.Err q
   pub copied : (old : Bytes) → (shownCopy (length old) (read L s) ≡ copy-answer.Err q) × (copyWritten old (read L s) ≡ old)
+  pub full-length : shownFullLength (read L s) ≡ copy-answer.Err q
+  pub full-copied : (old : Bytes) → (shownFull (length old) (read L s) ≡ copy-answer.Err q) × (fullWritten old (read L s) ≡ old)
 
 pub refuses : (L : ResourceLimits) (s : Bytes) (q : Refusal) → read L s ≡ refusal q → Refuses L s q
 refuses L s q is = record {
@@ -234,4 +247,6 @@ refuses L s q is = record {
   finding-array = (ap (shownFindings LONGEST) is, ap (findingsWritten blankList) is);
   copy-length = ap shownLength is;
   copied = λ old. (ap (shownCopy (length old)) is, ap (copyWritten old) is);
+  full-length = ap shownFullLength is;
+  full-copied = λ old. (ap (shownFull (length old)) is, ap (fullWritten old) is);
 }

@@ -1,6 +1,6 @@
 -- `Shows` and `Refuses` (`Calls.antt`) leave no call out: whatever two chunks show one reading, or are refused for one reason, every call answers alike on both (the summary but for its count of padded
 -- numbers, which is no part of the reading), whatever is asked of it and whatever space it is lent.
---     RestAlike            the calls that `AnswerAlike` (`Alike.antt`) does not name: lines, the index, verdict and findings, the copy
+--     RestAlike            the calls that `AnswerAlike` (`Alike.antt`) does not name: lines, the index, verdict and findings, the copy, the full copy
 --     shown-alike          both show the same reading
 --     refused-alike        both are refused for the same reason
 -- Refused: a `Shows` or `Refuses` that lacks a call, or says of lent space only what happens where there is room.
@@ -20,6 +20,7 @@ use Rattle.format.specs.Form.{Bytes}
 use Rattle.format.specs.Reading.{Reading, Prototype}
 use Rattle.format.specs.ReadChunk.{read}
 use Rattle.format.specs.Copy.{copy}
+use Rattle.format.specs.FullCopy.{fullCopy}
 use Rattle.show_row.specs.Asked.{functionOf, entryOf}
 use Rattle.validate_rules.specs.declared.finding.Finding.{Finding}
 use Rattle.validate_rules.specs.Findings.{chunkFindings}
@@ -29,6 +30,7 @@ use Rattle.validate_findings.specs.Blank.{LONGEST, blankList}
 use Rattle.line_lookup.specs.Lines.{shownLine}
 use Rattle.index.specs.Index.{index, shownIndex, indexWritten}
 use Rattle.copy.specs.Copied.{shownLength, shownCopy, copyWritten}
+use Rattle.copy_full.specs.InFull.{shownFullLength, shownFull, fullWritten}
 use Rattle.show_local.specs.Locals.{shownLocal, nameWritten}
 use Rattle.demands.proofs.Calls.{ShowsFunction, RefusesFunction, Shows, Refuses}
 use Rattle.demands.proofs.Alike.{withoutCount, sourceShown, constantShown, nameShown, AnswerAlike, IndexAlike}
@@ -43,6 +45,8 @@ pub record RestAlike (L : ResourceLimits) (s : Bytes) (M : ResourceLimits) (t : 
   pub finding-array : (shownFindings LONGEST (read L s) ≡ shownFindings LONGEST (read M t)) × (findingsWritten blankList (read L s) ≡ findingsWritten blankList (read M t))
   pub copy-length : shownLength (read L s) ≡ shownLength (read M t)
   pub copied : (old : Bytes) → (shownCopy (length old) (read L s) ≡ shownCopy (length old) (read M t)) × (copyWritten old (read L s) ≡ copyWritten old (read M t))
+  pub full-length : shownFullLength (read L s) ≡ shownFullLength (read M t)
+  pub full-copied : (old : Bytes) → (shownFull (length old) (read L s) ≡ shownFull (length old) (read M t)) × (fullWritten old (read L s) ≡ fullWritten old (read M t))
 
 -- what is one thing on both sides: an answer, or an answer with what is left in lent space
 via : {A : Type 0} {x y z : A} → x ≡ z → y ≡ z → x ≡ y
@@ -115,6 +119,8 @@ module _ (L M : ResourceLimits) (s t : Bytes) where
         finding-array = both (x .finding-array) (y .finding-array);
         copy-length = via (x .copy-length) (y .copy-length);
         copied = λ old. room (length (copy r)) (length old) (λ fits. both (x .copied old fits) (y .copied old fits)) (λ short. both (x .copy-too-long old short) (y .copy-too-long old short));
+        full-length = via (x .full-length) (y .full-length);
+        full-copied = λ old. room (length (fullCopy r)) (length old) (λ fits. both (x .full-copied old fits) (y .full-copied old fits)) (λ short. both (x .full-too-long old short) (y .full-too-long old short));
       },
     )
 
@@ -147,5 +153,7 @@ module _ (L M : ResourceLimits) (s t : Bytes) where
         finding-array = both (x .finding-array) (y .finding-array);
         copy-length = via (x .copy-length) (y .copy-length);
         copied = λ old. both (x .copied old) (y .copied old);
+        full-length = via (x .full-length) (y .full-length);
+        full-copied = λ old. both (x .full-copied old) (y .full-copied old);
       },
     )

@@ -32,13 +32,15 @@ use Rattle.format.specs.GrammarChunk.{Loaded}
 use Rattle.format.specs.Read.{Read, ok, refused}
 use Rattle.format.specs.ReadChunk.{Outcome, shown, refusal, main, outcome, read}
 use Rattle.format.specs.Copy.{copy}
+use Rattle.format.specs.FullCopy.{fullCopy}
 use Rattle.format_spelling.specs.ReadSpelling.{spelling}
 use Rattle.show_row.specs.Asked.{Asked, found, orRefuse, functionOf, entryIn, entryOf}
 use Rattle.show_row.specs.Asked as asked
 use Rattle.index.specs.Index.{index, shownIndex, indexWritten}
 use Rattle.line_lookup.specs.declared.line.LineAnswer.the-variants as line-answer
 use Rattle.line_lookup.specs.Lines.{large, shownLine}
-use Rattle.copy.specs.Copied.{shownLength, shownCopy, copyWritten}
+use Rattle.copy.specs.Copied.{shownBy, writtenBy, shownLength, shownCopy, copyWritten}
+use Rattle.copy_full.specs.InFull.{shownFullLength, shownFull, fullWritten}
 use Rattle.show_chunk.specs.Summaries.{shownSummary, trailingOf}
 use Rattle.show_chunk.specs.Fields.{shownFields}
 use Rattle.show_entry.specs.Entries.{shownWord, shownConstant, shownUpvalue, shownDelta, shownAnchor, shownName}
@@ -156,7 +158,7 @@ module _ (L : ResourceLimits) (s : Bytes) where
     entry = of-function (read L s) ∙ order _
 
   -- ## The calls
-  -- chunk_summary, chunk_verdict, finding_count, copy_length: 21, 22, 1 to 20
+  -- chunk_summary, chunk_verdict, finding_count, copy_length, full_copy_length: 21, 22, 1 to 20
   pub summary : inSummary (shownSummary (spelling L s) (read L s)) ≡ first (forChunk L s)
   summary = whole-chunk (shownSummary (spelling L s)) inSummary (λ r. refl) (λ q. refl)
 
@@ -169,6 +171,9 @@ module _ (L : ResourceLimits) (s : Bytes) where
   pub copy-length : inCopy (shownLength (read L s)) ≡ first (forChunk L s)
   copy-length = whole-chunk shownLength inCopy (λ r. refl) (λ q. refl)
 
+  pub full-length : inCopy (shownFullLength (read L s)) ≡ first (forChunk L s)
+  full-length = whole-chunk shownFullLength inCopy (λ r. refl) (λ q. refl)
+
   -- trailing_bytes, where one of these is met
   pub no-trailing : (q : Report) → first (forChunk L s) ≡ some q → trailingOf (read L s) ≡ []
   no-trailing q e = go (read L s) (summary ∙ e)
@@ -177,12 +182,16 @@ module _ (L : ResourceLimits) (s : Bytes) where
       go (shown r) e = never e
       go (refusal q) e = refl
 
-  -- function_index, encode_chunk_lua54, validate_chunk_lua54: then 26
+  -- function_index, encode_chunk_lua54, full_copy, validate_chunk_lua54: then 26
   pub index-rows : (space : ℕ) → inIndex (shownIndex space (read L s)) ≡ first (forSpace L s (λ r. index (r .functions)) space)
   index-rows space = into-space shownIndex (λ r. index (r .functions)) inIndex space (λ r. by-room inIndex _ _ refl (leb (length (index (r .functions))) space) refl) (λ q. refl)
 
   pub copied : (space : ℕ) → inCopy (shownCopy space (read L s)) ≡ first (forSpace L s copy space)
   copied space = into-space shownCopy copy inCopy space (λ r. by-room inCopy _ _ refl (leb (length (copy r)) space) refl) (λ q. refl)
+
+  -- by the full copy's length
+  pub full-copied : (space : ℕ) → inCopy (shownFull space (read L s)) ≡ first (forSpace L s fullCopy space)
+  full-copied space = into-space shownFull fullCopy inCopy space (λ r. by-room inCopy _ _ refl (leb (length (fullCopy r)) space) refl) (λ q. refl)
 
   pub findings : (space : ℕ) → inFindings (shownFindings space (read L s)) ≡ first (forSpace L s (λ r. chunkFindings r .findings) space)
   findings space = into-space shownFindings (λ r. chunkFindings r .findings) inFindings space (λ r. by-room inFindings _ _ refl (leb (length (chunkFindings r .findings)) space) refl) (λ q. refl)
@@ -266,9 +275,16 @@ pub index-kept : (old : List ℕ) (o : Outcome) (q : Report) → inIndex (shownI
 index-kept old (shown r) q e = room-kept inIndex _ _ refl (leb (length (index (r .functions))) (length old)) (index (r .functions) ++ drop (length (index (r .functions))) old) old q e
 index-kept old (refusal p) q e = refl
 
+-- whatever the copy of a reading is
+copied-kept : (copied : Reading → Bytes) (old : Bytes) (o : Outcome) (q : Report) → inCopy (shownBy copied (length old) o) ≡ some q → writtenBy copied old o ≡ old
+copied-kept copied old (shown r) q e = room-kept inCopy _ _ refl (leb (length (copied r)) (length old)) (copied r ++ drop (length (copied r)) old) old q e
+copied-kept copied old (refusal p) q e = refl
+
 pub copy-kept : (old : Bytes) (o : Outcome) (q : Report) → inCopy (shownCopy (length old) o) ≡ some q → copyWritten old o ≡ old
-copy-kept old (shown r) q e = room-kept inCopy _ _ refl (leb (length (copy r)) (length old)) (copy r ++ drop (length (copy r)) old) old q e
-copy-kept old (refusal p) q e = refl
+copy-kept = copied-kept copy
+
+pub full-kept : (old : Bytes) (o : Outcome) (q : Report) → inCopy (shownFull (length old) o) ≡ some q → fullWritten old o ≡ old
+full-kept = copied-kept fullCopy
 
 pub findings-kept : (old : List Finding) (o : Outcome) (q : Report) → inFindings (shownFindings (length old) o) ≡ some q → findingsWritten old o ≡ old
 findings-kept old (shown r) q e =

@@ -40,6 +40,7 @@ use Rattle.show_chunk.specs.Fields.{shownFields}
 use Rattle.show_entry.specs.Entries.{shownWord, shownConstant, shownUpvalue, shownDelta, shownAnchor, shownName}
 use Rattle.show_local.specs.Locals.{shownLocal, nameWritten}
 use Rattle.copy.specs.Copied.{shownLength, shownCopy, copyWritten}
+use Rattle.copy_full.specs.InFull.{shownFullLength, shownFull, fullWritten}
 use Rattle.validate_rules.specs.declared.finding.Finding.{Finding}
 use Rattle.validate_rules.specs.Findings.{Listing, chunkFindings, verdict}
 use Rattle.validate_rules.specs.Rust as rust
@@ -73,6 +74,8 @@ use Rattle.index.proofs.function_index as function-index-call
 use Rattle.line_lookup.proofs.line.get_line_for_pc as get-line-for-pc-call
 use Rattle.copy.proofs.copy_length as copy-length-call
 use Rattle.copy.proofs.encode_chunk_lua54 as encode-chunk-lua54-call
+use Rattle.copy_full.proofs.full_copy_length as full-copy-length-call
+use Rattle.copy_full.proofs.full_copy as full-copy-call
 use Rattle.validate_verdict.proofs.verdict.chunk_verdict as chunk-verdict-call
 use Rattle.validate_verdict.proofs.verdict.finding_count as finding-count-call
 use Rattle.validate_findings.proofs.validate_chunk_lua54 as validate-chunk-lua54-call
@@ -164,6 +167,18 @@ pub encode-chunk-lua54 : Promise encode-chunk-lua54-call.ended encode-chunk-lua5
     ∷ (now out′ ≡ copyWritten (now out) (read limits (now chunk)))
     ∷ [])
 encode-chunk-lua54 _ = encode-chunk-lua54-call.Met.met
+
+-- ## The full copy. (The Rust has none: `Request06.antt`.) Compared with one that is made of what the Rust decodes (compare/src/full.rs).
+pub full-copy-length : Promise full-copy-length-call.ended full-copy-length-call.Symbol.routine (λ _ chunk limits r.
+    (r ≡ shownFullLength (read limits (now chunk)))
+    ∷ [])
+full-copy-length _ = full-copy-length-call.Met.met
+
+pub full-copy : Promise full-copy-call.ended full-copy-call.Symbol.routine (λ _ chunk limits out out′ r.
+    (r ≡ shownFull (length (now out)) (read limits (now chunk)))
+    ∷ (now out′ ≡ fullWritten (now out) (read limits (now chunk)))
+    ∷ [])
+full-copy _ = full-copy-call.Met.met
 
 -- ## Validation: the verdict, the number of findings, and the findings in a lent list. Compared: 5,488 chunks and 31 requests for a verdict alone (crates/vectors); the lent list on 5,534 chunks (oracle/findings).
 pub chunk-verdict : Promise chunk-verdict-call.ended chunk-verdict-call.Symbol.routine (λ _ chunk limits r.

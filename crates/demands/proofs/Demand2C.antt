@@ -19,6 +19,7 @@ use Rattle.show_chunk.specs.Fields.{shownFields}
 use Rattle.show_entry.specs.Entries.{shownWord, shownConstant, shownUpvalue, shownDelta, shownAnchor, shownName}
 use Rattle.show_local.specs.Locals.{shownLocal, nameWritten}
 use Rattle.copy.specs.Copied.{shownLength, shownCopy, copyWritten}
+use Rattle.copy_full.specs.InFull.{shownFullLength, shownFull, fullWritten}
 use Rattle.validate_verdict.specs.Answers.{shownVerdict, shownCount}
 use Rattle.validate_plan.specs.Validated.{shownFindings}
 use Rattle.word_fields.specs.Word.{decoded, encoded}
@@ -43,6 +44,8 @@ use Rattle.lafzimdo.proofs.space.lafzimdo_index as index-call
 use Rattle.lafzimdo.proofs.function.lafzimdo_line as line-call
 use Rattle.lafzimdo.proofs.whole.lafzimdo_copy_length as copy-length-call
 use Rattle.lafzimdo.proofs.space.lafzimdo_copy as copy-call
+use Rattle.lafzimdo.proofs.full.lafzimdo_full_copy_length as full-copy-length-call
+use Rattle.lafzimdo.proofs.full.lafzimdo_full_copy as full-copy-call
 use Rattle.lafzimdo.proofs.whole.lafzimdo_verdict as verdict-call
 use Rattle.lafzimdo.proofs.whole.lafzimdo_finding_count as finding-count-call
 use Rattle.lafzimdo.proofs.finding.lafzimdo_findings as findings-call
@@ -115,7 +118,7 @@ pub line : Promise line-call.ended line-call.Symbol.routine (λ _ chunk limits f
     Answered r out out′ (ofLine (shownLine pc (functionOf function (readIn limits chunk)))))
 line _ = line-call.Met.met
 
--- ## The archive copy, and validation. A finding takes four numbers of its list
+-- ## The archive copy, the full copy, and validation. A finding takes four numbers of its list
 pub copy-length : Promise copy-length-call.ended copy-length-call.Symbol.routine (λ _ chunk limits out out′ r.
     Answered r out out′ (ofCopy (shownLength (readIn limits chunk))))
 copy-length _ = copy-length-call.Met.met
@@ -125,6 +128,16 @@ pub copy : Promise copy-call.ended copy-call.Symbol.routine (λ _ chunk limits c
     ++ (now copy′ ≡ copyWritten (now copy) (readIn limits chunk))
     ∷ [])
 copy _ = copy-call.Met.met
+
+pub full-copy-length : Promise full-copy-length-call.ended full-copy-length-call.Symbol.routine (λ _ chunk limits out out′ r.
+    Answered r out out′ (ofCopy (shownFullLength (readIn limits chunk))))
+full-copy-length _ = full-copy-length-call.Met.met
+
+pub full-copy : Promise full-copy-call.ended full-copy-call.Symbol.routine (λ _ chunk limits copy copy′ out out′ r.
+    Answered r out out′ (ofCopy (shownFull (length (now copy)) (readIn limits chunk)))
+    ++ (now copy′ ≡ fullWritten (now copy) (readIn limits chunk))
+    ∷ [])
+full-copy _ = full-copy-call.Met.met
 
 pub verdict : Promise verdict-call.ended verdict-call.Symbol.routine (λ _ chunk limits out out′ r.
     Answered r out out′ (ofVerdict (shownVerdict (readIn limits chunk))))

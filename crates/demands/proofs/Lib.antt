@@ -39,3 +39,6 @@ pub mod Request01
 pub mod AfterCounts
 pub mod Request02
 pub mod Request04
+pub mod SameInFull
+pub mod Inherits
+pub mod Request06

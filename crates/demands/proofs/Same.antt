@@ -106,18 +106,18 @@ every-main L = every-then every-header λ headed fixed. every-then any λ _ _. e
 pub header-fixed : (L : ResourceLimits) (s : Bytes) (r : Reading) → Chunk L s r → r .header ≡ headerOf (r .header .format)
 header-fixed L s r c = rw (← ap (λ x. x .header) (c .shows)) (every-main L .holds 0 (c .front) (c .value) (c .main))
 
-same-header : (h k : declared.Header) → Fixed h → Fixed k → SameHeader h k
+pub same-header : (h k : declared.Header) → Fixed h → Fixed k → SameHeader h k
 same-header h k p q = rw (p, q) (record { version = refl; instruction-size = refl; lua-integer-size = refl; sizeof-sizet = refl; lua-number-size = refl; luac-int = refl; luac-num = refl })
 
 -- ## What is kept, and back
 module _ {A : Type 0} (R : A → A → Type 0) (plainly : A → A) where
-  to-pairs : ((x y : A) → plainly x ≡ plainly y → R x y) → (xs ys : List A) → map plainly xs ≡ map plainly ys → Pairwise R xs ys
+  pub to-pairs : ((x y : A) → plainly x ≡ plainly y → R x y) → (xs ys : List A) → map plainly xs ≡ map plainly ys → Pairwise R xs ys
   to-pairs one [] [] e = tt
   to-pairs one [] (y ∷ ys) e = let z : _≡_ {A = ℕ} 0 1 = cc in absurd (omega arith)
   to-pairs one (x ∷ xs) [] e = let z : _≡_ {A = ℕ} 0 1 = cc in absurd (omega arith)
   to-pairs one (x ∷ xs) (y ∷ ys) e = (one x y (cc), to-pairs one xs ys (cc))
 
-  from-pairs : ((x y : A) → R x y → plainly x ≡ plainly y) → (xs ys : List A) → Pairwise R xs ys → map plainly xs ≡ map plainly ys
+  pub from-pairs : ((x y : A) → R x y → plainly x ≡ plainly y) → (xs ys : List A) → Pairwise R xs ys → map plainly xs ≡ map plainly ys
   from-pairs one [] [] e = refl
   from-pairs one [] (y ∷ ys) e = absurd e
   from-pairs one (x ∷ xs) [] e = absurd e
@@ -132,10 +132,10 @@ option-of : (t u : Option LuaString) → SameOption (Option·map keptString t) u
 option-of none u h = h
 option-of (some t) u h = record { string = h .string; is = h .is; bytes = h .bytes }
 
-to-option : (t u : Option LuaString) → Option·map keptString t ≡ Option·map keptString u → SameOption t u
+pub to-option : (t u : Option LuaString) → Option·map keptString t ≡ Option·map keptString u → SameOption t u
 to-option t u e = option-of t u (rw e (option-self u))
 
-from-option : (t u : Option LuaString) → SameOption t u → Option·map keptString t ≡ Option·map keptString u
+pub from-option : (t u : Option LuaString) → SameOption t u → Option·map keptString t ≡ Option·map keptString u
 from-option none u h = rw h
 from-option (some t) u h = rw (h .is, h .bytes)
 
@@ -175,7 +175,7 @@ from-local : (l m : LocalVar) → SameLocal l m → keptLocal l ≡ keptLocal m
 from-local l m h = rw (h .name, h .startpc, h .endpc)
 
 -- a function
-to-function : (a b : Option LuaString) (p q : Prototype) → keptFunction a p ≡ keptFunction b q → SameFunction p q
+pub to-function : (a b : Option LuaString) (p q : Prototype) → keptFunction a p ≡ keptFunction b q → SameFunction p q
 to-function a b p q e = record {
   depth = ap (λ x. x .depth) e;
   parent = ap (λ x. x .parent) e;
@@ -194,7 +194,7 @@ to-function a b p q e = record {
   upvalue-names = to-pairs SameOption (Option·map keptString) to-option (p .upvalue-names) (q .upvalue-names) (ap (λ x. x .upvalue-names) e);
 }
 
-from-function : (a b : Option LuaString) (p q : Prototype) → a ≡ b → SameFunction p q → keptFunction a p ≡ keptFunction b q
+pub from-function : (a b : Option LuaString) (p q : Prototype) → a ≡ b → SameFunction p q → keptFunction a p ≡ keptFunction b q
 from-function a b p q s h =
     let constants = from-pairs SameConstant keptConstant from-constant (p .constants) (q .constants) (h .constants) in
     let locals = from-pairs SameLocal keptLocal from-local (p .loc-vars) (q .loc-vars) (h .loc-vars) in

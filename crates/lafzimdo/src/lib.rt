@@ -2,6 +2,7 @@
 // 0, or a refusal as one number (crates/c_boundary/specs/Status.antt); the array is then as it was. include/lafzimdo.h says what each array holds.
 pub mod entry;
 pub mod finding;
+pub mod full;
 pub mod function;
 pub mod part;
 pub mod space;

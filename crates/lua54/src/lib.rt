@@ -51,10 +51,12 @@ pub use show_entry::upvalue_name;
 pub use show_local::LocalAnswer;
 pub use show_local::local;
 
-// The archive copy.
+// The archive copy; the full copy.
 pub use copy::copy_length;
 pub use copy::encode_chunk_lua54;
 pub use copy::whole::CopyAnswer;
+pub use copy_full::full_copy;
+pub use copy_full::full_copy_length;
 
 // Validation.
 pub use validate_findings::array::FindingArray;

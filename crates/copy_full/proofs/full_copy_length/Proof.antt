@@ -11,14 +11,14 @@ use Rattle.copy_full.proofs.full_copy_length.Tie as tie
 returns-3 : tie.Need-returns-3
 returns-3 c =
     let j = c .before .before .before in
-    let a = j .before .before .before .before .before .args in
+    let a = j .before .before .before .before .args in
     full-refused _ (read (a .limits) (a .s .now)) _ (sym (c .before .judged .given .1) ∙ j .judge-spelling .ensures)
 
 returns-4 : tie.Need-returns-4
 returns-4 c =
     let m = c .before .before .before in
     let j = m .before .before in
-    let b = j .before .before .before .before in
+    let b = j .before .before .before in
     let a = b .before .args in
     full-answer (a .s .now) (a .limits) (all-bytes (a .s .now) (λ i h. b .shared-slice-known .given i .fits)) (m .judged2 .given .0 .0) (m .judged2 .given .0 .1 .0) (sym (m .judged2 .given .1) ∙ j .judge-spelling .ensures)
     (sym (c .before .is-plain .ensures) ∙ not-false _ (c .if2 .left))

@@ -1,4 +1,4 @@
-//! `copy`: the archive copy, of one file or of many into a folder.
+//! `copy`: the archive copy or the full copy, of one file or of many into a folder.
 use crate::command::{Asked, Choice, Command};
 use crate::file::Input;
 use crate::files;
@@ -13,20 +13,23 @@ use std::process;
 pub const COMMAND: Command = Command {
     name: "copy",
     operands: "FILE OUT, or with --into FILE...",
-    short: "writes the archive copy of the chunk to OUT, or of many into a folder",
+    short: "writes the archive copy of the chunk to OUT, or its full copy, or of many into a folder",
     long: "\
 The archive copy spells what was read in one way: format 0, numbers in their shortest form, a source only
 in the main function. Trailing bytes are kept. OUT is - for standard output.
+The full copy is spelt so too, but keeps the source of every nested function that has another than the
+function around it, as scripts joined from a library have: error messages go on to name it.
 A file that exists is kept unless --force is given, and then it is replaced as a whole: a chunk that is
 refused, or a full disk, leaves it as it was.
 With --into each file's copy gets its name in the folder, which must be there; a line a file tells what came
 of it. Of two files with one name only the first is copied.
 ",
-    options: &[FORCE, INTO, QUIET, files::FROM],
+    options: &[FORCE, FULL, INTO, QUIET, files::FROM],
     run,
 };
 
 const FORCE: Choice = Choice { short: "-f", long: "--force", value: "", text: "overwrite what exists" };
+const FULL: Choice = Choice { short: "", long: "--full", value: "", text: "write the full copy" };
 const INTO: Choice = Choice { short: "", long: "--into", value: "DIR", text: "copy each FILE into this folder" };
 const QUIET: Choice =
     Choice { short: "-q", long: "--quiet", value: "", text: "with --into: no line for a file that was copied" };
@@ -41,7 +44,7 @@ fn run(asked: &Asked) -> Result<u8, Trouble> {
     if asked.has(files::FROM.long) {
         return Err(Trouble::Usage(format!("{} needs {}", files::FROM.long, INTO.long)));
     }
-    let copy = copy_of(&asked.input(name))?;
+    let copy = copy_of(asked, &asked.input(name))?;
     if out == OsStr::new("-") {
         let mut stdout = io::stdout().lock();
         printed(stdout.write_all(&copy).and_then(|()| stdout.flush()))?;
@@ -51,10 +54,11 @@ fn run(asked: &Asked) -> Result<u8, Trouble> {
     Ok(0)
 }
 
-/// The copy of a file.
-fn copy_of(input: &Input) -> Result<Vec<u8>, Trouble> {
+/// The copy of a file, the archive copy or the full one.
+fn copy_of(asked: &Asked, input: &Input) -> Result<Vec<u8>, Trouble> {
     let bytes = input.bytes()?;
-    Ok(input.chunk(&bytes)?.copy())
+    let chunk = input.chunk(&bytes)?;
+    Ok(if asked.has(FULL.long) { chunk.full_copy() } else { chunk.copy() })
 }
 
 /// Each file into a folder.
@@ -81,7 +85,7 @@ fn one_into(asked: &Asked, folder: &Path, input: &Input, taken: &mut BTreeSet<Os
     if taken.contains(name) {
         return Err(trouble(io::Error::other("another file of that name was copied before")));
     }
-    let (copy, out) = (copy_of(input)?, folder.join(name));
+    let (copy, out) = (copy_of(asked, input)?, folder.join(name));
     let written = write(out.as_os_str(), &copy, asked.has(FORCE.long));
     written.map_err(|error| trouble(io::Error::new(error.kind(), format!("{}: {error}", out.display()))))?;
     taken.insert(name.into());

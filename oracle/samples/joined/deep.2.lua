@@ -1,0 +1,5 @@
+print(outer(1)(2)(3))
+print(pcall(outer(1)(2), {}))
+local here = debug.getinfo(1, "S")
+print(here.source, here.short_src, here.what)
+print(outer(1)(nil)(2))

@@ -1,0 +1,5 @@
+print(whose(1))
+print(whose(2))
+print(theirs())
+print((select(2, pcall(error, "with a place", 2))))
+error("named here")

@@ -1,0 +1,5 @@
+print(step(2), step(3))
+local ok, what = pcall(step, 1)
+print(ok, type(what), what.code)
+print(pcall(step, "x"))
+step(nil)

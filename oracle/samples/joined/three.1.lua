@@ -1,0 +1,1 @@
+function first(f, ...) return f(...) end
