@@ -311,9 +311,16 @@ class Chunk:
 
     def copy(self):
         """The archive copy: the same for every spelling of one script."""
-        room = self._call("copy_length")[0]
+        return self._copied("copy")
+
+    def full_copy(self):
+        """The same, with the source of every nested function that has another than the function around it."""
+        return self._copied("full_copy")
+
+    def _copied(self, call):
+        room = self._call(call + "_length")[0]
         copied = (ctypes.c_uint8 * max(room, 1))()
-        return bytes(copied[:self._call("copy", copied, room)[0]])
+        return bytes(copied[:self._call(call, copied, room)[0]])
 
     # ---- Single questions by numbers: a pass over the chunk each
 
