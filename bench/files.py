@@ -2,11 +2,11 @@
 # Writes the files that are measured into a folder: the same bytes in every run (those of `real` as far as luac5.4 is the same).
 # A file is a set of chunks, each behind its length in eight bytes: one chunk, but for `samples`.
 #
-#   samples     what luac made of oracle/samples, plain and stripped
+#   samples     what luac made of oracle/samples, plain and stripped, but for what nests too deep
 #   real-M      the sample scripts bundled again and again, every copy with names of its own, compiled by luac5.4
 #   large-M     main and eight functions that share the file
 #   tiny-M      as many functions of 14 or 18 bytes as there is room for: above a million in 16 MB
-#   nested-M    201 functions within each other, 200 deep
+#   nested-M    as many functions within each other as there may be
 #   findings-16 as large-16, with 10,001 findings spread evenly, so that validation stops at the very end
 #   padded-16   as real-16, every number behind a zero group: no number is spelt as in its copy
 #
@@ -21,6 +21,7 @@ sys.dont_write_bytecode = True
 ORACLE = Path(__file__).parent.parent / "oracle"
 sys.path.insert(0, str(ORACLE))
 
+from kept.ask import CEILINGS
 from kept.build import HEADER, number
 from kept.parse import Reader
 from kept.real import compiled
@@ -30,8 +31,10 @@ SIZES = (1, 2, 4, 8, 16)
 
 # ---- what luac makes
 
-# Not in a bundle: it begins with a line that only a file may begin with.
-NO_MODULE = ("hash_line",)
+# Not in a bundle: one begins with a line that only a file may begin with, and two would nest too deep in it.
+NO_MODULE = ("hash_line", "deep_functions", "deepest_functions")
+# Nests too deep to be read.
+REFUSED = ("deep_functions",)
 KEPT_WORDS = set("break const close elseif false function local repeat return until while".split())
 
 
@@ -186,7 +189,7 @@ def large(size, wrong=lambda k, count: {}):
     return chunk(maker.function(share, inner, string(b"@large.lua")))
 
 
-LEVELS = 201
+LEVELS = CEILINGS["max_nesting_depth"] + 1
 
 
 def nested(size):
@@ -249,7 +252,7 @@ def bundled(make):
 def main():
     folder = Path(sys.argv[1])
     folder.mkdir(parents=True, exist_ok=True)
-    write(folder, "samples", list(compiled().values()))
+    write(folder, "samples", [data for (name, _), data in compiled().items() if name not in REFUSED])
     for mb in SIZES:
         size = mb * MB
         write(folder, f"real-{mb}", [sized(bundled(luac), size)])

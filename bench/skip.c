@@ -3,6 +3,8 @@
  * Where it is asked to it also tests every instruction as the verdict does, in the same pass. */
 #include "skip.h"
 
+#include "../include/lafzimdo.h"
+
 #include <string.h>
 
 #define MOST_FINDINGS 10000
@@ -16,7 +18,7 @@ struct state {
     struct tested *tested; /* NULL: instructions are passed over */
 };
 
-static const uint64_t ceilings[9] = {16777216, 200, 16777216, 16777216, 16777216, 16777216, 16777216, 16777216, 10000};
+static const uint64_t ceilings[9] = LAFZIMDO_CEILINGS;
 
 /* Each of these returns 0 where the chunk is refused. */
 

@@ -7,9 +7,10 @@ from pathlib import Path
 sys.dont_write_bytecode = True
 sys.path.insert(0, str(Path(__file__).resolve().parent.parent / "oracle"))
 
+from kept.ask import CEILINGS
 from kept.stored import requests
 
-CEILINGS = [16777216, 200] + [16777216] * 6 + [10000]
+LIMITS = list(CEILINGS.values())
 LONGEST = 2000
 NO_LIMIT = bytes([9, 0])
 
@@ -21,6 +22,6 @@ for request in requests(lines.read_text()):
     chunk = bytes.fromhex(request.chunk.strip("-"))
     if len(chunk) > LONGEST:
         continue
-    other = [(which, int(limit)) for which, limit in enumerate(request.limits.split(" ")) if int(limit) != CEILINGS[which]]
+    other = [(which, int(limit)) for which, limit in enumerate(request.limits.split(" ")) if int(limit) != LIMITS[which]]
     first = bytes(other[0]) if other and other[0][1] < 240 else NO_LIMIT
     (folder / hashlib.sha1(first + chunk).hexdigest()).write_bytes(first + chunk)

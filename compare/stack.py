@@ -1,6 +1,6 @@
 #!/usr/bin/env python3
 # Measures the stack that each call of include/lafzimdo.h takes on functions nested to the ceiling, and that the program chunklist takes where it is built:
-#     compare/stack.py            a table; exit status 1 where a call takes more for a level than it may, or more than the header says
+#     compare/stack.py            a table; exit status 1 where a call takes more than it may, for a level or in all, or more than the header says
 #     compare/stack.py header     the same, and writes what was measured into the header's line
 # Every declaration of the header is measured; one that cannot be called from what is known here is a failure. Needs `rt staticlib lafzimdo` (or a library in
 # the folder LAFZIMDO_LIB) and a C compiler.
@@ -18,10 +18,12 @@ out = top / "target/compare"
 library = pathlib.Path(os.environ.get("LAFZIMDO_LIB", top / "target/staticlib")) / "liblafzimdo.a"
 program = top / "target/bin/chunklist"
 
-CEILING = 200
+# The second of the header's ceilings is that of nesting.
+CEILING = int(re.search(r"#define LAFZIMDO_CEILINGS \{\d+, (\d+),", header.read_text())[1])
 HALF = CEILING // 2
-# Bytes for a level of nesting: of a call that copies, of any other.
+# Bytes for a level of nesting: of a call that copies, of any other. And bytes in all.
 COPYING, OTHER = 1024, 512
+IN_ALL = 24_000
 
 # ---- the chunk
 
@@ -171,9 +173,10 @@ def main():
     failed = False
     print(f"| call | bytes for a level | bytes on {CEILING} levels | |\n|---|--:|--:|---|")
     for call, level, total in rows:
-        may = COPYING if "copy" in call else OTHER
-        failed |= level > may
-        print(f"| {call} | {level} | {total} | {f'above {may}' if level > may else ''} |")
+        may = [COPYING if "copy" in call else OTHER, IN_ALL if call in full else total]
+        above = [f"above {most}" for taken, most in zip((level, total), may) if taken > most]
+        failed |= bool(above)
+        print(f"| {call} | {level} | {total} | {', '.join(above)} |")
     print(f"\n{sentence(*measured)}")
     if sys.argv[1:] == ["header"]:
         header.write_text(LINE.sub(" * " + sentence(*measured), header.read_text()))

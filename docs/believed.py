@@ -31,6 +31,7 @@ PROMISES = {
     'request 1': ['demands/Request01'],
     'request 2': ['demands/Request02', 'demands/AfterCounts'],
     'request 4': ['demands/Request04'],
+    'request 5': ['demands/Request05'],
     'request 6': ['demands/Request06', 'demands/SameInFull:same-in-full', 'format_lua/LdumpFull:full-as-dumped short-object no-object one-object'],
 }
 # the table of docs/PROOF.md: what a group of files says, and the files; what is reached and named nowhere here comes last
@@ -49,7 +50,7 @@ GROUPS = [
     ("Lua's own loader, dumper and line lookup, close to the C", 'format_lua/specs: Lundump LundumpFunctions Ldump LdumpFunctions; line_lookup/specs: Ldebug; format_lua/proofs: LundumpParts LundumpChunk LundumpBack LdumpChunk LdumpWhole LdumpFull; format/proofs: Every'),
     ("words of demand 1's statements: a call's conditions in order; what a refusal is about", 'demands/proofs: Refused Causes InOrder Early Order AtOneByte CutShort Continued ByLimits Exactly Accepted ByC RefusedAt PartsInOrder Printed Demand1; format/proofs: RefusalNumbers'),
     ("words of demand 2's statements: a whole contract", 'demands/proofs: Promise Demand2 Demand2C'),
-    ("words of demand 3's and the requests' statements: what is shown, what is set aside", 'demands/proofs: Request01 Request02 AfterCounts Request06 Demand3 Calls Written Same SameInFull Inherits Alike Together Complete ShownAt SpeltHere EntriesAt Nested; format/proofs: Located OrderCases; read_nth/proofs: Strings'),
+    ("words of demand 3's and the requests' statements: what is shown, what is set aside", 'demands/proofs: Request01 Request02 AfterCounts Request05 Depths Request06 Demand3 Calls Written Same SameInFull Inherits Alike Together Complete ShownAt SpeltHere EntriesAt Nested; format/proofs: Located OrderCases; read_nth/proofs: Strings'),
 ]
 WORD = re.compile(r'[^\s(){};,\[\]]+')
 HEAD = re.compile(r'^( *)(abbrev |unfoldable )?(pub )?(record |data )?(\S+)')

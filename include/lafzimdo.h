@@ -7,7 +7,7 @@
  * A negative number stands in `out` as its two's complement: cast it to int64_t.
  * The library has no state, takes no memory but its stack and what it is lent, and calls nothing but memcpy and memset: calls may run in many threads at once, on one chunk too, each with lent memory of its own.
  * Cost, in the first words of each comment: a pass goes over the whole chunk once, and reads each function's numbers, counts and entries, but no words and no bytes of strings.
- * Stack: a call takes at most 496 bytes for each level of nesting (464 where it copies), of which there are at most 200, and 102 kB in all. Measured by compare/stack.py, not proved.
+ * Stack: a call takes at most 496 bytes for each level of nesting (464 where it copies), of which there are at most 14, and 10 kB in all. Measured by compare/stack.py, not proved.
  */
 #ifndef LAFZIMDO_H
 #define LAFZIMDO_H
@@ -67,7 +67,7 @@ enum lafzimdo_refusal {
 
 /* The limits, in this order: input bytes, nesting depth, prototypes in all, instructions of a prototype, instructions in all, constants of a prototype,
  * upvalues of a prototype, bytes of a string, diagnostics. Above a ceiling is refusal 21. */
-#define LAFZIMDO_CEILINGS {16777216, 200, 16777216, 16777216, 16777216, 16777216, 16777216, 16777216, 10000}
+#define LAFZIMDO_CEILINGS {16777216, 14, 16777216, 16777216, 16777216, 16777216, 16777216, 16777216, 10000}
 
 enum lafzimdo_limit {
     LAFZIMDO_LIMIT_INPUT_BYTES,

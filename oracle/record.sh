@@ -24,8 +24,7 @@ mkdir -p "$out/text" "$out/kept" "$kept"
     for generator in $generators; do
         "$here/$generator"
     done
-    echo "# smallest: the 46 bytes of 01"
-    echo "16777216 200 16777216 16777216 16777216 16777216 16777216 16777216 10000 1b4c7561540019930d0a1a0a04080878560000000000000000000000287740008080800000028080808080808080"
+    "$here/smallest.py"
 } > "$out/text/requests"
 "$out/oracle" < "$out/text/requests" > "$out/text/answers"
 "$here/tally.py" "$out/text/requests" "$out/text/answers"

@@ -1,7 +1,8 @@
 #!/usr/bin/env python3
 # Runs archive copies. Every sample is compiled, as it comes and stripped; the library copies each chunk (by compare/answers.c), and besides the same chunk spelt otherwise: numbers
 # padded, another format, another byte 31, a source in every function, trailing bytes. lua runs each copy, and what it prints must be what it prints of
-# luac's own chunk. The last line says how many ran alike; the status is 1 where one did not. Needs luac5.4 and lua5.4, a C compiler and
+# luac's own chunk. A sample whose functions nest deeper than the ceiling has no copy: it must be refused with 19, and each that is not so deep must be copied.
+# The last line says how many ran alike; the status is 1 where one did not. Needs luac5.4 and lua5.4, a C compiler and
 # liblafzimdo.a (rt staticlib lafzimdo); where one of them is missing it says so, and the status is 2.
 import os
 import shutil
@@ -12,8 +13,8 @@ from pathlib import Path
 
 sys.dont_write_bytecode = True
 
-from kept.ask import hexed, limited
-from kept.build import chunk, family
+from kept.ask import CEILINGS, hexed, limited
+from kept.build import chunk, depth, family
 from kept.parse import main_of
 
 HERE = Path(__file__).resolve().parent
@@ -41,14 +42,22 @@ def compiled(folder):
             yield f"{sample.stem} {kind}", (folder / "chunk").read_bytes()
 
 
+def too_deep(data):
+    return depth(main_of(data)) > CEILINGS["max_nesting_depth"]
+
+
 def copies(chunks):
-    """The archive copies, by the library."""
+    """The archive copies, by the library; none of a chunk that nests too deep."""
     asked = "".join(f"{limited({})} {hexed(data)}\n" for data in chunks)
     answers = subprocess.run([ANSWERS], input=asked, capture_output=True, text=True, check=True).stdout.split("end\n")[:-1]
     assert len(answers) == len(chunks)
-    for answer in answers:
-        (copy,) = (line.split(" ", 1)[1] for line in answer.splitlines() if line.startswith("copy "))
-        yield bytes.fromhex(copy)
+    for data, answer in zip(chunks, answers):
+        if too_deep(data):
+            assert answer.startswith("refused 19 "), answer[:80]
+            yield None
+        else:
+            (copy,) = (line.split(" ", 1)[1] for line in answer.splitlines() if line.startswith("copy "))
+            yield bytes.fromhex(copy)
 
 
 def run(folder, data):
@@ -69,12 +78,16 @@ def main():
         folder = Path(name)
         named = dict(compiled(folder))
         others = {f"{title}, spelt otherwise": otherwise(data) for title, data in named.items()}
-        both = list(zip([*named, *others], [*named.values()] * 2, copies([*named.values(), *others.values()])))
-        changed = sum(data != copy for data, copy in zip([*named.values(), *others.values()], (copy for _, _, copy in both)))
-        wrong = [title for title, data, copy in both if run(folder, data) != run(folder, copy)]
+        spelt = [*named.values(), *others.values()]
+        every = list(zip([*named, *others], [*named.values()] * 2, spelt, copies(spelt)))
+        copied = [entry for entry in every if entry[3] is not None]
+        changed = sum(data != copy for _, _, data, copy in copied)
+        wrong = [title for title, data, _, copy in copied if run(folder, data) != run(folder, copy)]
     for title in wrong:
         print(f"{title}: the copy does not run as luac's chunk does")
-    print(f"{len(both) - len(wrong)} copies ran alike, {changed} of them of chunks that are no copies of themselves")
+    for title in [title for title, _, _, copy in every if copy is None]:
+        print(f"{title}: refused with 19, as it must be")
+    print(f"{len(copied) - len(wrong)} copies ran alike, {changed} of them of chunks that are no copies of themselves")
     return 1 if wrong else 0
 
 

@@ -1,7 +1,7 @@
 #!/usr/bin/env python3
 # Runs full copies of joined scripts (samples/joined: NAME.1.lua, NAME.2.lua, .. are one script, as `luac a.lua b.lua` makes it), each of which fails at its end: lua must print of the full copy what it prints of luac's own
 # chunk, with the same names in its messages. So it must of the full copy of the same chunk spelt otherwise: numbers padded, another format, another byte 31, a source spelt in every function, trailing bytes. The archive copy has
-# other names, so that a copy without the sources would be found. Besides, of these and of every sample: the full copy is what Lua's own dumper writes of what it loaded (`string.dump` of `load`: lua_dump of lua_load).
+# other names, so that a copy without the sources would be found. Besides, of these and of every sample that is not nested too deep: the full copy is what Lua's own dumper writes of what it loaded (`string.dump` of `load`: lua_dump of lua_load).
 # The last line says how many did; the status is 1 where one did not. Needs luac5.4 and lua5.4, a C compiler and liblafzimdo.a (rt staticlib lafzimdo); where one of them is missing it says so, and the status is 2.
 import ctypes
 import os
@@ -16,10 +16,10 @@ sys.dont_write_bytecode = True
 
 from kept.build import chunk
 from kept.parse import main_of
-from run_copies import ANSWERS, COMPARE, LUA, LUAC, SAMPLES, compiled, run
+from run_copies import ANSWERS, COMPARE, LUA, LUAC, SAMPLES, compiled, run, too_deep
 
 JOINED = SAMPLES / "joined"
-CEILINGS = (16777216, 200, 16777216, 16777216, 16777216, 16777216, 16777216, 16777216, 10000)
+CEILINGS = (16777216, 14, 16777216, 16777216, 16777216, 16777216, 16777216, 16777216, 10000)
 DUMP = "io.write(string.dump(assert(load(io.read('a'), 'x', 'b'))))"
 
 
@@ -86,7 +86,7 @@ def main():
                 if run(folder, library.copy("full_copy", spelt)) != expected:
                     wrong.append(f"{title}{kind}: the full copy does not run as luac's chunk does")
             named += run(folder, library.copy("copy", data)) != expected
-        samples = {title: data for title, data in compiled(folder) if title.endswith(" plain")}
+        samples = {title: data for title, data in compiled(folder) if title.endswith(" plain") and not too_deep(data)}
         both = {**scripts, **samples}
         wrong += [f"{title}: the full copy is not what Lua dumps" for title, data in both.items() if library.copy("full_copy", data) != dumped(data)]
     if named < len(scripts):

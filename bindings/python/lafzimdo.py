@@ -103,7 +103,7 @@ class Limits(NamedTuple):
     """The limits of reading, each at its ceiling where it is not given. Above a ceiling is refusal 21."""
 
     max_input_bytes: int = 16777216
-    max_nesting_depth: int = 200
+    max_nesting_depth: int = 14
     max_total_prototypes: int = 16777216
     max_instructions_per_proto: int = 16777216
     max_total_instructions: int = 16777216

@@ -1,5 +1,6 @@
 // Functions by chance, every field with its odd values: instructions near the ends of the rules, lines, names, nesting.
 use crate::chance::Chance;
+use crate::limits::NESTING_CEILING;
 use crate::make::{Constant, Made, Name, LARGEST};
 
 const LOADK: u32 = 3;
@@ -234,7 +235,12 @@ fn any_tree(chance: &mut Chance) -> Made {
             branches(chance, depth)
         }
         37 => {
-            let depth = if chance.one_in(20) { 195 + chance.below(8) } else { 3 + chance.below(12) };
+            // Mostly about as deep as may be, and now and then far deeper.
+            let depth = match chance.below(20) {
+                0 => 195 + chance.below(8),
+                1..=9 => NESTING_CEILING - 2 + chance.below(5),
+                _ => 3 + chance.below(NESTING_CEILING - 3),
+            };
             (0..depth).fold(tiny(chance), |inner, _| {
                 if chance.one_in(4) {
                     function(chance, vec![inner])

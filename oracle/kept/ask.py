@@ -1,16 +1,27 @@
 # Requests as they are written: the nine limits, a chunk in hex, a function's number and pcs.
+import re
+from pathlib import Path
 
+JUDGE = Path(__file__).parent.parent / "src" / "limits.rs"
+
+
+def ceiling(name):
+    """A ceiling as the judge has it: with one of its own, a request would be refused with 21 by both sides, and so agree."""
+    return int(re.search(rf"pub const {name}: usize = ([0-9_]+);", JUDGE.read_text())[1])
+
+
+MOST = ceiling("CEILING")
 # In the order of ResourceLimits.
 CEILINGS = {
-    "max_input_bytes": 16777216,
-    "max_nesting_depth": 200,
-    "max_total_prototypes": 16777216,
-    "max_instructions_per_proto": 16777216,
-    "max_total_instructions": 16777216,
-    "max_constants_per_proto": 16777216,
-    "max_upvalues_per_proto": 16777216,
-    "max_string_bytes": 16777216,
-    "max_diagnostics": 10000,
+    "max_input_bytes": MOST,
+    "max_nesting_depth": ceiling("NESTING_CEILING"),
+    "max_total_prototypes": MOST,
+    "max_instructions_per_proto": MOST,
+    "max_total_instructions": MOST,
+    "max_constants_per_proto": MOST,
+    "max_upvalues_per_proto": MOST,
+    "max_string_bytes": MOST,
+    "max_diagnostics": ceiling("DIAGNOSTICS_CEILING"),
 }
 
 # Pcs behind every function: the ones that a chunk's answer always shows.

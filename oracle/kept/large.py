@@ -34,13 +34,13 @@ def long_strings(requests):
                 requests.chunk(chunk(main), max_string_bytes=limit)
     requests.chunk(chunk(Function(), trailing=b"\x80" * 300000))
     requests.title("large: the longest request, and the input at its limit")
-    # With one digit fewer in the last limit, the room for hex is even.
-    room = LONGEST_REQUEST - len(limited({"max_input_bytes": 524288, "max_diagnostics": 9999}) + " ")
+    # With so many digits in the limits, the room for hex is even.
+    room = LONGEST_REQUEST - len(limited({"max_input_bytes": 524288}) + " ")
     # The size takes three bytes, where an empty source's takes one.
     data = chunk(Function(source=b"x" * (room // 2 - len(chunk(Function(source=b""))) - 2)))
     assert len(hexed(data)) == room
     for limit in (len(data), len(data) - 1):
-        requests.chunk(data, max_input_bytes=limit, max_diagnostics=9999)
+        requests.chunk(data, max_input_bytes=limit)
 
 
 def many_functions(requests):
@@ -54,7 +54,7 @@ def many_functions(requests):
         tree = Function(nested=[tree, tree])
     requests.chunk(chunk(tree))
     comb = one
-    for _ in range(200):
+    for _ in range(13):
         comb = Function(words=[MOVE], nested=[one] * 20 + [comb])
     requests.chunk(chunk(comb))
-    requests.lookup(chunk(comb), 4000, (0, 1, 2))
+    requests.lookup(chunk(comb), 260, (0, 1, 2))

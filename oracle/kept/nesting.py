@@ -1,5 +1,5 @@
 # Nested functions: how deep, how many, and which of the two limits is told.
-from .ask import CEILINGS
+from .ask import CEILINGS, FAR
 from .build import Function, chain, chunk, family
 from .instructions import MOVE, iabc
 
@@ -20,11 +20,16 @@ def depths(requests):
     for limit in range(4):
         requests.chunk(data, max_nesting_depth=limit)
     requests.title("nesting: depth at the ceiling")
-    for deep, limit in ((200, 200), (201, 200), (200, 199), (201, 201), (14, 14), (15, 14), (15, 15)):
-        requests.chunk(chunk(chain(deep)), max_nesting_depth=limit)
-    requests.chunk(chunk(chain(250)))
-    requests.lookup(chunk(chain(200, first=3, deltas=[4])), 200, (0, 1))
-    requests.lookup(chunk(chain(200)), 201, (0, 1))
+    # The ceiling is 14, as deep as was found in use; before it was 200.
+    for deep in (0, 13, 14, 15, 16, 200, 201, 250):
+        for limit in (13, 14, 15):
+            requests.chunk(chunk(chain(deep)), max_nesting_depth=limit)
+    for deep in (0, 14, 200, 201):
+        for limit in (16, 199, 200, 201, *FAR):
+            requests.chunk(chunk(chain(deep)), max_nesting_depth=limit)
+    for deep in (14, 15, 200):
+        requests.lookup(chunk(chain(deep, first=3, deltas=[4])), deep, (0, 1))
+        requests.lookup(chunk(chain(deep)), deep + 1, (0, 1))
 
 
 def shapes():

@@ -5,7 +5,7 @@ use luad_core::model::Chunk;
 use luad_core::reader::SafeReader;
 use luad_dialect_lua54::chunk::decode_chunk_lua54;
 
-pub const NESTING_CEILING: usize = 200;
+pub const NESTING_CEILING: usize = 14;
 pub const DIAGNOSTICS_CEILING: usize = 10_000;
 pub const CEILING: usize = 16_777_216;
 

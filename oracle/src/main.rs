@@ -16,7 +16,7 @@ use std::io::{self, BufRead, BufReader, BufWriter, Write};
 /// The longest line that is a request, without its line feed.
 const LONGEST_REQUEST: usize = 1_048_576;
 
-/// The Rust reads a nested function by recursion, and we number functions so: nesting to 200 shall never be short of stack.
+/// The Rust reads a nested function by recursion, and we number functions so: no nesting in a request shall be short of stack.
 const STACK_BYTES: usize = 512 << 20;
 
 const BUFFER_BYTES: usize = 1 << 20;

@@ -15,7 +15,7 @@ type Make = fn(usize) -> Vec<u8>;
 fn main() -> ExitCode {
     let kinds: [(&str, Make); 5] = [
         ("tiny functions", tiny),
-        ("nested 200 deep", nested),
+        ("nested 14 deep", nested),
         ("one large function", large),
         ("strings", strings),
         ("anchors out of order", anchors),
@@ -126,7 +126,8 @@ fn tiny(size: usize) -> Vec<u8> {
 
 fn nested(size: usize) -> Vec<u8> {
     let mut chain = TINY.to_vec();
-    for _ in 0..198 {
+    // Within main, and within each other up to the ceiling.
+    for _ in 1..Limits::ceilings().max_nesting_depth {
         chain = [&TINY[..9], &[0x81], &chain, &TINY[10..]].concat();
     }
     let count = (size - 100) / chain.len();

@@ -18,11 +18,11 @@ pub struct Limits {
 }
 
 impl Limits {
-    /// Each limit at its ceiling: nesting 200, diagnostics 10,000, all others 16,777,216.
+    /// Each limit at its ceiling: nesting 14, diagnostics 10,000, all others 16,777,216.
     pub const fn ceilings() -> Limits {
         Limits {
             max_input_bytes: 16_777_216,
-            max_nesting_depth: 200,
+            max_nesting_depth: 14,
             max_total_prototypes: 16_777_216,
             max_instructions_per_proto: 16_777_216,
             max_total_instructions: 16_777_216,

@@ -82,7 +82,7 @@ fn refusals() {
     let bytes = small();
     run_on(&["list", "-"], &bytes[..45]).says(1, "standard input: refused 1 at 45: the file is cut short");
     run_on(&["dump", "-"], b"").says(1, "refused 1 at 0");
-    run_on(&["check", "-", "--max-nesting-depth", "201"], &bytes).says(1, "refused 21");
+    run_on(&["check", "-", "--max-nesting-depth", "15"], &bytes).says(1, "refused 21");
     run_on(&["check", "--max-input-bytes", "45", "-"], &bytes).says(1, "refused 22");
     run_on(&["lines", "-", "1"], &bytes).says(1, "refused 23");
     run_on(&["lines", "-", "1", "0"], &bytes).says(1, "refused 23");

@@ -41,7 +41,7 @@ fn long_files() {
     assert_eq!(refusal(&bytes[..46], limits), Refusal::InputBytes);
     assert_eq!(refusal(&bytes[..45], limits), Refusal::Truncated(45));
     // 21 comes before 22, and 22 before all that the bytes are refused for.
-    assert_eq!(refusal(&bytes, Limits { max_nesting_depth: 201, ..Limits::ceilings() }), Refusal::LimitAboveCeiling);
+    assert_eq!(refusal(&bytes, Limits { max_nesting_depth: 15, ..Limits::ceilings() }), Refusal::LimitAboveCeiling);
     bytes[0] = 0;
     assert_eq!(refusal(&bytes, Limits::ceilings()), Refusal::InputBytes);
 }
@@ -57,15 +57,21 @@ fn chain(depth: usize) -> Vec<u8> {
 
 #[test]
 fn nesting() {
-    let bytes = chain(200);
+    let bytes = chain(14);
     let read = Chunk::read(&bytes, Limits::ceilings()).unwrap();
-    assert_eq!(read.function_count(), 201);
-    assert_eq!(read.index().iter().map(|row| row.depth()).collect::<Vec<_>>(), (0..201).collect::<Vec<_>>());
+    assert_eq!(read.function_count(), 15);
+    assert_eq!(read.index().iter().map(|row| row.depth()).collect::<Vec<_>>(), (0..15).collect::<Vec<_>>());
     assert_eq!(read.copy(), bytes);
-    let deeper = chain(201);
-    assert!(matches!(refusal(&deeper, Limits::ceilings()), Refusal::NestingDepth(_)));
-    let shallow = Limits { max_nesting_depth: 0, ..Limits::ceilings() };
-    assert_eq!(refusal(&chain(1), shallow).number(), 19);
+    let under = |depth| Limits { max_nesting_depth: depth, ..Limits::ceilings() };
+    // A function of depth d begins at 32 + 10 d.
+    assert_eq!(refusal(&bytes, under(13)), Refusal::NestingDepth(172));
+    for deeper in [15, 16, 200] {
+        assert_eq!(refusal(&chain(deeper), Limits::ceilings()), Refusal::NestingDepth(182));
+    }
+    assert_eq!(refusal(&chain(1), under(0)), Refusal::NestingDepth(42));
+    for above in [15, 16, 200, 201, u64::MAX] {
+        assert_eq!(refusal(&bytes, under(above)), Refusal::LimitAboveCeiling);
+    }
 }
 
 #[test]

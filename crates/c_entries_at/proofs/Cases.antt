@@ -5,12 +5,13 @@
 use mathlib.Core.Path.{_≡_, refl}
 use mathlib.Core.List.{List, [], _∷_, map}
 use Prim.Native.Nat.{ℕ, _-_, _^_}
+use Rattle.format.specs.Limits.{DEEPEST, MOST}
 use Rattle.format.proofs.Distinct.{distinct}
 use Rattle.c_boundary.specs.Status.{Answer, done}
 use Rattle.c_entries_at.specs.EntryNumbers.{wordAt, constantAt, upvalueAt, deltaAt, anchorAt, localAt, stringAt}
 
 abbrev ceilings : List ℕ
-ceilings = 16777216 ∷ 200 ∷ 16777216 ∷ 16777216 ∷ 16777216 ∷ 16777216 ∷ 16777216 ∷ 16777216 ∷ 10000 ∷ []
+ceilings = MOST ∷ DEEPEST ∷ MOST ∷ MOST ∷ MOST ∷ MOST ∷ MOST ∷ MOST ∷ 10000 ∷ []
 
 entries : List (Answer × List ℕ)
 unfolding distinct

@@ -5,6 +5,7 @@
 --     longest-holds    49,152 bytes, the last of them trailing, are read
 --     longer-refused   more bytes than 49,152, whatever they are: `refused 22`
 --     places-hold      refusals with a place and without
+--     chains-hold      functions within each other, 14 deep: all are listed; 15 deep: refused where the last one begins (02, item 5)
 -- Told apart: two columns exchanged, the number of a function left out, another word for a verdict, a limit of one byte more or less, ` at ` and a place where there is none.
 -- Assumes nothing.
 use mathlib.Core.Path.{_≡_, refl, ap, _∙_}
@@ -18,6 +19,7 @@ use Rattle.format.specs.declared.refusal.Refusal.the-variants as refuses
 use Rattle.format.specs.Form.{Bytes}
 use Rattle.format.specs.ReadChunk.{body, function, read}
 use Rattle.format.proofs.Distinct.{distinct}
+use Rattle.format.proofs.NestingCases.{chain}
 use Rattle.validate_rules.specs.declared.finding.Verdict.the-variants.{ValidForAnalysis, Invalid, Incomplete}
 use Rattle.validate_rules.specs.Rules.{instruction}
 use Rattle.validate_rules.specs.Findings.{codeGroups, groups, limited, chunkFindings}
@@ -53,6 +55,15 @@ places-hold : map refusalLine (refuses.Truncated 0 ∷ refuses.TotalPrototypes 4
     ≡ ascii "refused 1 at 0\n" ∷ ascii "refused 20 at 49151\n" ∷ ascii "refused 22\n" ∷ ascii "refused 2\n" ∷ []
 unfolding refusalLine digitsUpTo
 places-hold = refl
+
+-- ## The deepest chunk
+chains-hold : map (λ d. listing (chain d)) (14 ∷ 15 ∷ 200 ∷ [])
+    ≡ ascii "chunk 242 functions 15 trailing 0 verdict valid-for-analysis\n0 0 0 0 0 0 2 0 0 0\n1 1 0 0 0 0 2 0 0 0\n2 2 0 0 0 0 2 0 0 0\n3 3 0 0 0 0 2 0 0 0\n4 4 0 0 0 0 2 0 0 0\n5 5 0 0 0 0 2 0 0 0\n6 6 0 0 0 0 2 0 0 0\n7 7 0 0 0 0 2 0 0 0\n8 8 0 0 0 0 2 0 0 0\n9 9 0 0 0 0 2 0 0 0\n10 10 0 0 0 0 2 0 0 0\n11 11 0 0 0 0 2 0 0 0\n12 12 0 0 0 0 2 0 0 0\n13 13 0 0 0 0 2 0 0 0\n14 14 0 0 0 0 2 0 0 0\n"
+    ∷ ascii "refused 19 at 182\n"
+    ∷ ascii "refused 19 at 182\n"
+    ∷ []
+unfolding read body function codeGroups groups limited chunkFindings instruction decoded digitsUpTo firstLine refusalLine
+chains-hold = refl
 
 -- ## The longest file
 longest-holds : listing (small ++ replicate 49106 0) ≡ ascii "chunk 49152 functions 1 trailing 49106 verdict valid-for-analysis\n0 0 0 0 0 0 2 0 0 0\n"

@@ -87,7 +87,7 @@ use Rattle.demands.proofs.Written.{Writes, written-is-copy}
 use Rattle.demands.proofs.Promise.{Promise, PromiseWhere}
 use Rattle.slice.specs.Over.{over}
 
--- ## Chunks. (The Rust has no count of padded numbers: `Request01.antt`.) Compared: 5,488 chunks, each with its summary, every field and entry, the index, the copy and the lines (crates/vectors); 150,000 more were asked once (docs/DIFFERENCES.md).
+-- ## Chunks. (The Rust has no count of padded numbers: `Request01.antt`.) Compared: 5,528 chunks, each with its summary, every field and entry, the index, the copy and the lines (crates/vectors); 150,000 more were asked once (docs/DIFFERENCES.md).
 pub chunk-summary : Promise chunk-summary-call.ended chunk-summary-call.Symbol.routine (λ _ chunk limits r.
     (r ≡ shownSummary (spelling limits (now chunk)) (read limits (now chunk)))
     ∷ [])

@@ -39,6 +39,8 @@ pub mod Request01
 pub mod AfterCounts
 pub mod Request02
 pub mod Request04
+pub mod Depths
+pub mod Request05
 pub mod SameInFull
 pub mod Inherits
 pub mod Request06

@@ -35,7 +35,7 @@ use Rattle.format.specs.declared.header.Warning.the-variants.{NonStandar
 use Rattle.format.specs.Form.{Bytes}
 use Rattle.format.specs.GrammarFields.{LuaString}
 use Rattle.format.specs.GrammarHeader.{headerOf}
-use Rattle.format.specs.Limits.{ceilings}
+use Rattle.format.specs.Limits.{DEEPEST, ceilings}
 use Rattle.format.specs.Reading.{ConstantValue, integer, short-string, Places, Prototype, Reading}
 use Rattle.format.specs.ReadChunk.{body, function, Outcome, shown, refusal, read}
 use Rattle.format.specs.Copy.{listBytes, behindSource, copy}
@@ -240,7 +240,7 @@ record Case : Type 0 where
 entries : ℕ → ℕ → ℕ → ℕ → ℕ → ResourceLimits
 entries instructions constants upvalues bytes diagnostics = record {
   «max_input_bytes» = 16777216;
-  «max_nesting_depth» = 200;
+  «max_nesting_depth» = DEEPEST;
   «max_total_prototypes» = 16777216;
   «max_instructions_per_proto» = instructions;
   «max_total_instructions» = 16777216;
@@ -280,7 +280,7 @@ cases =
     ∷ record { limits = limited 2 1 1 121; input = nested; result = refusal (Prototypes 62) }
     ∷ record { limits = limited 2 3 0 121; input = nested; result = refusal (TotalInstructions 40) }
     ∷ record { limits = limited 2 3 1 120; input = nested; result = refusal InputBytes }
-    ∷ record { limits = limited 201 3 1 120; input = nested; result = refusal LimitAboveCeiling }
+    ∷ record { limits = limited 15 3 1 120; input = nested; result = refusal LimitAboveCeiling }
     ∷ record { limits = entries 0 2 1 2 2; input = nested; result = refusal (Instructions 40) }
     ∷ record { limits = entries 1 1 1 2 2; input = nested; result = refusal (Constants 45) }
     ∷ record { limits = entries 1 2 0 2 2; input = nested; result = refusal (Upvalues 58) }
@@ -288,9 +288,9 @@ cases =
     ∷ record { limits = entries 1 2 1 2 2; input = nested; result = shown nested-reading }
     ∷ record { limits = entries 1 2 1 2 1; input = nested; result = shown (warned-reading (NonStandardFormat 5 ∷ [])) }
     ∷ record { limits = entries 1 2 1 2 0; input = nested; result = shown (warned-reading []) }
-    ∷ record { limits = limited 200 2 2 200; input = siblings; result = refusal (TotalInstructions 70) }
-    ∷ record { limits = limited 200 2 1 200; input = siblings; result = refusal (TotalInstructions 52) }
-    ∷ record { limits = limited 200 1 3 200; input = siblings; result = refusal (Prototypes 45) }
+    ∷ record { limits = limited DEEPEST 2 2 200; input = siblings; result = refusal (TotalInstructions 70) }
+    ∷ record { limits = limited DEEPEST 2 1 200; input = siblings; result = refusal (TotalInstructions 52) }
+    ∷ record { limits = limited DEEPEST 1 3 200; input = siblings; result = refusal (Prototypes 45) }
     ∷ record { limits = ceilings; input = tagged; result = refusal (ConstantTag 40) }
     ∷ record { limits = ceilings; input = set small 0 0x1a; result = refusal (Signature 0) }
     ∷ record { limits = ceilings; input = set small 3 0x62; result = refusal (Signature 0) }
@@ -326,7 +326,7 @@ functionCount : Outcome → ℕ
 functionCount (shown r) = length (r .functions)
 functionCount (refusal q) = 0
 
-siblings-read : functionCount (read (limited 200 2 3 200) siblings) ≡ 3
+siblings-read : functionCount (read (limited DEEPEST 2 3 200) siblings) ≡ 3
 unfolding functionCount read body function header sibling siblings limited
 siblings-read = refl
 

@@ -12,7 +12,7 @@ use Rattle.format.specs.declared.limits.ResourceLimits.{ResourceLimits}
 use Rattle.format.specs.declared.refusal.Refusal.{Refusal}
 use Rattle.format.specs.declared.refusal.Refusal.the-variants.{Truncated, StringBytes, Instructions, TotalInstructions, Constants, Upvalues, Prototypes}
 use Rattle.format.specs.Form.{Bytes}
-use Rattle.format.specs.Limits.{ceilings}
+use Rattle.format.specs.Limits.{DEEPEST, ceilings}
 use Rattle.format.specs.Reading.{ConstantValue, short-string, long-string, Prototype}
 use Rattle.format.specs.ReadChunk.{body, function, refusal, read}
 use Rattle.format.proofs.Distinct.{header, distinct, functionsOf}
@@ -40,7 +40,7 @@ cuts-hold = refl
 abbrev none : ℕ → ℕ → ℕ → ℕ → ℕ → ℕ → ResourceLimits
 none string instructions all-instructions constants upvalues functions = record {
   «max_input_bytes» = 16777216;
-  «max_nesting_depth» = 200;
+  «max_nesting_depth» = DEEPEST;
   «max_total_prototypes» = functions;
   «max_instructions_per_proto» = instructions;
   «max_total_instructions» = all-instructions;

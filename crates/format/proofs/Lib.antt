@@ -1,6 +1,7 @@
 pub mod RefusalCases
 pub mod RefusalNumbers
 pub mod LimitCases
+pub mod NestingCases
 pub mod Byte31
 pub mod Distinct
 pub mod Cuts

@@ -1,16 +1,16 @@
--- The ceilings as 01 prints them ('Limits'), and what is refused above each of them; one theorem over each list, which antt computes.
---     ceilings-are     nesting 200, diagnostics 10,000, the others 16,777,216
+-- The ceilings as 01 prints them ('Limits'; that of nesting: 02, item 5), and what is refused above each of them; one theorem over each list, which antt computes.
+--     ceilings-are     nesting 14, diagnostics 10,000, the others 16,777,216
 --     above-refused    each limit one above its ceiling, the others at theirs: 21, whatever the file is (told apart: a limit that is not tested, a ceiling one higher)
 --     within-read      at the ceilings, and with every limit 0: not 21 (told apart: a ceiling one lower, zero not allowed)
 -- Assumes nothing.
 use mathlib.Core.Path.{_≡_, refl}
 use mathlib.Core.List.{List, [], _∷_, map}
-use Prim.Native.Nat.{ℕ}
+use Prim.Native.Nat.{ℕ, _+_}
 use lib.ListN.{replicate}
 use Rattle.format.specs.declared.limits.ResourceLimits.{ResourceLimits}
 use Rattle.format.specs.declared.refusal.Refusal.the-variants.{Truncated, LimitAboveCeiling, InputBytes}
 use Rattle.format.specs.Form.{Bytes}
-use Rattle.format.specs.Limits.{ceilings}
+use Rattle.format.specs.Limits.{DEEPEST, MOST, ceilings}
 use Rattle.format.specs.ReadChunk.{body, function, Outcome, refusal, read}
 
 -- in the order of `ResourceLimits`
@@ -28,22 +28,22 @@ limits input nesting prototypes instructions all-instructions constants upvalues
 }
 
 abbrev top : ResourceLimits
-top = limits 16777216 200 16777216 16777216 16777216 16777216 16777216 16777216 10000
+top = limits 16777216 14 16777216 16777216 16777216 16777216 16777216 16777216 10000
 
 ceilings-are : ceilings ≡ top
 ceilings-are = refl
 
 above : List ResourceLimits
 above =
-    limits 16777217 200 16777216 16777216 16777216 16777216 16777216 16777216 10000
-    ∷ limits 16777216 201 16777216 16777216 16777216 16777216 16777216 16777216 10000
-    ∷ limits 16777216 200 16777217 16777216 16777216 16777216 16777216 16777216 10000
-    ∷ limits 16777216 200 16777216 16777217 16777216 16777216 16777216 16777216 10000
-    ∷ limits 16777216 200 16777216 16777216 16777217 16777216 16777216 16777216 10000
-    ∷ limits 16777216 200 16777216 16777216 16777216 16777217 16777216 16777216 10000
-    ∷ limits 16777216 200 16777216 16777216 16777216 16777216 16777217 16777216 10000
-    ∷ limits 16777216 200 16777216 16777216 16777216 16777216 16777216 16777217 10000
-    ∷ limits 16777216 200 16777216 16777216 16777216 16777216 16777216 16777216 10001
+    limits (MOST + 1) DEEPEST MOST MOST MOST MOST MOST MOST 10000
+    ∷ limits MOST (DEEPEST + 1) MOST MOST MOST MOST MOST MOST 10000
+    ∷ limits MOST DEEPEST (MOST + 1) MOST MOST MOST MOST MOST 10000
+    ∷ limits MOST DEEPEST MOST (MOST + 1) MOST MOST MOST MOST 10000
+    ∷ limits MOST DEEPEST MOST MOST (MOST + 1) MOST MOST MOST 10000
+    ∷ limits MOST DEEPEST MOST MOST MOST (MOST + 1) MOST MOST 10000
+    ∷ limits MOST DEEPEST MOST MOST MOST MOST (MOST + 1) MOST 10000
+    ∷ limits MOST DEEPEST MOST MOST MOST MOST MOST (MOST + 1) 10000
+    ∷ limits MOST DEEPEST MOST MOST MOST MOST MOST MOST 10001
     ∷ []
 
 above-refused : (chunk : Bytes) → map (λ L. read L chunk) above ≡ replicate 9 (refusal LimitAboveCeiling)

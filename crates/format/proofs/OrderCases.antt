@@ -143,7 +143,7 @@ cases =
     ∷ record { under = wide; input = set (set small 22 1) 23 1; result = some (placed 10 15) }
     ∷ record { under = wide; input = set (set small 30 0) 38 0; result = some (placed 11 23) }
     -- 21, then 22, then the bytes
-    ∷ record { under = limits 9 9 201 9 9 9; input = replicate 201 0; result = some (bare 21) }
+    ∷ record { under = limits 9 9 15 9 9 9; input = replicate 201 0; result = some (bare 21) }
     ∷ record { under = wide; input = replicate 201 0; result = some (bare 22) }
     ∷ record { under = wide; input = replicate 200 0; result = some (placed 4 0) }
     ∷ record { under = wide; input = small; result = none }

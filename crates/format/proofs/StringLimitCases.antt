@@ -12,6 +12,7 @@ use Rattle.format.specs.declared.limits.ResourceLimits.{ResourceLimits}
 use Rattle.format.specs.declared.refusal.Refusal.{Refusal}
 use Rattle.format.specs.declared.refusal.Refusal.the-variants.{StringBytes, TotalInstructions}
 use Rattle.format.specs.Form.{Bytes}
+use Rattle.format.specs.Limits.{DEEPEST}
 use Rattle.format.specs.ReadChunk.{body, function, Outcome, shown, refusal, read}
 use Rattle.format.proofs.Distinct.{header, little}
 
@@ -19,7 +20,7 @@ use Rattle.format.proofs.Distinct.{header, little}
 abbrev limits : ℕ → ℕ → ResourceLimits
 limits string all-instructions = record {
   «max_input_bytes» = 16777216;
-  «max_nesting_depth» = 200;
+  «max_nesting_depth» = DEEPEST;
   «max_total_prototypes» = 16777216;
   «max_instructions_per_proto» = 16777216;
   «max_total_instructions» = all-instructions;

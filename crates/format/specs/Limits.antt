@@ -1,4 +1,4 @@
--- The ceilings of the nine limits (01, 'Limits').
+-- The ceilings of the nine limits (01, 'Limits'; that of nesting: 02, item 5).
 --     DEEPEST, MOST        the ceiling of nesting, and that of lengths and counts
 --     ceilings             the largest limits
 --     withinCeilings l     no limit of l is above its ceiling: the test behind refusal 21
@@ -9,7 +9,7 @@ use Prim.Native.Nat.{ℕ, _≤_}
 use Rattle.format.specs.declared.limits.ResourceLimits.{ResourceLimits}
 
 abbrev pub DEEPEST : ℕ
-DEEPEST = 200
+DEEPEST = 14
 
 abbrev pub MOST : ℕ
 MOST = 16777216

@@ -5,7 +5,7 @@ ghost use mathlib.Core.Bool.{_&&_};
 ghost use Rattle.format.specs.Limits.{ceilings, withinCeilings};
 
 // The ceiling of nesting, and that of lengths and counts (by the same names in specs/Limits.antt).
-pub const DEEPEST: usize = 200;
+pub const DEEPEST: usize = 14;
 
 pub const MOST: usize = 16777216;
 

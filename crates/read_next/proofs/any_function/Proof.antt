@@ -6,8 +6,27 @@ use Rattle.read_next.proofs.RowLaws.{one-more}
 use Rattle.read_next.proofs.any_function.Statement.{statement}
 use Rattle.read_next.proofs.any_function.Tie as tie
 
-pub any-function-spec : {M : Type 1} → statement M
+-- its head is read
+returns-2 : tie.Need-returns-2
 unfolding headAt
+returns-2 c =
+    let r = c .before .before in
+    let p = r .before .before .before in
+    let u = p .before .before in
+    let ready = rw (p .place .given .1) at (u .go-up .ensures .1) in
+    rw (u .go-up .ensures .0, p .place .given .1, one-more _ _ _ _ _ (ready .1) (ready .0) (u .before .before .pre), ← r .read-head .ensures .0, c .enum-told2 .given .1)
+
+-- it is not
+returns-3 : tie.Need-returns-3
+unfolding headAt
+returns-3 c =
+    let r = c .before .before in
+    let p = r .before .before .before in
+    let u = p .before .before in
+    let ready = rw (p .place .given .1) at (u .go-up .ensures .1) in
+    rw (u .go-up .ensures .0, p .place .given .1, one-more _ _ _ _ _ (ready .1) (ready .0) (u .before .before .pre), ← r .read-head .ensures .0, c .enum-told3 .given .1)
+
+pub any-function-spec : {M : Type 1} → statement M
 any-function-spec =
     tie.close
     (tie.spec
@@ -18,13 +37,5 @@ any-function-spec =
     (λ c κs. room-unused _)
     (λ c. search needs)
     (λ c. search needs)
-    (λ c. let r = c .before .before in
-    let p = r .before .before .before in
-    let u = p .before .before in
-    let ready = rw (p .place .given .1) at (u .go-up .ensures .1) in
-    rw (u .go-up .ensures .0, p .place .given .1, one-more _ _ _ _ _ (ready .1) (ready .0) (u .before .before .pre), ← r .read-head .ensures .0, c .enum-told2 .given .1))
-    (λ c. let r = c .before .before in
-    let p = r .before .before .before in
-    let u = p .before .before in
-    let ready = rw (p .place .given .1) at (u .go-up .ensures .1) in
-    rw (u .go-up .ensures .0, p .place .given .1, one-more _ _ _ _ _ (ready .1) (ready .0) (u .before .before .pre), ← r .read-head .ensures .0, c .enum-told3 .given .1)))
+    returns-2
+    returns-3)

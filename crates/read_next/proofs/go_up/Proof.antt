@@ -16,6 +16,19 @@ Inv-loop s limits left depth d₀ i₀ d i = rowsFrom limits s left depth (i₀ 
 abbrev μ-loop : tie.MeasureT-loop
 μ-loop s limits left depth d₀ i₀ d i = d
 
+-- behind a tail: a level up
+loop-again : tie.Need-loop-again Inv-loop μ-loop
+unfolding tailAt
+loop-again c =
+    let e = c .before .before .before .before .before in
+    let k = e .before .before in
+    rw (
+      k .before .loop .inv,
+      none-here _ _ _ _ _ (rw (k .left-at .ensures) at (e .before .if1 .left)) (e .if3 .left),
+      ← c .before .before .before .read-tail .ensures .0,
+      c .before .next .given .1,
+    )
+
 pub go-up-spec : {M : Type 1} → statement M
 unfolding tailAt
 go-up-spec =
@@ -44,11 +57,4 @@ go-up-spec =
     ))
     (λ c. search needs)
     (λ c. search needs)
-    (λ c. let e = c .before .before .before .before .before in
-    let k = e .before .before in
-    rw (
-      k .before .loop .inv,
-      none-here _ _ _ _ _ (rw (k .left-at .ensures) at (e .before .if1 .left)) (e .if3 .left),
-      ← c .before .before .before .read-tail .ensures .0,
-      c .before .next .given .1,
-    )))
+    loop-again)

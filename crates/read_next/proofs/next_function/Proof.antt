@@ -10,6 +10,28 @@ use Rattle.read_next.proofs.RowLaws.{one-more}
 use Rattle.read_next.proofs.next_function.Statement.{statement}
 use Rattle.read_next.proofs.next_function.Tie as tie
 
+-- the function's row, its level, and the place behind its head
+returns-3 : tie.Need-returns-3
+unfolding headAt
+returns-3 c =
+    let h = c .before .before in
+    let r = h .before .before in
+    let d = r .before .before .before in
+    let u = d .before .before in
+    let a = u .before .before in
+    let ready = rw (d .d .given .1) at (u .go-up .ensures .1) in
+    let few = in-total (a .args .s .now) (a .args .limits) 0 (d .d .given .0 .1 .0 .at) (h .head .given .0 .0) (h .head .given .0 .1 .0) (sym (h .head .given .1) ∙ r .read-head .ensures .0) in (
+      rw (
+        u .go-up .ensures .0,
+        d .d .given .1,
+        one-more _ _ _ _ _ (ready .1) (ready .0) (a .pre .0),
+        ← r .read-head .ensures .0,
+        h .head .given .1,
+        c .row-of .ensures,
+      ),
+      (ready .0, ready .1, rw (c .row-of .ensures) (omega (arith, few, a .pre .1))),
+    )
+
 pub next-function-spec : {M : Type 1} → statement M
 unfolding headAt
 next-function-spec =
@@ -35,20 +57,4 @@ next-function-spec =
       tt,
     ))
     (λ c κs. search needs)
-    (λ c. let h = c .before .before in
-    let r = h .before .before in
-    let d = r .before .before .before in
-    let u = d .before .before in
-    let a = u .before .before in
-    let ready = rw (d .d .given .1) at (u .go-up .ensures .1) in
-    let few = in-total (a .args .s .now) (a .args .limits) 0 (d .d .given .0 .1 .0 .at) (h .head .given .0 .0) (h .head .given .0 .1 .0) (sym (h .head .given .1) ∙ r .read-head .ensures .0) in (
-      rw (
-        u .go-up .ensures .0,
-        d .d .given .1,
-        one-more _ _ _ _ _ (ready .1) (ready .0) (a .pre .0),
-        ← r .read-head .ensures .0,
-        h .head .given .1,
-        c .row-of .ensures,
-      ),
-      (ready .0, ready .1, rw (c .row-of .ensures) (omega (arith, few, a .pre .1))),
-    )))
+    returns-3)

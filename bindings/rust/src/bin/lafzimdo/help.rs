@@ -8,7 +8,7 @@ Options of every command:
   --max-input-bytes N, --max-nesting-depth N, --max-total-prototypes N, --max-instructions-per-proto N,
   --max-total-instructions N, --max-constants-per-proto N, --max-upvalues-per-proto N, --max-string-bytes N,
   --max-diagnostics N
-                the limits of reading, each at its ceiling where it is not given: nesting 200,
+                the limits of reading, each at its ceiling where it is not given: nesting 14,
                 diagnostics 10,000, all others 16,777,216. Above a ceiling is refusal 21.
 
 FILE is - for standard input. A file of more than 16,777,216 bytes is refused (22).
