@@ -41,6 +41,10 @@ double run_findings(const struct set *set) {
 
 double run_line(const struct set *set) { TIMED(set, must(lafzimdo_line(c->bytes, c->len, limits, c->function, c->pc, out) == 0, "line")); }
 
+double run_lines(const struct set *set) {
+    TIMED(set, must(lafzimdo_lines(c->bytes, c->len, limits, c->function, c->pcs, PCS, list, LIST_LEN, out) == 0, "lines"));
+}
+
 /* ---- Lua: a fresh state each time; making it ready and freeing it are not counted */
 
 struct piece {

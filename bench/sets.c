@@ -111,6 +111,8 @@ void make_ready(struct set *set) {
             if (instructions > 0) c->late = f;
         }
         c->pc = most ? most - 1 : 0;
+        c->pcs = room(c->pcs, PCS * sizeof *c->pcs);
+        for (size_t k = 0; k < PCS; k++) c->pcs[k] = k * most / PCS;
     }
     set->repeats = repeats(set);
 }

@@ -9,7 +9,9 @@ struct chunk {
     size_t instructions;
     size_t function, pc;   /* the last instruction of the function that has most: what is looked up */
     size_t late;           /* the last function that has an instruction */
+    uint64_t *pcs;         /* PCS pcs of the function that has most, spread evenly: a sweep log */
 };
+#define PCS 10000
 
 struct set {
     const char *name;

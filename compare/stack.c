@@ -23,6 +23,8 @@ static size_t len, functions;
 static const uint64_t limits[9] = LAFZIMDO_CEILINGS;
 static size_t function, entry, place;
 static uint64_t out[64], lent[LENT / 8];
+/* A list of numbers that does not fall. */
+static const uint64_t listed[] = {0, 1, 1, 2};
 
 struct call {
     const char *name;

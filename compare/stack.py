@@ -65,13 +65,15 @@ GIVEN |= {field: "0" for field in "word op a k b c bx sbx ax sj".split()}
 
 
 def arguments(call, parameters):
-    """What a call is given, by its parameters' names; memory that is lent is followed by its length."""
+    """What a call is given, by its parameters' names; memory that is lent, or a list of numbers, is followed by its length."""
     split = [re.fullmatch(r"(.*?)(\w+)(\[\w+\])?", p.strip()).groups() for p in parameters.split(",")]
     for (kind, name, _), (_, behind, _) in zip(split, split[1:] + [(None, None, None)]):
         if name in GIVEN:
             yield GIVEN[name]
         elif behind == name + "_len" and not kind.startswith("const"):
             yield f"(void *)lent, LENT / sizeof({kind.replace('*', '').strip()})"
+        elif behind == name + "_len" and kind.startswith("const uint64_t"):
+            yield "listed, sizeof listed / sizeof *listed"
         elif not name.endswith("_len"):
             sys.exit(f"compare/stack.py: {call} is not measured: its parameter {name} is not known here")
 

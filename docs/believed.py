@@ -30,6 +30,7 @@ PROMISES = {
     'demand 3': ['demands/Demand3', 'demands/ShownAt:shown-at', 'demands/Same:header-fixed same-exactly', 'demands/Complete'],
     'request 1': ['demands/Request01'],
     'request 2': ['demands/Request02', 'demands/AfterCounts'],
+    'request 3': ['demands/Request03'],
     'request 4': ['demands/Request04'],
     'request 5': ['demands/Request05'],
     'request 6': ['demands/Request06', 'demands/SameInFull:same-in-full', 'format_lua/LdumpFull:full-as-dumped short-object no-object one-object'],
@@ -42,7 +43,7 @@ GROUPS = [
     ('how a chunk is spelt, counted along the grammar; the same along the reader, for contracts', 'format_spelling/specs: Spelling ReadSpelling'),
     ('what each call on a chunk answers, and leaves in lent memory', 'show_row/specs: Asked; show_chunk/specs: Summaries Fields; show_entry/specs: Entries; show_local/specs: Locals; index/specs: Index; copy/specs: Copied; copy_full/specs: InFull; slice/specs: Over'),
     ("how the code's values show places, strings, constants, warnings", 'slice/specs: Shown; read_field/specs: Shown; read_header/specs: Shown; read_entry/specs: Shown; read_nth/specs: Shown; read_chunk/specs: Decoded'),
-    ('the line of an instruction', 'line_lookup/specs: Lines'),
+    ('the line of an instruction; the lines of a list of pcs', 'line_lookup/specs: Lines; line_batch/specs: Batch'),
     ('the findings of an instruction and of a chunk, the stop, the verdict; the same as loops, as the Rust has them', 'validate_rules/specs: Rules Findings Rust; format/specs: Any; validate_verdict/specs: Answers; validate_plan/specs: Validated; validate_findings/specs: Blank'),
     ('instruction words; lopcodes.h', 'word_opcodes/specs: Table Lopcodes; word_fields/specs: Word; word_fields/proofs: Ranges Words Macros Created'),
     ('for who links from C: limits, refusals and answers as numbers; parts at a place, with the readers of a function in two parts', 'c_boundary/specs: Status; c_boundary/proofs: Numbers; c_words/specs: Words; c_entries/specs: EntryNumbers; c_numbers/specs: Numbers; c_finding/specs: FindingNumbers; c_findings/specs: FindingNumbers; lafzimdo/specs: Answers Version; c_parts/specs: PartNumbers; c_entries_at/specs: EntryNumbers; read_prototype/specs: Front Parts PartsShown; read_entry/specs: Readers'),
@@ -50,7 +51,7 @@ GROUPS = [
     ("Lua's own loader, dumper and line lookup, close to the C", 'format_lua/specs: Lundump LundumpFunctions Ldump LdumpFunctions; line_lookup/specs: Ldebug; format_lua/proofs: LundumpParts LundumpChunk LundumpBack LdumpChunk LdumpWhole LdumpFull; format/proofs: Every'),
     ("words of demand 1's statements: a call's conditions in order; what a refusal is about", 'demands/proofs: Refused Causes InOrder Early Order AtOneByte CutShort Continued ByLimits Exactly Accepted ByC RefusedAt PartsInOrder Printed Demand1; format/proofs: RefusalNumbers'),
     ("words of demand 2's statements: a whole contract", 'demands/proofs: Promise Demand2 Demand2C'),
-    ("words of demand 3's and the requests' statements: what is shown, what is set aside", 'demands/proofs: Request01 Request02 AfterCounts Request05 Depths Request06 Demand3 Calls Written Same SameInFull Inherits Alike Together Complete ShownAt SpeltHere EntriesAt Nested; format/proofs: Located OrderCases; read_nth/proofs: Strings'),
+    ("words of demand 3's and the requests' statements: what is shown, what is set aside", 'demands/proofs: Request01 Request02 AfterCounts Request03 Request05 Depths Request06 Demand3 Calls Written Same SameInFull Inherits Alike Together Complete ShownAt SpeltHere EntriesAt Nested; format/proofs: Located OrderCases; read_nth/proofs: Strings; line_batch/proofs: Laws'),
 ]
 WORD = re.compile(r'[^\s(){};,\[\]]+')
 HEAD = re.compile(r'^( *)(abbrev |unfoldable )?(pub )?(record |data )?(\S+)')

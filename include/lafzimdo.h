@@ -26,7 +26,7 @@ extern "C" {
 #define LAFZIMDO_VERSION (LAFZIMDO_VERSION_MAJOR * 1000000 + LAFZIMDO_VERSION_MINOR * 1000 + LAFZIMDO_VERSION_PATCH)
 #define LAFZIMDO_VERSION_TEXT "0.1.0"
 
-/* Of a refusal: its number, 1 to 28; whether it has a place; the place. (A place of 2^32 or more is left out: only a part asked for at such a place can have one.) */
+/* Of a refusal: its number, 1 to 30; whether it has a place; the place. (A place of 2^32 or more is left out: only a part asked for at such a place can have one.) */
 #define LAFZIMDO_NUMBER(r) ((unsigned)((r) & 255))
 #define LAFZIMDO_HAS_PLACE(r) (((r) >> 8) != 0)
 #define LAFZIMDO_PLACE(r) (((r) >> 8) - 1)
@@ -62,7 +62,9 @@ enum lafzimdo_refusal {
     LAFZIMDO_REFUSED_LINE_TOO_LARGE = 25,
     LAFZIMDO_REFUSED_LENT_SPACE = 26,
     LAFZIMDO_REFUSED_FIELD_RANGE = 27,
-    LAFZIMDO_REFUSED_NO_OPCODE = 28
+    LAFZIMDO_REFUSED_NO_OPCODE = 28,
+    LAFZIMDO_REFUSED_ANCHOR_ORDER = 29,
+    LAFZIMDO_REFUSED_PC_ORDER = 30
 };
 
 /* The limits, in this order: input bytes, nesting depth, prototypes in all, instructions of a prototype, instructions in all, constants of a prototype,
@@ -300,6 +302,10 @@ uint64_t lafzimdo_function(const uint8_t *chunk, size_t len, const uint64_t limi
 
 /* One pass, then one over the function's anchors and deltas: the line of the instruction pc */
 uint64_t lafzimdo_line(const uint8_t *chunk, size_t len, const uint64_t limits[9], size_t function, size_t pc, uint64_t out[1]);
+
+/* One pass, then one over the anchors, the deltas that are read and the pcs: the lines of the instructions pcs[0], pcs[1], ..: each at the same place of `lines`; how many of the function's deltas were read for them, each once. Refusal 29 where the pcs of the
+ * function's anchors do not rise strictly, whatever the pcs are; 30 where a pc is below the one before it; 26 last, where `lines` is shorter than `pcs`. */
+uint64_t lafzimdo_lines(const uint8_t *chunk, size_t len, const uint64_t limits[9], size_t function, const uint64_t *pcs, size_t pcs_len, uint64_t *lines, size_t lines_len, uint64_t out[1]);
 
 /* One pass. An instruction: the word */
 uint64_t lafzimdo_instruction(const uint8_t *chunk, size_t len, const uint64_t limits[9], size_t function, size_t entry, uint64_t out[1]);

@@ -40,6 +40,8 @@ const char *lafzimdo_refusal_text(unsigned number) {
         "the space lent is shorter than the result",
         "a field of an instruction word is out of range",
         "there is no opcode above 82",
+        "the pcs of the function's anchors do not rise strictly",
+        "a pc of the list is below the one before it",
     };
     return TEXT_OF(texts, number);
 }

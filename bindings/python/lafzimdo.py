@@ -282,7 +282,7 @@ class Chunk:
 
     @property
     def index(self):
-        """A row of numbers for each function: start, end, depth, parent, and how long its eight lists are. Made once, in two passes."""
+        """A row of numbers for each function: start, end, depth, parent, how long its eight lists are, and where its words and its constants begin. Made once, in two passes."""
         if self._rows is None:
             rows = (ctypes.c_uint32 * (_ROW * self.function_count))()
             self._call("index", rows, len(rows))
@@ -327,6 +327,14 @@ class Chunk:
     def line(self, function, pc):
         """The line of an instruction; any pc may be asked. Refused with 25 where lines are 2^62 or more."""
         return self._call("line", function, pc)[0]
+
+    def lines(self, function, pcs):
+        """The lines of a list of pcs that never falls, in one pass: their list, and how many of the function's line deltas were read for them, each once. Refused with 29 where the pcs of the
+        function's anchors do not rise strictly, with 30 where a pc is below the one before it."""
+        asked = (ctypes.c_uint64 * max(len(pcs), 1))(*[_size(pc).value for pc in pcs])
+        lines = (ctypes.c_uint64 * max(len(pcs), 1))()
+        read = self._call("lines", function, asked, len(pcs), lines, len(pcs))[0]
+        return list(lines[:len(pcs)]), read
 
 
 def _fitting(limits):
@@ -435,5 +443,11 @@ class Function:
         return self.chunk.line(self.number, pc)
 
     def lines(self):
-        """The line of each instruction. A pass over the chunk for each."""
-        return [self.line(pc) for pc in range(self.counts[0])]
+        """The line of each instruction, in one pass over the chunk; a pass for each where the pcs of its anchors do not rise strictly."""
+        pcs = range(self.counts[0])
+        try:
+            return self.chunk.lines(self.number, pcs)[0]
+        except Refused as refused:
+            if refused.number != 29:
+                raise
+            return [self.line(pc) for pc in pcs]

@@ -1,5 +1,5 @@
 // The forms in which the calls of a case are asked: with no number, one, two, and with lent space.
-use crate::calls::{Call, Entry, Lending, Numbered, Whole, LOCAL};
+use crate::calls::{Call, Entry, Lending, Numbered, Whole, LINES, LOCAL};
 use crate::check::Asked;
 use crate::difference::Difference;
 use crate::lender::{Answer, Filled};
@@ -49,6 +49,22 @@ impl Asked<'_> {
         let at = [function as u64, entry as u64, lent as u64];
         self.lender.agree_lent("lafzimdo_local", &at, lent, expected, |name, out| unsafe {
             LOCAL(case.chunk.as_ptr(), case.chunk.len(), case.limits.as_ptr(), function, entry, name, lent, out)
+        })
+    }
+
+    /// The lines of a list of pcs.
+    pub fn lines(
+        &mut self,
+        function: usize,
+        pcs: &[u64],
+        lent: usize,
+        expected: Result<([u64; 1], &[u64]), u64>,
+    ) -> Result<(), Difference> {
+        let case = self.case;
+        let at: Vec<u64> = [function as u64, lent as u64].iter().chain(pcs).copied().collect();
+        let (chunk, limits) = (&case.chunk, case.limits.as_ptr());
+        self.lender.agree_lent("lafzimdo_lines", &at, lent, expected, |lines, out| unsafe {
+            LINES(chunk.as_ptr(), chunk.len(), limits, function, pcs.as_ptr(), pcs.len(), lines, lent, out)
         })
     }
 

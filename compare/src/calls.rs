@@ -65,10 +65,16 @@ calls! {
 }
 
 declared!(lafzimdo_local(function: usize, entry: usize, name: *mut u8, name_len: usize));
+declared!(lafzimdo_lines(function: usize, pcs: *const u64, pcs_len: usize, lines: *mut u64, lines_len: usize));
 
 /// The name into lent space; three numbers.
 pub const LOCAL: unsafe extern "C" fn(*const u8, usize, *const u64, usize, usize, *mut u8, usize, *mut u64) -> Status =
     lafzimdo_local;
+
+/// The lines of a list of pcs into lent space; one number.
+#[rustfmt::skip]
+pub const LINES: unsafe extern "C" fn(*const u8, usize, *const u64, usize, *const u64, usize, *mut u64, usize, *mut u64) -> Status =
+    lafzimdo_lines;
 
 extern "C" {
     /// Twelve numbers, and one.

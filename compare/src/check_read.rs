@@ -1,8 +1,9 @@
-// A chunk that is read: the summary, the index, the copies and their summaries, verdict and findings, and by number each function's fields, entries and lines.
+// A chunk that is read: the summary, the index, the copies and their summaries, verdict and findings, and by number each function's fields, entries and lines, one by one and in lists.
 use crate::calls::*;
 use crate::case::Case;
 use crate::chance::Chance;
 use crate::check::{judge, Asked};
+use crate::check_lines::lists;
 use crate::difference::Difference;
 use crate::judged::{constant, summary, Judged};
 use crate::lender::{coded, Filled};
@@ -38,6 +39,7 @@ pub fn read_chunk(asked: &mut Asked, judged: &Judged) -> Result<(), Difference> 
         asked.numbered(&FUNCTION, function, Ok(judged.fields(function)))?;
         entries(asked, judged, function, all)?;
         lines(asked, judged, function, all)?;
+        lists(asked, judged, function)?;
     }
     no_function(asked, functions)?;
     if asked.chance.one_in(COPIES) {
@@ -195,7 +197,7 @@ fn no_function(asked: &mut Asked, functions: usize) -> Result<(), Difference> {
     let function = asked.beyond(functions);
     let entry = asked.chance.of(&[0, 0, 1, 5, usize::MAX]);
     asked.tally.refused(23);
-    match asked.chance.below(9) {
+    match asked.chance.below(10) {
         0 => asked.entry(&LINE, function, entry, Err(23)),
         1 => asked.entry(&INSTRUCTION, function, entry, Err(23)),
         2 => asked.entry(&CONSTANT, function, entry, Err(23)),
@@ -204,6 +206,7 @@ fn no_function(asked: &mut Asked, functions: usize) -> Result<(), Difference> {
         5 => asked.entry(&ANCHOR, function, entry, Err(23)),
         6 => asked.local(function, entry, 1, Err(23)),
         7 => asked.entry(&UPVALUE_NAME, function, entry, Err(23)),
+        8 => asked.lines(function, &[entry as u64, 1], 1, Err(23)),
         _ => asked.numbered(&FUNCTION, function, Err(23)),
     }
 }

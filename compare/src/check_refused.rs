@@ -27,6 +27,7 @@ pub fn refused_chunk(asked: &mut Asked, refusal: Refusal) -> Result<(), Differen
     }
     asked.entry(&ANCHOR, function, entry, Err(code))?;
     asked.local(function, entry, lent, Err(code))?;
+    asked.lines(function, &[entry as u64, 1][..lent.min(2)], lent, Err(code))?;
     asked.lending(&INDEX, lent, Err(code))?;
     asked.lending(&COPY, lent, Err(code))?;
     asked.lending(&FULL_COPY, lent, Err(code))?;

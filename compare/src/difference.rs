@@ -5,7 +5,7 @@ use std::fmt::{Debug, Display, Formatter, Result};
 pub struct Difference {
     /// The call, or what of the Rust stopped.
     pub call: &'static str,
-    /// The numbers that it was asked with: function, entry, pc, place, length of lent space, as it takes them.
+    /// The numbers that it was asked with: function, entry, pc, place, length of lent space, as it takes them; behind that a list of pcs.
     pub at: Vec<u64>,
     pub judge: String,
     pub library: String,

@@ -42,6 +42,8 @@ pub enum Way {
     /// Not the answer, but what is expected: the padded numbers of one kind are left out; the sources of the full copy go by a wrong rule.
     Kind(usize),
     Sources(usize),
+    /// And so of a list of pcs: what is expected is wrong in one of the ways of check_lines.rs.
+    List(usize),
     /// The refusal's number, and its place.
     Refusal,
     Place,
@@ -139,6 +141,14 @@ impl Lender {
     pub fn wrong_sources(&self) -> Option<usize> {
         match self.alteration {
             Some(Alteration { way: Way::Sources(rule), .. }) => Some(rule),
+            _ => None,
+        }
+    }
+
+    /// In which way the self-test expects something else of a list of pcs.
+    pub fn wrong_list(&self) -> Option<usize> {
+        match self.alteration {
+            Some(Alteration { way: Way::List(way), .. }) => Some(way),
             _ => None,
         }
     }

@@ -28,6 +28,7 @@ pub mod case;
 pub mod cases;
 pub mod chance;
 pub mod check;
+mod check_lines;
 mod check_places;
 mod check_read;
 mod check_refused;

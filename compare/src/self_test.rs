@@ -1,8 +1,9 @@
 // That each comparison can fail: every number of every call's answer, its refusal and place, and the memory lent to it are changed in turn before they are
-// compared, and a run of cases must find each change; in the index each number of a row. So it must where padded numbers of one kind are not counted, and where the sources of the full copy go by a wrong rule.
+// compared, and a run of cases must find each change; in the index each number of a row. So it must where padded numbers of one kind are not counted, and where the sources of the full copy go by a wrong rule, or a list of pcs is judged in a wrong way.
 use crate::calls::CHUNK_CALLS;
 use crate::cases::Cases;
 use crate::check::{check, judge, CHUNK};
+use crate::check_lines::WRONG as WRONG_LISTS;
 use crate::full::{AS_LONG, WRONG};
 use crate::judged::COLUMNS;
 use crate::lender::{Alteration, Lender, Way};
@@ -13,9 +14,10 @@ use crate::tally::Tally;
 const CASES: u64 = 20_000;
 
 /// Calls that are lent space besides the array, and those without a chunk or a refusal with a place.
-const LENDING: [&str; 5] =
-    ["lafzimdo_local", "lafzimdo_index", "lafzimdo_copy", "lafzimdo_full_copy", "lafzimdo_findings"];
-const OTHERS: [(&str, usize); 4] = [(CHUNK, 0), ("lafzimdo_local", 3), ("lafzimdo_decode", 12), ("lafzimdo_encode", 1)];
+const LENDING: [&str; 6] =
+    ["lafzimdo_local", "lafzimdo_lines", "lafzimdo_index", "lafzimdo_copy", "lafzimdo_full_copy", "lafzimdo_findings"];
+const OTHERS: [(&str, usize); 5] =
+    [(CHUNK, 0), ("lafzimdo_local", 3), ("lafzimdo_lines", 1), ("lafzimdo_decode", 12), ("lafzimdo_encode", 1)];
 
 fn ways(call: &str, numbers: usize) -> Vec<Way> {
     if call == CHUNK {
@@ -40,6 +42,9 @@ fn ways(call: &str, numbers: usize) -> Vec<Way> {
         "lafzimdo_full_copy_length" => ways.extend((0..WRONG.len()).filter(|rule| *rule != AS_LONG).map(Way::Sources)),
         "lafzimdo_full_copy" => ways.push(Way::Sources(AS_LONG)),
         _ => {}
+    }
+    if call == "lafzimdo_lines" {
+        ways.extend((0..WRONG_LISTS.len()).map(Way::List));
     }
     if LENDING.contains(&call) {
         ways.extend([Way::FirstItem, Way::LastItem, Way::BehindItems, Way::ItemsOnRefusal]);

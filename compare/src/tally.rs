@@ -5,8 +5,8 @@ use crate::padded::KINDS;
 #[derive(Default)]
 pub struct Tally {
     pub cases: u64,
-    /// By number: of a chunk 1 to 22, of a call 23 to 26, of a word 27 and 28.
-    refusals: [u64; 29],
+    /// By number: of a chunk 1 to 22, of a call 23 to 26, of a word 27 and 28, of a list of pcs 29 and 30.
+    refusals: [u64; 31],
     verdicts: [u64; 3],
     /// Findings of each rule, and cases that have one.
     findings: [u64; 7],
@@ -20,6 +20,10 @@ pub struct Tally {
     pub stopped_lines: u64,
     pub entries: u64,
     pub lines: u64,
+    /// Lists of pcs that are answered, their pcs, and the deltas read for them.
+    pub lists: u64,
+    pub listed: u64,
+    pub deltas_read: u64,
     pub words: u64,
     pub parts: u64,
     /// Copies that are read, and cases whose full copy is another than the archive copy.
@@ -67,6 +71,9 @@ impl Tally {
         self.stopped_lines += other.stopped_lines;
         self.entries += other.entries;
         self.lines += other.lines;
+        self.lists += other.lists;
+        self.listed += other.listed;
+        self.deltas_read += other.deltas_read;
         self.words += other.words;
         self.parts += other.parts;
         self.copies += other.copies;
@@ -81,6 +88,7 @@ impl Tally {
         row("of a call", refusals(23, 26));
         println!("           lines refused with 25 at which the Rust stops: {}", self.stopped_lines);
         row("of a word", refusals(27, 28));
+        row("of a list", refusals(29, 30));
         row("verdict", VERDICTS.iter().zip(self.verdicts).map(|(name, count)| format!("{name}: {count}")).collect());
         row("warnings", self.warnings.iter().enumerate().map(|(i, count)| format!("{i}: {count}")).collect());
         row(
@@ -98,5 +106,6 @@ impl Tally {
              cases with a full copy of its own: {}",
             self.functions, self.entries, self.parts, self.lines, self.words, self.copies, self.sourced
         );
+        println!("lists      answered: {}  pcs: {}  deltas read: {}", self.lists, self.listed, self.deltas_read);
     }
 }

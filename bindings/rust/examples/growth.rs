@@ -76,7 +76,7 @@ fn gone_through(chunk: &Chunk<'_>) -> usize {
         entries += function.anchors().map(black_box).count();
         entries += function.locals().map(black_box).count();
         entries += function.upvalue_names().map(black_box).count();
-        black_box(function.lines().expect("lines are small"));
+        black_box(function.computed_lines().expect("lines are small"));
     }
     entries
 }

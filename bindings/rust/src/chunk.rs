@@ -8,6 +8,7 @@ use crate::header::{Header, Warning};
 use crate::index::{Counts, Index, Row};
 use crate::input::{granted, Input};
 use crate::limits::Limits;
+use crate::lines::Lines;
 use crate::refusal::Refusal;
 use crate::text::Text;
 use std::fmt;
@@ -236,6 +237,21 @@ impl<'a> Chunk<'a> {
     pub fn line(&self, function: usize, pc: usize) -> Result<u64, Refusal> {
         let [line] = ffi::line(self.input.bytes, &self.input.limits, function, pc)?;
         Ok(line)
+    }
+
+    /// The lines of a list of pcs that never falls, in one pass over the chunk, and how many of the function's deltas were read for them, each once. Each line is [`line`](Chunk::line)'s.
+    ///
+    /// Refused with 25 as that call is, with 29 where the pcs of the function's anchors do not rise strictly, whatever the pcs are, and with 30 where a pc is below the one before it.
+    pub fn lines(&self, function: usize, pcs: &[u64]) -> Result<Lines, Refusal> {
+        let mut lines = vec![0; pcs.len()];
+        let deltas_read = self.lines_into(function, pcs, &mut lines)?;
+        Ok(Lines { lines, deltas_read })
+    }
+
+    /// The same: the lines are written at the front of `lines`, and the answer is how many deltas were read. What is behind them stays. Refused with 26 last, and nothing is written, where
+    /// the space is too short.
+    pub fn lines_into(&self, function: usize, pcs: &[u64], lines: &mut [u64]) -> Result<usize, Refusal> {
+        ffi::lines(self.input.bytes, &self.input.limits, function, pcs, lines)
     }
 
     /// An instruction word.

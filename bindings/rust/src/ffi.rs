@@ -91,6 +91,17 @@ extern "C" {
         list_len: usize,
         out: &mut [u64; 2],
     ) -> u64;
+    fn lafzimdo_lines(
+        chunk: *const u8,
+        len: usize,
+        limits: &[u64; 9],
+        function: usize,
+        pcs: *const u64,
+        pcs_len: usize,
+        lines: *mut u64,
+        lines_len: usize,
+        out: &mut [u64; 1],
+    ) -> u64;
     fn lafzimdo_decode(word: u32, out: &mut [u64; 12]) -> u64;
     fn lafzimdo_encode(
         op: u8,
@@ -163,6 +174,23 @@ pub(crate) fn findings(chunk: &[u8], limits: &[u64; 9], list: &mut [[u64; 4]]) -
     // SAFETY: as above; the findings are written into `list`, for which this function has the only reference.
     let status = unsafe { lafzimdo_findings(chunk.as_ptr(), chunk.len(), limits, lent, room, &mut out) };
     Refusal::of_status(status).map(|()| out)
+}
+
+/// How many deltas were read; the line of each pc is at the front of `lines`.
+pub(crate) fn lines(
+    chunk: &[u8],
+    limits: &[u64; 9],
+    function: usize,
+    pcs: &[u64],
+    lines: &mut [u64],
+) -> Result<usize, Refusal> {
+    let mut out = [0; 1];
+    let (asked, count) = (pcs.as_ptr(), pcs.len());
+    let (lent, room) = (lines.as_mut_ptr(), lines.len());
+    // SAFETY: as above; the pcs are read, and the lines are written into `lines`, for which this function has the only reference.
+    let status =
+        unsafe { lafzimdo_lines(chunk.as_ptr(), chunk.len(), limits, function, asked, count, lent, room, &mut out) };
+    Refusal::of_status(status).map(|()| out[0] as usize)
 }
 
 /// Opcode, mode, a, k, b, sb, c, sc, bx, sbx, ax, sj.

@@ -163,12 +163,23 @@ impl<'a> Function<'a> {
         Entries::new(self.chunk.input, self.fields.counts.upvalue_names, self.places.upvalue_names, entries::string)
     }
 
-    /// The line of each instruction, in one pass over deltas and anchors.
-    ///
-    /// [`Chunk::line`](crate::Chunk::line) is the proved call, which answers any pc and is a pass over the file each time. This one is computed by this crate, by the same rules,
-    /// and is tested against that call. Refused with 25 as that call is.
+    /// The line of each instruction: the proved call [`Chunk::lines`](crate::Chunk::lines) with every pc, a pass over the file. Where that refuses with 29, since the pcs of the anchors do not
+    /// rise strictly, it is [`computed_lines`](Function::computed_lines). Refused with 25.
     pub fn lines(&self) -> Result<Vec<u64>, Refusal> {
-        lines::lines(self)
+        let pcs: Vec<u64> = (0..self.fields.counts.instructions as u64).collect();
+        let mut lines = vec![0; pcs.len()];
+        match ffi::lines(self.chunk.input.bytes, &self.chunk.input.limits, self.number, &pcs, &mut lines) {
+            Ok(_) => Ok(lines),
+            Err(Refusal::AnchorOrder) => self.computed_lines(),
+            Err(refusal) => Err(refusal),
+        }
+    }
+
+    /// The same lines without a pass over the file, for who goes through all functions of a chunk: in one pass over this function's deltas and anchors.
+    ///
+    /// This is computed by this crate, by the rules of the proved calls; it is not proved, and is tested against them. Refused with 25.
+    pub fn computed_lines(&self) -> Result<Vec<u64>, Refusal> {
+        lines::computed(self)
     }
 }
 

@@ -28,7 +28,8 @@
 //! Every call on a chunk by numbers, such as [`Chunk::constant`], is a pass over the file. Who wants all of a chunk goes through [`Chunk::functions`] and the lists of
 //! each [`Function`]: these go on from place to place, and the whole costs a few passes, whatever the file holds.
 //!
-//! Not proved is what this crate adds: how it stores and hands on the library's numbers, and [`Function::lines`].
+//! Not proved is what this crate adds: how it stores and hands on the library's numbers, and [`Function::computed_lines`], which [`Function::lines`] takes where the anchors of a
+//! function are out of order.
 #![deny(unsafe_code)]
 #![warn(missing_docs)]
 
@@ -61,6 +62,7 @@ pub use function::{Fields, Function, Nested};
 pub use header::{Header, Warning};
 pub use index::{Counts, Row};
 pub use limits::Limits;
+pub use lines::Lines;
 pub use operand::{operand_kinds, Field, Operand, OperandKind};
 pub use owned::OwnedChunk;
 pub use refusal::Refusal;

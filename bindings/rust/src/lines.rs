@@ -1,12 +1,21 @@
-//! The line of every instruction of a function. The rules are those of the proved call, `lafzimdo_line`, which answers for one instruction in one pass.
+//! The lines of a list of pcs; and the line of every instruction of a function, computed without a pass over the chunk, by the rules of the proved calls, `lafzimdo_line` and `lafzimdo_lines`.
 use crate::entry::Anchor;
 use crate::function::Function;
 use crate::refusal::Refusal;
 
+/// The lines of a list of pcs.
+#[derive(Debug, Clone, PartialEq, Eq, Hash)]
+pub struct Lines {
+    /// The line of each pc, in the order of the list.
+    pub lines: Vec<u64>,
+    /// How many of the function's deltas were read: as many as the lookups of these pcs walk over, each counted once.
+    pub deltas_read: usize,
+}
+
 /// From here on a line is refused.
 const TOO_LARGE: u64 = 1 << 62;
 
-pub(crate) fn lines(function: &Function<'_>) -> Result<Vec<u64>, Refusal> {
+pub(crate) fn computed(function: &Function<'_>) -> Result<Vec<u64>, Refusal> {
     let fields = function.fields();
     let anchors: Vec<Anchor> = function.anchors().collect();
     if fields.line_defined >= TOO_LARGE || anchors.iter().any(|anchor| anchor.line >= TOO_LARGE) {

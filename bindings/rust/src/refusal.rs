@@ -13,7 +13,7 @@ macro_rules! refusals {
         }
 
         impl Refusal {
-            /// The number, 1 to 28.
+            /// The number, 1 to 30.
             pub const fn number(&self) -> u8 {
                 match self { $(Refusal::$name { .. } => $number,)* }
             }
@@ -26,7 +26,7 @@ macro_rules! refusals {
             fn of_number(number: u8, place: usize) -> Refusal {
                 match number {
                     $($number => Refusal::$name $((place as $place))?,)*
-                    _ => unreachable!("the library's refusals have the numbers 1 to 28, not {number}"),
+                    _ => unreachable!("the library's refusals have the numbers 1 to 30, not {number}"),
                 }
             }
         }
@@ -62,6 +62,8 @@ refusals! {
     26 LentSpace "the space lent is shorter than the result";
     27 FieldRange "a field of an instruction word is out of range";
     28 NoOpcode "there is no opcode above 82";
+    29 AnchorOrder "the pcs of the function's anchors do not rise strictly";
+    30 PcOrder "a pc of the list is below the one before it";
 }
 
 impl Refusal {
@@ -88,7 +90,7 @@ impl Refusal {
             | NestingDepth(place)
             | TotalPrototypes(place) => Some(place),
             Overflow | VarintOverflow | LimitAboveCeiling | InputBytes | NoFunction | NoEntry | LineTooLarge
-            | LentSpace | FieldRange | NoOpcode => None,
+            | LentSpace | FieldRange | NoOpcode | AnchorOrder | PcOrder => None,
         }
     }
 
@@ -124,11 +126,11 @@ mod tests {
     #[test]
     fn numbers_and_places() {
         assert_eq!(Refusal::of_status(0), Ok(()));
-        for number in 1..=28 {
+        for number in 1..=30 {
             let without = refusal(number);
             let with = refusal(number + 256 * 46);
             assert_eq!((u64::from(without.number()), u64::from(with.number())), (number, number));
-            let has_place = !matches!(number, 2 | 3 | 21..=28);
+            let has_place = !matches!(number, 2 | 3 | 21..=30);
             assert_eq!(with.place(), has_place.then_some(45), "{number}");
         }
     }
@@ -147,7 +149,7 @@ mod tests {
         let (_, list) = list.split_once("pub enum Refusal {").unwrap();
         let (list, _) = list.split_once('}').unwrap();
         let names = list.lines().map(str::trim).filter(|line| !line.is_empty() && !line.starts_with("//"));
-        let ours = (1..=28).map(|number| format!("{:?},", refusal(number + 256)).replace("(0)", "(usize)"));
+        let ours = (1..=30).map(|number| format!("{:?},", refusal(number + 256)).replace("(0)", "(usize)"));
         assert_eq!(names.collect::<Vec<_>>(), ours.collect::<Vec<_>>());
     }
 }

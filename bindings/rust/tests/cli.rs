@@ -7,7 +7,7 @@ use std::fs::{self, Permissions};
 use std::os::unix::fs::{symlink, PermissionsExt};
 use std::process::{Command, Stdio};
 
-const COMMANDS: [&str; 5] = ["list", "dump", "copy", "check", "lines"];
+const COMMANDS: [&str; 6] = ["list", "dump", "copy", "check", "lines", "sweep"];
 
 fn recentre() -> String {
     sample().to_str().unwrap().to_string()
@@ -58,6 +58,10 @@ fn wrong_arguments() {
         (&["lines", "a", "x"], "FUNCTION is a number"),
         (&["lines", "a", "0", "-1"], "there is no option -1"),
         (&["lines", "a", "0", "18446744073709551616"], "PC is a number"),
+        (&["sweep", "a", "0"], "sweep takes FILE FUNCTION LOG"),
+        (&["sweep", "a", "0", "b", "c"], "sweep takes FILE FUNCTION LOG"),
+        (&["sweep", "a", "x", "b"], "FUNCTION is a number"),
+        (&["sweep", "-", "0", "-"], "FILE and LOG cannot both be standard input"),
         (&["list", "--force", "a"], "there is no option --force"),
         (&["list", "--max-nesting-depth"], "--max-nesting-depth needs a number"),
         (&["list", "--max-nesting-depth", "+1", "a"], "--max-nesting-depth is a number"),
@@ -271,6 +275,30 @@ fn lines() {
 }
 
 #[test]
+fn sweeps() {
+    let chunk_file = fresh("swept.luac");
+    fs::write(&chunk_file, chunk(&function(10, 5, &[], &[1, 0, 2, -128, 1], &[(3, 200)]))).unwrap();
+    let name = chunk_file.to_str().unwrap();
+    let ran = run_on(&["sweep", name, "0", "-"], b"0\n9\n9\n18446744073709551615\n");
+    assert_eq!(ran.text(0), "0 11\n9 201\n9 201\n18446744073709551615 201\ndeltas 3\n");
+    assert_eq!(run_on(&["sweep", name, "0", "-"], b"").text(0), "deltas 0\n");
+    run_on(&["sweep", name, "0", "-"], b"2\n1\n").says(1, "refused 30");
+    run_on(&["sweep", name, "1", "-"], b"2\n1\n").says(1, "refused 23");
+    run_on(&["sweep", name, "0", "-"], b"2\nx\n").says(3, "standard input: line 2 is no number");
+    run_on(&["sweep", name, "0", "-"], b"2\n\xff\n").says(3, "standard input: ");
+    run(&["sweep", name, "0", "no/such/log"]).says(3, "no/such/log: ");
+    // From a file, the chunk from standard input; anchors at one pc.
+    let log = fresh("swept.log");
+    fs::write(&log, "1\r\n\r\n2").unwrap();
+    let log = log.to_str().unwrap();
+    let bytes = fs::read(&chunk_file).unwrap();
+    assert_eq!(run_on(&["sweep", "-", "0", log], &bytes).text(0), "1 11\n2 13\ndeltas 3\n");
+    let twice = chunk(&function(7, 9, &[], &[1, 1], &[(1, 5), (1, 6)]));
+    run_on(&["sweep", "-", "0", log], &twice).says(1, "refused 29");
+    assert_eq!(run_on(&["lines", "-", "0", "1", "2"], &twice).text(0), "1 7\n2 7\n");
+}
+
+#[test]
 fn a_reader_that_wants_no_more() {
     let mut bytes = small();
     bytes.resize(4_000_000, 0);
@@ -290,6 +318,7 @@ fn an_output_that_cannot_be_written() {
         match command {
             "copy" => arguments.push("-".into()),
             "lines" => arguments.push("0".into()),
+            "sweep" => arguments.extend(["0".to_string(), "/dev/null".to_string()]),
             _ => {}
         }
         let output = program().args(arguments).stdout(full).stderr(Stdio::piped()).output().unwrap();

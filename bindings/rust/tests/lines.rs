@@ -1,4 +1,4 @@
-//! The lines of all instructions are those of the call for one, which is proved.
+//! The lines of all instructions, by the proved call and as this crate computes them, are those of the call for one, which is proved.
 mod common;
 
 use common::{chunk, function};
@@ -9,6 +9,7 @@ fn compared(bytes: &[u8], limits: Limits) -> usize {
     let mut lines = 0;
     for function in chunk.functions() {
         let count = function.fields().counts.instructions;
+        assert_eq!(function.lines(), function.computed_lines());
         match function.lines() {
             Ok(all) => {
                 assert_eq!(all.len(), count);

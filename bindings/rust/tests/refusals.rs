@@ -81,6 +81,7 @@ fn of_lines() {
     assert_eq!(read.line(0, 0), Err(Refusal::LineTooLarge));
     assert_eq!(read.line(1, 0), Err(Refusal::NoFunction));
     assert_eq!(read.function(0).unwrap().lines(), Err(Refusal::LineTooLarge));
+    assert_eq!(read.function(0).unwrap().computed_lines(), Err(Refusal::LineTooLarge));
 }
 
 #[test]

@@ -6,6 +6,7 @@
 --     instruction ..          answer     shownWord, .. (entryOf (λ p. p .instructions) f i (read L s)), and so for the other lists
 --     local                   answers    shownLocal space (entryOf (λ p. p .loc-vars) f i (read L s)), and leaves nameWritten old of the same
 --     get_line_for_pc         answers    shownLine pc (functionOf f (read L s))
+--     get_lines_for_pcs       answers    shownLines (length old) pcs (functionOf f (read L s)), and leaves linesWritten old pcs (functionOf f (read L s))
 --     function_index          answers    shownIndex space (read L s), and leaves indexWritten old (read L s)
 --     chunk_verdict           answers    shownVerdict (read L s)
 --     finding_count           answers    shownCount (read L s)
@@ -50,6 +51,8 @@ use Rattle.validate_plan.specs.Validated.{shownFindings, findingsWritten}
 use Rattle.validate_findings.specs.Blank.{LONGEST, blankList}
 use Rattle.line_lookup.specs.declared.line.LineAnswer.the-variants as line-answer
 use Rattle.line_lookup.specs.Lines.{answerOf, shownLine}
+use Rattle.line_batch.specs.declared.list.LinesAnswer.the-variants as lines-answer
+use Rattle.line_batch.specs.Batch.{shownLines, linesWritten}
 use Rattle.index.specs.Index.{index, shownIndex, indexWritten}
 use Rattle.index.specs.declared.IndexAnswer.the-variants as index-answer
 use Rattle.copy.specs.Copied.{shownLength, shownCopy, copyWritten}
@@ -96,6 +99,8 @@ pub record ShowsFunction (L : ResourceLimits) (s : Bytes) (f : ℕ) (p : Prototy
   pub upvalue-name-bytes : (i : ℕ) (t : Option LuaString) → getElem? (p .upvalue-names) i ≡ some t → StandsIf s t
   -- the line of any pc, by 01's rules
   pub line : (pc : ℕ) → shownLine pc (functionOf f (read L s)) ≡ answerOf (length (p .instructions)) (p .line-defined) (p .line-info) (p .abs-line-info) pc
+  -- those of any list of pcs, in lent space
+  pub lines : (old pcs : List ℕ) → (shownLines (length old) pcs (functionOf f (read L s)) ≡ shownLines (length old) pcs (found p)) × (linesWritten old pcs (functionOf f (read L s)) ≡ linesWritten old pcs (found p))
 
 -- ## A function that is not shown: every call on it answers with the same refusal, and lent memory stays as it was
 pub record RefusesFunction (L : ResourceLimits) (s : Bytes) (f : ℕ) (q : Refusal) : Type 0 where
@@ -108,6 +113,7 @@ pub record RefusesFunction (L : ResourceLimits) (s : Bytes) (f : ℕ) (q : Refus
   pub upvalue-name : (i : ℕ) → shownName (entryOf (λ p. p .upvalue-names) f i (read L s)) ≡ name-answer.Err q
   pub local : (i : ℕ) (old : Bytes) → (shownLocal (length old) (entryOf (λ p. p .loc-vars) f i (read L s)) ≡ local-answer.Err q) × (nameWritten old (entryOf (λ p. p .loc-vars) f i (read L s)) ≡ old)
   pub line : (pc : ℕ) → shownLine pc (functionOf f (read L s)) ≡ line-answer.Err q
+  pub lines : (old pcs : List ℕ) → (shownLines (length old) pcs (functionOf f (read L s)) ≡ lines-answer.Err q) × (linesWritten old pcs (functionOf f (read L s)) ≡ old)
 
 refuses-function : (L : ResourceLimits) (s : Bytes) (f : ℕ) (q : Refusal) → functionOf f (read L s) ≡ refused q → RefusesFunction L s f q
 refuses-function L s f q is = record {
@@ -120,6 +126,7 @@ refuses-function L s f q is = record {
   upvalue-name = λ i. ap (λ a. shownName (entryIn (λ p. p .upvalue-names) i a)) is;
   local = λ i old. (ap (λ a. shownLocal (length old) (entryIn (λ p. p .loc-vars) i a)) is, ap (λ a. nameWritten old (entryIn (λ p. p .loc-vars) i a)) is);
   line = λ pc. ap (shownLine pc) is;
+  lines = λ old pcs. (ap (shownLines (length old) pcs) is, ap (linesWritten old pcs) is);
 }
 
 -- ## What is shown of a chunk
@@ -191,6 +198,7 @@ module _ (L : ResourceLimits) (s : Bytes) (r : Reading) (is : read L s ≡ shown
       constant-bytes = λ i k e. constant-stands s (L .«max_string_bytes») i (many-nth (constant (L .«max_string_bytes»)) (length (p .constants)) (located .constants) i e);
       upvalue-name-bytes = λ i t e. name-stands s (L .«max_string_bytes») i (many-nth (string (L .«max_string_bytes»)) (length (p .upvalue-names)) (located .upvalue-names) i e);
       line = λ pc. ap (shownLine pc) function-is;
+      lines = λ old pcs. (ap (shownLines (length old) pcs) function-is, ap (linesWritten old pcs) function-is);
     }
 
   -- the findings in a list of that length

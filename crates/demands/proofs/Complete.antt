@@ -28,6 +28,7 @@ use Rattle.validate_verdict.specs.Answers.{shownVerdict, shownCount}
 use Rattle.validate_plan.specs.Validated.{shownFindings, findingsWritten}
 use Rattle.validate_findings.specs.Blank.{LONGEST, blankList}
 use Rattle.line_lookup.specs.Lines.{shownLine}
+use Rattle.line_batch.specs.Batch.{shownLines, linesWritten}
 use Rattle.index.specs.Index.{index, shownIndex, indexWritten}
 use Rattle.copy.specs.Copied.{shownLength, shownCopy, copyWritten}
 use Rattle.copy_full.specs.InFull.{shownFullLength, shownFull, fullWritten}
@@ -38,6 +39,7 @@ use Rattle.demands.proofs.ShownEqual.{option-shown, value-shown, name-s
 
 pub record RestAlike (L : ResourceLimits) (s : Bytes) (M : ResourceLimits) (t : Bytes) : Type 0 where
   pub line : (f pc : ℕ) → shownLine pc (functionOf f (read L s)) ≡ shownLine pc (functionOf f (read M t))
+  pub lines : (f : ℕ) (old pcs : List ℕ) → (shownLines (length old) pcs (functionOf f (read L s)) ≡ shownLines (length old) pcs (functionOf f (read M t))) × (linesWritten old pcs (functionOf f (read L s)) ≡ linesWritten old pcs (functionOf f (read M t)))
   pub index-rows : IndexAlike L s M t
   pub chunk-verdict : shownVerdict (read L s) ≡ shownVerdict (read M t)
   pub finding-count : shownCount (read L s) ≡ shownCount (read M t)
@@ -112,6 +114,7 @@ module _ (L M : ResourceLimits) (s t : Bytes) where
       },
       record {
         line = λ f pc. function f (λ p a b. via (a .line pc) (b .line pc)) (λ q a b. via (a .line pc) (b .line pc));
+        lines = λ f old pcs. function f (λ p a b. both (a .lines old pcs) (b .lines old pcs)) (λ q a b. both (a .lines old pcs) (b .lines old pcs));
         index-rows = record { answer = λ old. rows old .0; rows = λ old. rows old .1 };
         chunk-verdict = via (x .chunk-verdict) (y .chunk-verdict);
         finding-count = via (x .finding-count) (y .finding-count);
@@ -146,6 +149,7 @@ module _ (L M : ResourceLimits) (s t : Bytes) where
       },
       record {
         line = λ f pc. via (x .function f .line pc) (y .function f .line pc);
+        lines = λ f old pcs. both (x .function f .lines old pcs) (y .function f .lines old pcs);
         index-rows = record { answer = λ old. both (x .index-rows old) (y .index-rows old) .0; rows = λ old. both (x .index-rows old) (y .index-rows old) .1 };
         chunk-verdict = via (x .chunk-verdict) (y .chunk-verdict);
         finding-count = via (x .finding-count) (y .finding-count);

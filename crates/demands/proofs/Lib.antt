@@ -38,6 +38,7 @@ pub mod ShownAt
 pub mod Request01
 pub mod AfterCounts
 pub mod Request02
+pub mod Request03
 pub mod Request04
 pub mod Depths
 pub mod Request05

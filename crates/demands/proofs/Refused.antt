@@ -1,7 +1,7 @@
 -- The refusals of a call, in 01's order, each with its condition, its number and its place; and the refusal that an answer holds, as 01's number and place (`reported`).
 --     first qs         the first of the conditions that holds
 --     ofChunk L s      21, 22, then 1 to 20: what every call on a chunk tests
---     noFunction ..    23, 24, 25 and 26, of a chunk that is read
+--     noFunction ..    23, 24, 25, 26, 29 and 30, of a chunk that is read
 --     forChunk ..      all conditions of a call, in their order
 --     inSummary ..     the refusal in an answer
 use mathlib.Core.Path.{_≡_, refl}
@@ -20,6 +20,7 @@ use Rattle.format.specs.Reading.{Reading, Prototype, LocalVar}
 use Rattle.format.specs.Read.{Read, ok, refused}
 use Rattle.format.specs.ReadChunk.{Outcome, shown, refusal, main, read}
 use Rattle.line_lookup.specs.Lines.{large}
+use Rattle.line_batch.specs.Batch.{rises, neverFalls}
 use Rattle.word_opcodes.specs.declared.opcode.OptionOpcode54.{OptionOpcode54}
 use Rattle.word_opcodes.specs.declared.opcode.OptionOpcode54.the-variants as option
 use Rattle.word_opcodes.specs.Table.{modeOf}
@@ -31,6 +32,8 @@ use Rattle.index.specs.declared.IndexAnswer.{IndexAnswer}
 use Rattle.index.specs.declared.IndexAnswer.the-variants as index
 use Rattle.line_lookup.specs.declared.line.LineAnswer.{LineAnswer}
 use Rattle.line_lookup.specs.declared.line.LineAnswer.the-variants as line
+use Rattle.line_batch.specs.declared.list.LinesAnswer.{LinesAnswer}
+use Rattle.line_batch.specs.declared.list.LinesAnswer.the-variants as lines
 use Rattle.copy.specs.declared.whole.CopyAnswer.{CopyAnswer}
 use Rattle.copy.specs.declared.whole.CopyAnswer.the-variants as copy
 use Rattle.show_chunk.specs.declared.summary.SummaryAnswer.{SummaryAnswer}
@@ -100,6 +103,13 @@ noEntry list f i r = ofFunction (getElem? (r .functions) f) (λ p. missing (getE
 abbrev pub largeLine : ℕ → Reading → Option Report
 largeLine f r = ofFunction (getElem? (r .functions) f) (λ p. cond (large (p .line-defined) (p .abs-line-info)) (some (bare 25)) none)
 
+-- 02, item 3: the function's anchors, whatever the pcs are; the list of pcs
+abbrev pub anchorOrder : ℕ → Reading → Option Report
+anchorOrder f r = ofFunction (getElem? (r .functions) f) (λ p. unless (rises (p .abs-line-info)) (bare 29))
+
+abbrev pub pcOrder : List ℕ → Option Report
+pcOrder pcs = unless (neverFalls pcs) (bare 30)
+
 abbrev pub tooLong : {A : Type 0} → List A → ℕ → Option Report
 tooLong result space = unless (leb (length result) space) (bare 26)
 
@@ -154,6 +164,10 @@ module _ (L : ResourceLimits) (s : Bytes) where
   abbrev pub forLine : ℕ → List (Option Report)
   forLine f = forReading (λ r. noFunction f r ∷ largeLine f r ∷ [])
 
+  -- on the lines of a list of pcs, which are written into lent space, a line for each pc: 23, 25, 29, 30, 26
+  abbrev pub forLines : ℕ → List ℕ → ℕ → List (Option Report)
+  forLines f pcs space = forReading (λ r. noFunction f r ∷ largeLine f r ∷ anchorOrder f r ∷ pcOrder pcs ∷ tooLong pcs space ∷ [])
+
   -- on an entry of a list of it: 23, 24
   abbrev pub forEntry : {A : Type 0} → (Prototype → List A) → ℕ → ℕ → List (Option Report)
   forEntry list f i = forReading (λ r. noFunction f r ∷ noEntry list f i r ∷ [])
@@ -206,6 +220,10 @@ inLocal (local.Err q) = some (reported q)
 abbrev pub inLine : LineAnswer → Option Report
 inLine (line.Ok x) = none
 inLine (line.Err q) = some (reported q)
+
+abbrev pub inLines : LinesAnswer → Option Report
+inLines (lines.Ok x) = none
+inLines (lines.Err q) = some (reported q)
 
 abbrev pub inIndex : IndexAnswer → Option Report
 inIndex (index.Ok x) = none

@@ -1,5 +1,5 @@
--- 01's list of refusals ('Who can cause a refusal'): each with its number and, where it has one, its place; the two warnings with their codes. One theorem over each list, which antt computes.
---     refusals-hold    told apart: two refusals with one number (24 given as 23), two numbers exchanged, a place left out, a place where 01 gives none (2, 3 and 21 to 28)
+-- 01's list of refusals ('Who can cause a refusal'), with those that 02 adds: each with its number and, where it has one, its place; the two warnings with their codes. One theorem over each list, which antt computes.
+--     refusals-hold    told apart: two refusals with one number (24 given as 23), two numbers exchanged, a place left out, a place where 01 gives none (2, 3 and 21 to 30)
 --     warnings-hold    told apart: the two codes exchanged, a place left out
 -- Assumes nothing.
 use mathlib.Core.Path.{_≡_, refl}
@@ -35,6 +35,8 @@ use Rattle.format.specs.declared.refusal.Refusal.the-variants.{
   LentSpace,
   FieldRange,
   NoOpcode,
+  AnchorOrder,
+  PcOrder,
 }
 use Rattle.format.specs.declared.refusal.Place.the-variants.{At, None}
 use Rattle.format.specs.declared.refusal.Report.{Report}
@@ -72,6 +74,8 @@ refusals place =
     ∷ (LineTooLarge, alone 25) ∷ (LentSpace, alone 26)
     -- words: a field out of range; an opcode above 82
     ∷ (FieldRange, alone 27) ∷ (NoOpcode, alone 28)
+    -- 02: of a list of pcs, the anchors' pcs do not rise strictly; a pc is below the one before it
+    ∷ (AnchorOrder, alone 29) ∷ (PcOrder, alone 30)
     ∷ []
 
 refusals-hold : (place : ℕ) → map (λ c. reported (c .0)) (refusals place) ≡ map (λ c. c .1) (refusals place)

@@ -1,8 +1,8 @@
--- 01's numbers: each refusal has one of its own, from 1 to 28, and with its place it tells the refusal.
+-- 01's and 02's numbers: each refusal has one of its own, from 1 to 30, and with its place it tells the refusal.
 --     told-apart       no two refusals share number and place
---     numbers          a refusal's number is 1 to 28
---     places-exactly   all but 2, 3 and 21 to 28 have a place
--- Refused by these: 24 reported as 23 (`told-apart`), a refusal of number 0 or 29 (`numbers`), a place left out (`places-exactly`).
+--     numbers          a refusal's number is 1 to 30
+--     places-exactly   all but 2, 3 and 21 to 30 have a place
+-- Refused by these: 24 reported as 23 (`told-apart`), a refusal of number 0 or 31 (`numbers`), a place left out (`places-exactly`).
 -- Assumes nothing.
 use mathlib.Core.Path.{_≡_, refl, sym, _∙_, ap}
 use mathlib.Core.Bool.{Bool, true, false, _||_, cond}
@@ -28,7 +28,8 @@ withPlace n at =
 abbrev withoutPlace : ℕ → Refusal
 withoutPlace n =
     cond (eqb n 2) q.Overflow (cond (eqb n 3) q.VarintOverflow (cond (eqb n 21) q.LimitAboveCeiling (cond (eqb n 22) q.InputBytes (cond (eqb n 23) q.NoFunction
-    (cond (eqb n 24) q.NoEntry (cond (eqb n 25) q.LineTooLarge (cond (eqb n 26) q.LentSpace (cond (eqb n 27) q.FieldRange q.NoOpcode))))))))
+    (cond (eqb n 24) q.NoEntry (cond (eqb n 25) q.LineTooLarge (cond (eqb n 26) q.LentSpace (cond (eqb n 27) q.FieldRange (cond (eqb n 28) q.NoOpcode
+    (cond (eqb n 29) q.AnchorOrder q.PcOrder))))))))))
 
 abbrev refusalOf : ℕ → Place → Refusal
 refusalOf n (At at) = withPlace n at
@@ -42,7 +43,7 @@ hasPlace None = false
 record Row (r : Refusal) : Type 0 where
   back : refusalOf (reported r .number) (reported r .place) ≡ r
   above : leb 1 (reported r .number) ≡ true
-  below : leb (reported r .number) 28 ≡ true
+  below : leb (reported r .number) 30 ≡ true
   placed : hasPlace (reported r .place) ≡ cond (eqb (reported r .number) 2 || eqb (reported r .number) 3) false (leb (reported r .number) 20)
 
 row : (r : Refusal) → Row r
@@ -74,13 +75,15 @@ row q.LineTooLarge = record { back = refl; above = refl; below = refl; placed = 
 row q.LentSpace = record { back = refl; above = refl; below = refl; placed = refl }
 row q.FieldRange = record { back = refl; above = refl; below = refl; placed = refl }
 row q.NoOpcode = record { back = refl; above = refl; below = refl; placed = refl }
+row q.AnchorOrder = record { back = refl; above = refl; below = refl; placed = refl }
+row q.PcOrder = record { back = refl; above = refl; below = refl; placed = refl }
 
 -- ## What it says
 pub told-apart : (p r : Refusal) → reported p ≡ reported r → p ≡ r
 told-apart p r e = sym (row p .back) ∙ ap (λ (x : Report). refusalOf (x .number) (x .place)) e ∙ row r .back
 
-pub numbers : (r : Refusal) → (1 ≤ reported r .number) × (reported r .number ≤ 28)
-numbers r = (leb-true 1 (reported r .number) (row r .above), leb-true (reported r .number) 28 (row r .below))
+pub numbers : (r : Refusal) → (1 ≤ reported r .number) × (reported r .number ≤ 30)
+numbers r = (leb-true 1 (reported r .number) (row r .above), leb-true (reported r .number) 30 (row r .below))
 
 pub places-exactly : (r : Refusal) → hasPlace (reported r .place) ≡ cond (eqb (reported r .number) 2 || eqb (reported r .number) 3) false (leb (reported r .number) 20)
 places-exactly r = row r .placed

@@ -1,4 +1,4 @@
--- 01's list of refusals ('Who can cause a refusal'): the number and the place of each.
+-- 01's list of refusals ('Who can cause a refusal'), with those that 02 adds: the number and the place of each.
 use Prim.Native.Nat.{ℕ}
 use Rattle.format.specs.declared.refusal.Refusal.{Refusal}
 use Rattle.format.specs.declared.refusal.Refusal.the-variants.{
@@ -30,6 +30,8 @@ use Rattle.format.specs.declared.refusal.Refusal.the-variants.{
   LentSpace,
   FieldRange,
   NoOpcode,
+  AnchorOrder,
+  PcOrder,
 }
 use Rattle.format.specs.declared.refusal.Place.{Place}
 use Rattle.format.specs.declared.refusal.Place.the-variants.{At, None}
@@ -71,3 +73,6 @@ reported LineTooLarge = bare 25
 reported LentSpace = bare 26
 reported FieldRange = bare 27
 reported NoOpcode = bare 28
+-- 02, item 3
+reported AnchorOrder = bare 29
+reported PcOrder = bare 30

@@ -58,6 +58,10 @@ pub enum Refusal {
     FieldRange,
     // An opcode is above 82, in encoding.
     NoOpcode,
+    // The anchors' pcs do not rise strictly, in the lines of a list of pcs.
+    AnchorOrder,
+    // A pc is below the one before it, in such a list.
+    PcOrder,
 }
 
 // A place in the file, if there is one.

@@ -126,6 +126,14 @@ pub fn report_refusal(refusal: Refusal) -> Report
             number: 28,
             place: Place::None,
         },
+        Refusal::AnchorOrder => Report {
+            number: 29,
+            place: Place::None,
+        },
+        Refusal::PcOrder => Report {
+            number: 30,
+            place: Place::None,
+        },
     }
 }
 

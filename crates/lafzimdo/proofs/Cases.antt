@@ -3,7 +3,7 @@
 --     warnings-hold    1 is L54-HEADER-003, 2 L54-CHUNK-001; without a warning both numbers are 0
 --     fields-hold      function 4 of the chunk of crates/format/proofs/Distinct.antt: depth, parent; source; lines; three bytes; eight counts; a source that is absent
 --     constants-hold   the tag, value or place, length
---     entries-hold     word, upvalue, delta, anchor, local, upvalue name, line
+--     entries-hold     word, upvalue, delta, anchor, local, upvalue name, line, deltas read
 --     verdicts-hold    0 valid for analysis, 1 invalid, 2 incomplete; and the numbers of index, copy and findings
 --     refused-hold     a refusal is handed on
 -- Told apart: two numbers of an array exchanged, two codes or verdicts exchanged, a sign left out.
@@ -13,7 +13,7 @@ use mathlib.Core.Bool.{true, false}
 use mathlib.Core.List.{List, [], _∷_, map}
 use Prim.Native.Nat.{ℕ, _-_, _^_}
 use lib.IntN.{pos, negsuc}
-use Rattle.format.specs.declared.refusal.Refusal.the-variants.{NoEntry, LineTooLarge}
+use Rattle.format.specs.declared.refusal.Refusal.the-variants.{NoEntry, LineTooLarge, AnchorOrder, PcOrder}
 use Rattle.format.specs.declared.header.Warning.the-variants.{NonStandardFormat, TrailingBytes}
 use Rattle.format.specs.Limits.{ceilings}
 use Rattle.format.specs.ReadChunk.{body, function, read}
@@ -39,6 +39,7 @@ use Rattle.show_entry.specs.declared.AnchorAnswer.the-variants as anchor
 use Rattle.show_entry.specs.declared.NameAnswer.the-variants as name
 use Rattle.show_local.specs.declared.LocalAnswer.the-variants as local
 use Rattle.line_lookup.specs.declared.line.LineAnswer.the-variants as line
+use Rattle.line_batch.specs.declared.list.LinesAnswer.the-variants as lines
 use Rattle.index.specs.declared.IndexAnswer.the-variants as index
 use Rattle.copy.specs.declared.whole.CopyAnswer.the-variants as copy
 use Rattle.validate_verdict.specs.declared.verdict.VerdictAnswer.the-variants as verdict
@@ -49,6 +50,7 @@ use Rattle.lafzimdo.specs.Answers.{
   ofSummary,
   ofFields,
   ofLine,
+  ofLines,
   ofWord,
   ofConstant,
   ofUpvalue,
@@ -124,6 +126,7 @@ entries =
     ∷ (ofName (name.Ok (string.Some (record { place = 289; len = 4 }))), 1 ∷ 289 ∷ 4 ∷ [])
     ∷ (ofName (name.Ok string.None), 0 ∷ 0 ∷ 0 ∷ [])
     ∷ (ofLine (line.Ok 77), 77 ∷ [])
+    ∷ (ofLines (lines.Ok 5), 5 ∷ [])
     ∷ []
 
 entries-hold : map (λ c. c .0) entries ≡ map (λ c. done (c .1)) entries
@@ -137,5 +140,5 @@ verdicts-hold = refl
 counts-hold : ofIndex (index.Ok 9) ∷ ofCopy (copy.Ok 311) ∷ ofCount (count.Ok 7) ∷ [] ≡ done (9 ∷ []) ∷ done (311 ∷ []) ∷ done (7 ∷ []) ∷ []
 counts-hold = refl
 
-refused-hold : ofLine (line.Err LineTooLarge) ∷ ofWord (word.Err NoEntry) ∷ [] ≡ refuses LineTooLarge ∷ refuses NoEntry ∷ []
+refused-hold : ofLine (line.Err LineTooLarge) ∷ ofWord (word.Err NoEntry) ∷ ofLines (lines.Err AnchorOrder) ∷ ofLines (lines.Err PcOrder) ∷ [] ≡ refuses LineTooLarge ∷ refuses NoEntry ∷ refuses AnchorOrder ∷ refuses PcOrder ∷ []
 refused-hold = refl

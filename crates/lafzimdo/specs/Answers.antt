@@ -6,6 +6,8 @@ use Rattle.show_chunk.specs.declared.fields.FieldsAnswer.{FieldsAnswer}
 use Rattle.show_chunk.specs.declared.fields.FieldsAnswer.the-variants as fields
 use Rattle.line_lookup.specs.declared.line.LineAnswer.{LineAnswer}
 use Rattle.line_lookup.specs.declared.line.LineAnswer.the-variants as line
+use Rattle.line_batch.specs.declared.list.LinesAnswer.{LinesAnswer}
+use Rattle.line_batch.specs.declared.list.LinesAnswer.the-variants as lines
 use Rattle.show_entry.specs.declared.WordAnswer.{WordAnswer}
 use Rattle.show_entry.specs.declared.WordAnswer.the-variants as word
 use Rattle.show_entry.specs.declared.ConstantAnswer.{ConstantAnswer}
@@ -44,6 +46,10 @@ ofFields (fields.Err q) = refuses q
 abbrev pub ofLine : LineAnswer → Answer
 ofLine (line.Ok n) = done (n ∷ [])
 ofLine (line.Err q) = refuses q
+
+abbrev pub ofLines : LinesAnswer → Answer
+ofLines (lines.Ok n) = done (n ∷ [])
+ofLines (lines.Err q) = refuses q
 
 -- ## Entries
 abbrev pub ofWord : WordAnswer → Answer

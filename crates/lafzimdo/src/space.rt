@@ -1,13 +1,14 @@
-// What is written into memory that the caller lends beside the array: the index, the copy, a local variable's name.
+// What is written into memory that the caller lends beside the array: the index, the copy, a local variable's name, the lines of a list of pcs.
 ghost use mathlib.Core.Path.{_≡_};
 ghost use lib.ListN.{length};
 ghost use Rattle.format.specs.ReadChunk.{read};
-ghost use Rattle.show_row.specs.Asked.{entryOf};
+ghost use Rattle.show_row.specs.Asked.{functionOf, entryOf};
 ghost use Rattle.copy.specs.Copied.{shownCopy, copyWritten};
 ghost use Rattle.index.specs.Index.{shownIndex, indexWritten};
 ghost use Rattle.show_local.specs.Locals.{shownLocal, nameWritten};
+ghost use Rattle.line_batch.specs.Batch.{shownLines, linesWritten};
 ghost use Rattle.c_boundary.specs.Status.{limitsOf, status, written};
-ghost use Rattle.lafzimdo.specs.Answers.{ofIndex, ofCopy, ofLocal};
+ghost use Rattle.lafzimdo.specs.Answers.{ofIndex, ofCopy, ofLocal, ofLines};
 use c_boundary::limits_of;
 use c_boundary::one;
 use c_boundary::refused;
@@ -16,6 +17,8 @@ use copy::encode_chunk_lua54;
 use copy::whole::CopyAnswer;
 use index::IndexAnswer;
 use index::function_index;
+use line_batch::list::LinesAnswer;
+use line_batch::list::get_lines_for_pcs;
 use show_local::LocalAnswer;
 use show_local::local;
 
@@ -88,6 +91,31 @@ pub extern "C" fn lafzimdo_local(
             endpc,
         } => {
             *out = local_numbers(name_len, startpc, endpc);
+            0
+        }
+    }
+}
+
+// The lines of the instructions `pcs` of a function, which never fall: how many of its deltas were read, and the lines in the lent memory.
+// Ruled out: the number of lines in place of the number of deltas, a list of pcs that falls.
+#[no_mangle]
+pub extern "C" fn lafzimdo_lines(
+    chunk: &[u8],
+    limits: &[u64; 9],
+    function: usize,
+    pcs: &[u64],
+    lines: &mut [u64],
+    out: &mut [u64; 1],
+) -> u64
+    ensures { λ r. ⌜ r ≡ status (ofLines (shownLines (length (now (lines .entry))) (now (pcs .entry)) (functionOf function (read (limitsOf (now (limits .entry))) (now (chunk .entry)))))) ⌝ }
+    ensures { λ _. ⌜ now (out .exit) ≡ written (ofLines (shownLines (length (now (lines .entry))) (now (pcs .entry)) (functionOf function (read (limitsOf (now (limits .entry))) (now (chunk .entry)))))) (now (out .entry)) ⌝ }
+    ensures { λ _. ⌜ now (lines .exit) ≡ linesWritten (now (lines .entry)) (now (pcs .entry)) (functionOf function (read (limitsOf (now (limits .entry))) (now (chunk .entry)))) ⌝ }
+{
+    let answer = get_lines_for_pcs(chunk, limits_of(limits), function, pcs, lines);
+    match answer {
+        LinesAnswer::Err(q) => refused(q),
+        LinesAnswer::Ok(n) => {
+            *out = one(n as u64);
             0
         }
     }

@@ -35,7 +35,7 @@ pub enum ScanResult {
     Err(Refusal),
 }
 
-fn or_large(large: bool, line: usize) -> bool
+pub fn or_large(large: bool, line: usize) -> bool
     ensures { λ r. ⌜ r ≡ orLarge large line ⌝ }
 {
     if large {

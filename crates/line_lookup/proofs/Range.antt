@@ -30,7 +30,7 @@ mag-sub a b = by (ltb a (suc b)) refl
     by true e = rw e (omega arith)
     by false e = rw e (omega arith)
 
-mag-plus : (y z : ℤ) → mag (y +ℤ z) ≤ mag y + mag z + 1
+pub mag-plus : (y z : ℤ) → mag (y +ℤ z) ≤ mag y + mag z + 1
 mag-plus (pos a) (pos b) = omega arith
 mag-plus (pos a) (negsuc b) = omega (arith, mag-sub a b)
 mag-plus (negsuc a) (pos b) = omega (arith, mag-sub b a)
@@ -50,10 +50,10 @@ pub mag-added : (z : ℤ) (d : ℕ) → mag (added z d) ≤ mag z + 128
 mag-added z d = pick-both (λ y. mag y ≤ mag z + 128) (eqb d 128) (omega arith) (plus-delta z d)
 
 -- ## Lines below 2^62
-abbrev Low : AbsLineInfo → Type 0
+abbrev pub Low : AbsLineInfo → Type 0
 Low a = a .line < 2 ^ 62
 
-all-low : (line : ℕ) (anchors : List AbsLineInfo) → large line anchors ≡ false → (line < 2 ^ 62) × All Low anchors
+pub all-low : (line : ℕ) (anchors : List AbsLineInfo) → large line anchors ≡ false → (line < 2 ^ 62) × All Low anchors
 all-low line [] e = (leb-false (2 ^ 62) line (sym (or-false (leb (2 ^ 62) line)) ∙ e), tt)
 all-low line (a ∷ more) e = by (leb (2 ^ 62) line) refl e (all-low (a .line) more)
   where
@@ -61,7 +61,7 @@ all-low line (a ∷ more) e = by (leb (2 ^ 62) line) refl e (all-low (a .line) m
     by true is e go = absurd (let z : _≡_ {A = ℕ} 0 1 = cc in omega arith)
     by false is e go = (leb-false (2 ^ 62) line is, go e)
 
-base-low : (pc : ℕ) (base : AbsLineInfo) (anchors : List AbsLineInfo) → Low base → All Low anchors → Low (baseOf pc base anchors)
+pub base-low : (pc : ℕ) (base : AbsLineInfo) (anchors : List AbsLineInfo) → Low base → All Low anchors → Low (baseOf pc base anchors)
 base-low pc base [] h low = h
 base-low pc base (a ∷ more) h low = pick-both Low (leb (a .pc) pc) (base-low pc a more (low .0) (low .1)) h
 

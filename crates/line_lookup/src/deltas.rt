@@ -34,7 +34,7 @@ fn add_delta(line: i64, delta: u8) -> i64
 }
 
 // Adds the deltas from a pc on.
-fn add_deltas(deltas: &[u8], from: usize, line: i64) -> i64
+pub fn add_deltas(deltas: &[u8], from: usize, line: i64) -> i64
     requires { ⌜ (length (now deltas) ≤ MOST) × (mag line ≤ 2 ^ 62) ⌝ }
     ensures { λ r. ⌜ r ≡ summed line (drop from (now (deltas .entry))) ⌝ }
 {
@@ -60,7 +60,7 @@ fn start_in(scan: Scan) -> AbsLineInfo
 }
 
 // Below 0 gives 0.
-fn raise(line: i64) -> usize
+pub fn raise(line: i64) -> usize
     ensures { λ r. ⌜ r ≡ raised line ⌝ }
 {
     if line < 0 {

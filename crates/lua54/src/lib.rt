@@ -29,6 +29,8 @@ pub use format::entry::AbsLineInfo;
 pub use format::entry::UpvalueDesc;
 pub use index::IndexAnswer;
 pub use index::function_index;
+pub use line_batch::list::LinesAnswer;
+pub use line_batch::list::get_lines_for_pcs;
 pub use line_lookup::line::LineAnswer;
 pub use line_lookup::line::get_line_for_pc;
 pub use read_entry::constant::ConstantValue;

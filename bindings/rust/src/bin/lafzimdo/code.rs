@@ -79,5 +79,5 @@ impl<'a> Code<'a> {
 pub fn lines(function: &Function<'_>) -> Option<Vec<u64>> {
     let counts = function.fields().counts;
     let stored = counts.line_info > 0 || counts.abs_line_info == counts.instructions;
-    stored.then(|| function.lines().ok()).flatten()
+    stored.then(|| function.computed_lines().ok()).flatten()
 }

@@ -1,12 +1,13 @@
 //! What a command is, and what was asked of it. A new command is a module with a `COMMAND`, and a line in `ALL`.
 use crate::file::Input;
 use crate::trouble::Trouble;
-use crate::{check, copy, dump, lines, list};
+use crate::{check, copy, dump, lines, list, sweep};
 use lafzimdo::Limits;
 use std::ffi::{OsStr, OsString};
 use std::str::FromStr;
 
-pub const ALL: [&Command; 5] = [&list::COMMAND, &dump::COMMAND, &copy::COMMAND, &check::COMMAND, &lines::COMMAND];
+pub const ALL: [&Command; 6] =
+    [&list::COMMAND, &dump::COMMAND, &copy::COMMAND, &check::COMMAND, &lines::COMMAND, &sweep::COMMAND];
 
 pub struct Command {
     pub name: &'static str,

@@ -15,8 +15,8 @@ pub const COMMAND: Command = Command {
     long: "\
 A line for each PC: the PC and its line in the source. Any PC may be asked, also one without an instruction.
 Each PC given is asked of the proved library and costs a pass over the file. Without a PC the lines of all
-instructions of the function are printed; these are computed by this program in one pass, by the same
-rules, and tested against the library.
+instructions of the function are printed, by one proved call; only where the pcs of the function's anchors
+do not rise are they computed by this program, by the same rules, and tested against the library.
 ",
     options: &[files::JSON],
     run,

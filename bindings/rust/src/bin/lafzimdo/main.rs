@@ -1,4 +1,4 @@
-//! The command-line program: lists, dumps, copies and checks compiled Lua 5.4 scripts, and tells the lines of their instructions.
+//! The command-line program: lists, dumps, copies and checks compiled Lua 5.4 scripts, and tells the lines of their instructions, of one or of a whole sweep log.
 #![deny(unsafe_code)]
 use args::Request;
 use std::env;
@@ -25,6 +25,7 @@ mod names;
 mod progress;
 mod quoted;
 mod raw;
+mod sweep;
 mod trouble;
 
 fn main() -> ExitCode {

@@ -52,7 +52,7 @@ pub fn print_function(out: &mut Out, function: &Function<'_>) -> io::Result<()> 
 
 fn print_code(out: &mut Out, function: &Function<'_>) -> io::Result<()> {
     writeln!(out, "  instructions {}", function.fields().counts.instructions)?;
-    let lines = function.lines().ok();
+    let lines = function.computed_lines().ok();
     for (pc, word) in function.instructions().enumerate() {
         match &lines {
             Some(lines) => write!(out, "    {pc} [{}]", lines[pc])?,

@@ -1,0 +1,14 @@
+pub mod Counts
+pub mod Bases
+pub mod Sweeps
+pub mod Ahead
+pub mod Judging
+pub mod Passing
+pub mod Taking
+pub mod Going
+pub mod Writing
+pub mod Parted
+pub mod Whole
+pub mod Rows
+pub mod Laws
+pub mod Cases
