@@ -103,6 +103,17 @@ def checked_in_text(check):
     yield from (f"finding {f['function']} {f['pc']} {f['rule']} {f['number']} {f['severity']}" for f in check["findings"])
 
 
+def lines_in(dump, answer):
+    """The lines of instructions, where the answer has them; null where a function has none, or they are refused."""
+    for line in (line for line in answer if line.startswith("line ")):
+        _, number, *pairs = line.split(" ")
+        f = dump["functions"][int(number)]
+        told = {} if pairs[0] == "refused" else dict(map(int, pair.split(":")) for pair in pairs)
+        stored = pairs[0] != "refused" and (f["deltas"] or len(f["anchors"]) == len(f["instructions"]))
+        for i in f["instructions"][:len(told) - 3 if stored else None]:
+            assert i["line"] is None if not stored else int(i["line"]) == told[i["pc"]], (number, i)
+
+
 COUNTS = ["instructions", "constants", "upvalues", "nested", "deltas", "anchors", "locals", "upvalue_names"]
 
 
@@ -116,6 +127,7 @@ def see(answer, dump, check, listed):
         return "refused"
     upto = next(at for at, line in enumerate(answer) if line.startswith("row "))
     assert list(in_text(dump)) == answer[:upto]
+    lines_in(dump, answer)
     found = [line for line in answer if line.split(" ")[0] in ("verdict", "findings", "finding")]
     assert list(checked_in_text(check)) == found
     assert list(warnings_in_text(check)) == [line for line in answer[:upto] if line.startswith("warning")]
