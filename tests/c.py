@@ -197,6 +197,10 @@ LISTS = {"INSTRUCTIONS": "instructions", "CONSTANTS": "constants", "UPVALUES": "
 RIGHT = object()
 
 
+def tag_of(k):
+    return {"nil": 0, "boolean": 17 if k.get("value") else 1, "integer": 3, "float": 19, "short string": 4, "long string": 20}[k["type"]]
+
+
 def expected_item(kind, f, e, item, shown, dump, check, chunk):
     """What an item is by its name alone, from the program's JSON; RIGHT where a place is right, None where the name says nothing that JSON has."""
     name = item.removeprefix(f"LAFZIMDO_{kind.upper()}_")
@@ -223,6 +227,8 @@ def expected_item(kind, f, e, item, shown, dump, check, chunk):
             if name == "INSTRUCTIONS_AT":
                 words = b"".join(i["word"].to_bytes(4, "little") for i in function["instructions"])
                 return RIGHT if text(at(name), len(words), {"hex": words.hex()}) else "words"
+            if name == "CONSTANTS_AT" and function["constants"]:
+                return RIGHT if chunk[at(name)] == tag_of(function["constants"][0]) else "a tag"
             return own.get(name)
         case "word_at", "WORD":
             return function["instructions"][0]["word"]
@@ -243,11 +249,10 @@ def expected_item(kind, f, e, item, shown, dump, check, chunk):
             return RIGHT if text(at(name), len(deltas), {"hex": deltas.hex()}) else "deltas"
         case "constant", _:
             k = function["constants"][e]
-            tag = {"nil": 0, "boolean": 17 if k.get("value") else 1, "integer": 3, "float": 19, "short string": 4, "long string": 20}[k["type"]]
             if "string" in k["type"] and name != "TAG":
                 return RIGHT if text(at("VALUE"), at("LENGTH"), k["value"]) else "string"
             bits = int(k["value"]) % 2**64 if k["type"] == "integer" else int(k["bits"], 16) if k["type"] == "float" else None
-            return {"TAG": tag, "VALUE": bits}.get(name)
+            return {"TAG": tag_of(k), "VALUE": bits}.get(name)
         case "upvalue", _:
             return function["upvalues"][e][name.lower()]
         case "anchor", _:
