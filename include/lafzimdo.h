@@ -339,10 +339,10 @@ uint64_t lafzimdo_copy_length(const uint8_t *chunk, size_t len, const uint64_t l
 /* One pass where the chunk is spelt as its copy is, and its bytes are copied; else two or three. The same; the copy at the front of `copy`. Refusal 26 where `copy` is shorter. */
 uint64_t lafzimdo_copy(const uint8_t *chunk, size_t len, const uint64_t limits[9], uint8_t *copy, size_t copy_len, uint64_t out[1]);
 
-/* As lafzimdo_copy_length, of the full copy: the archive copy, with the source of every nested function that has another than the function around it */
+/* One pass where the chunk is spelt as its archive copy is, else one or two. The length of the full copy: the archive copy, with the source of every nested function that has another than the function around it */
 uint64_t lafzimdo_full_copy_length(const uint8_t *chunk, size_t len, const uint64_t limits[9], uint64_t out[1]);
 
-/* As lafzimdo_copy: the same; the full copy at the front of `copy`. Refusal 26 where `copy` is shorter. */
+/* One pass where the chunk is spelt as its archive copy is, else two or three. The same; the full copy at the front of `copy`. Refusal 26 where `copy` is shorter. */
 uint64_t lafzimdo_full_copy(const uint8_t *chunk, size_t len, const uint64_t limits[9], uint8_t *copy, size_t copy_len, uint64_t out[1]);
 
 /* Two passes, and each word is looked at once. The verdict: 0 valid for analysis, 1 invalid, 2 incomplete */

@@ -2,7 +2,7 @@
 mod common;
 
 use common::run::run_on;
-use common::{bytes, header, kept_chunks};
+use common::{bytes, header};
 use lafzimdo::{Chunk, Limits, Refusal};
 
 const BEFORE: u8 = 0xa5;
@@ -98,10 +98,11 @@ fn sources<'a>(chunk: &Chunk<'a>) -> Vec<Option<&'a [u8]>> {
 }
 
 /// Of every chunk that is kept: the full copy is read with the same sources, is its own full copy, and has the chunk's archive copy.
+#[cfg(repository)]
 #[test]
 fn of_kept_chunks() {
     let (mut with, mut copies) = (0, 0);
-    for (limits, bytes, _) in kept_chunks() {
+    for (limits, bytes, _) in common::kept_chunks() {
         // A string limit of 0 refuses the name that an absent one is copied as.
         if limits != Limits::ceilings() {
             continue;

@@ -1,7 +1,7 @@
 //! Where the instructions and the constants of a function begin, in its row of the index.
 mod common;
 
-use common::{bytes, header, kept_chunks};
+use common::{bytes, header};
 use lafzimdo::{Chunk, Constant, Function, Limits, Row};
 
 /// Chunks behind their headers, and their rows.
@@ -91,10 +91,11 @@ fn in_the_file(bytes: &[u8], function: &Function<'_>, row: Row) {
     assert!(row.instructions_at() + 4 * row.counts().instructions < row.constants_at());
 }
 
+#[cfg(repository)]
 #[test]
 fn of_every_kept_chunk() {
     let mut empty = [0; 2];
-    for (limits, bytes, _) in kept_chunks() {
+    for (limits, bytes, _) in common::kept_chunks() {
         let Ok(chunk) = Chunk::read(&bytes, limits) else { continue };
         for (function, row) in chunk.functions().zip(chunk.index()) {
             in_the_file(&bytes, &function, *row);
