@@ -35,7 +35,7 @@ exact-countedUpTo limit refusal one =
 pub exact-always : (limit : ℕ) (instead : Bytes) → Exact (always limit instead) (Always limit instead)
 exact-always limit instead = exact-then (exact-string limit) λ t. exact-then exact-here λ place. exact-give _
 
-exact-pick : {A : Type 0} {r s : Reader A} {F G : Form A} (b : Bool) → Exact r F → Exact s G → Exact (cond b r s) (When b F G)
+pub exact-pick : {A : Type 0} {r s : Reader A} {F G : Form A} (b : Bool) → Exact r F → Exact s G → Exact (cond b r s) (When b F G)
 exact-pick true one two = one
 exact-pick false one two = two
 

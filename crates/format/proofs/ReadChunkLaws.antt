@@ -25,7 +25,7 @@ use Rattle.format.specs.ReadChunk.{main, Outcome, shown, refusal, outcom
 use Rattle.format.proofs.Exact.{Split}
 use Rattle.format.proofs.ExactChunk.{exact-main}
 
-no-refusal : {A : Type 0} {q : Refusal} {r : Reading} → refusal q ≡ shown r → A
+pub no-refusal : {A : Type 0} {q : Refusal} {r : Reading} → refusal q ≡ shown r → A
 no-refusal e = absurd (let z : _≡_ {A = ℕ} 0 1 = cc in omega arith)
 
 record Judged (L : ResourceLimits) (chunk : Bytes) (r : Reading) : Type 0 where

@@ -37,6 +37,9 @@ use Rattle.format.specs.declared.refusal.Refusal.the-variants.{
   NoOpcode,
   AnchorOrder,
   PcOrder,
+  Format,
+  IntOverflow,
+  NullString,
 }
 use Rattle.format.specs.declared.refusal.Place.the-variants.{At, None}
 use Rattle.format.specs.declared.refusal.Report.{Report}
@@ -76,6 +79,8 @@ refusals place =
     ∷ (FieldRange, alone 27) ∷ (NoOpcode, alone 28)
     -- 02: of a list of pcs, the anchors' pcs do not rise strictly; a pc is below the one before it
     ∷ (AnchorOrder, alone 29) ∷ (PcOrder, alone 30)
+    -- 02, the stricter reading: a format byte that is not 0; an int of 2^31 - 128 or more; a string constant of size 0
+    ∷ (Format place, at place 31) ∷ (IntOverflow place, at place 32) ∷ (NullString place, at place 33)
     ∷ []
 
 refusals-hold : (place : ℕ) → map (λ c. reported (c .0)) (refusals place) ≡ map (λ c. c .1) (refusals place)

@@ -1,8 +1,8 @@
--- 01's and 02's numbers: each refusal has one of its own, from 1 to 30, and with its place it tells the refusal.
+-- 01's and 02's numbers: each refusal has one of its own, from 1 to 33, and with its place it tells the refusal.
 --     told-apart       no two refusals share number and place
---     numbers          a refusal's number is 1 to 30
+--     numbers          a refusal's number is 1 to 33
 --     places-exactly   all but 2, 3 and 21 to 30 have a place
--- Refused by these: 24 reported as 23 (`told-apart`), a refusal of number 0 or 31 (`numbers`), a place left out (`places-exactly`).
+-- Refused by these: 24 reported as 23 (`told-apart`), a refusal of number 0 or 34 (`numbers`), a place left out (`places-exactly`).
 -- Assumes nothing.
 use mathlib.Core.Path.{_≡_, refl, sym, _∙_, ap}
 use mathlib.Core.Bool.{Bool, true, false, _||_, cond}
@@ -23,7 +23,8 @@ withPlace n at =
     (cond (eqb n 7) (q.InstructionSize at) (cond (eqb n 8) (q.LuaIntegerSize at) (cond (eqb n 9) (q.LuaNumberSize at) (cond (eqb n 10) (q.LuacInt at)
     (cond (eqb n 11) (q.LuacNum at) (cond (eqb n 12) (q.ConstantTag at) (cond (eqb n 13) (q.StringBytes at) (cond (eqb n 14) (q.Instructions at)
     (cond (eqb n 15) (q.TotalInstructions at) (cond (eqb n 16) (q.Constants at) (cond (eqb n 17) (q.Upvalues at) (cond (eqb n 18) (q.Prototypes at)
-    (cond (eqb n 19) (q.NestingDepth at) (q.TotalPrototypes at)))))))))))))))))
+    (cond (eqb n 19) (q.NestingDepth at) (cond (eqb n 20) (q.TotalPrototypes at) (cond (eqb n 31) (q.Format at) (cond (eqb n 32) (q.IntOverflow at)
+    (q.NullString at))))))))))))))))))))
 
 abbrev withoutPlace : ℕ → Refusal
 withoutPlace n =
@@ -43,8 +44,8 @@ hasPlace None = false
 record Row (r : Refusal) : Type 0 where
   back : refusalOf (reported r .number) (reported r .place) ≡ r
   above : leb 1 (reported r .number) ≡ true
-  below : leb (reported r .number) 30 ≡ true
-  placed : hasPlace (reported r .place) ≡ cond (eqb (reported r .number) 2 || eqb (reported r .number) 3) false (leb (reported r .number) 20)
+  below : leb (reported r .number) 33 ≡ true
+  placed : hasPlace (reported r .place) ≡ cond (eqb (reported r .number) 2 || eqb (reported r .number) 3) false (leb (reported r .number) 20 || leb 31 (reported r .number))
 
 row : (r : Refusal) → Row r
 row (q.Truncated at) = record { back = refl; above = refl; below = refl; placed = refl }
@@ -77,13 +78,16 @@ row q.FieldRange = record { back = refl; above = refl; below = refl; placed = re
 row q.NoOpcode = record { back = refl; above = refl; below = refl; placed = refl }
 row q.AnchorOrder = record { back = refl; above = refl; below = refl; placed = refl }
 row q.PcOrder = record { back = refl; above = refl; below = refl; placed = refl }
+row (q.Format at) = record { back = refl; above = refl; below = refl; placed = refl }
+row (q.IntOverflow at) = record { back = refl; above = refl; below = refl; placed = refl }
+row (q.NullString at) = record { back = refl; above = refl; below = refl; placed = refl }
 
 -- ## What it says
 pub told-apart : (p r : Refusal) → reported p ≡ reported r → p ≡ r
 told-apart p r e = sym (row p .back) ∙ ap (λ (x : Report). refusalOf (x .number) (x .place)) e ∙ row r .back
 
-pub numbers : (r : Refusal) → (1 ≤ reported r .number) × (reported r .number ≤ 30)
-numbers r = (leb-true 1 (reported r .number) (row r .above), leb-true (reported r .number) 30 (row r .below))
+pub numbers : (r : Refusal) → (1 ≤ reported r .number) × (reported r .number ≤ 33)
+numbers r = (leb-true 1 (reported r .number) (row r .above), leb-true (reported r .number) 33 (row r .below))
 
-pub places-exactly : (r : Refusal) → hasPlace (reported r .place) ≡ cond (eqb (reported r .number) 2 || eqb (reported r .number) 3) false (leb (reported r .number) 20)
+pub places-exactly : (r : Refusal) → hasPlace (reported r .place) ≡ cond (eqb (reported r .number) 2 || eqb (reported r .number) 3) false (leb (reported r .number) 20 || leb 31 (reported r .number))
 places-exactly r = row r .placed

@@ -21,7 +21,7 @@ pub record AtMostEach (L N : ResourceLimits) : Type 0 where
   pub upvalues : L .«max_upvalues_per_proto» ≤ N .«max_upvalues_per_proto»
   pub strings : L .«max_string_bytes» ≤ N .«max_string_bytes»
 
-forest-wider : {F G : Where → Form (List Prototype)} (n : ℕ) (w : Where) → ((w : Where) → Wider (F w) (G w)) → Wider (Forest n F w) (Forest n G w)
+pub forest-wider : {F G : Where → Form (List Prototype)} (n : ℕ) (w : Where) → ((w : Where) → Wider (F w) (G w)) → Wider (Forest n F w) (Forest n G w)
 forest-wider zero w one = same-wider
 forest-wider (suc n) w one = then-wider (one w) λ ps. so (forest-wider n (after ps w) one)
 

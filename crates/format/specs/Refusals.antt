@@ -32,6 +32,9 @@ use Rattle.format.specs.declared.refusal.Refusal.the-variants.{
   NoOpcode,
   AnchorOrder,
   PcOrder,
+  Format,
+  IntOverflow,
+  NullString,
 }
 use Rattle.format.specs.declared.refusal.Place.{Place}
 use Rattle.format.specs.declared.refusal.Place.the-variants.{At, None}
@@ -76,3 +79,7 @@ reported NoOpcode = bare 28
 -- 02, item 3
 reported AnchorOrder = bare 29
 reported PcOrder = bare 30
+-- 02, item 7
+reported (Format at) = placed 31 at
+reported (IntOverflow at) = placed 32 at
+reported (NullString at) = placed 33 at

@@ -62,6 +62,12 @@ pub enum Refusal {
     AnchorOrder,
     // A pc is below the one before it, in such a list.
     PcOrder,
+    // The format byte is not 0, in the stricter reading.
+    Format(usize),
+    // A number that Lua's loader reads as an int is 2^31 - 128 or more, in the stricter reading.
+    IntOverflow(usize),
+    // A string constant is absent, in the stricter reading.
+    NullString(usize),
 }
 
 // A place in the file, if there is one.

@@ -134,6 +134,18 @@ pub fn report_refusal(refusal: Refusal) -> Report
             number: 30,
             place: Place::None,
         },
+        Refusal::Format(at) => Report {
+            number: 31,
+            place: Place::At(at),
+        },
+        Refusal::IntOverflow(at) => Report {
+            number: 32,
+            place: Place::At(at),
+        },
+        Refusal::NullString(at) => Report {
+            number: 33,
+            place: Place::At(at),
+        },
     }
 }
 

@@ -1,0 +1,4 @@
+pub mod ExactStrict
+pub mod StrictLaws
+pub mod StrictAgrees
+pub mod StrictCases

@@ -1,0 +1,2 @@
+pub mod GrammarStrict
+pub mod ReadStrict
