@@ -33,7 +33,7 @@ pub enum HeaderResult {
 }
 
 // Passes over bytes that must be these.
-fn expect(s: &[u8], cursor: Cursor, bytes: &[u8], refusal: Refusal) -> CursorResult
+pub fn expect(s: &[u8], cursor: Cursor, bytes: &[u8], refusal: Refusal) -> CursorResult
     ensures { λ r. ⌜ r ≡ cursorResult (spec.expect (now (bytes .entry)) (λ _. refusal) (cursor .at) (drop (cursor .at) (now (s .entry)))) ⌝ }
 {
     let at = cursor.at;
@@ -117,7 +117,7 @@ fn and_expect(read: CursorResult, s: &[u8], bytes: &[u8], part: Fixed) -> Cursor
 }
 
 // What stands before the format byte.
-fn before_format(s: &[u8], cursor: Cursor) -> CursorResult
+pub fn before_format(s: &[u8], cursor: Cursor) -> CursorResult
     ensures { λ r. ⌜ r ≡ cursorResult (spec.beforeFormat (cursor .at) (drop (cursor .at) (now (s .entry)))) ⌝ }
 {
     let read = CursorResult::Ok(cursor);
@@ -126,7 +126,7 @@ fn before_format(s: &[u8], cursor: Cursor) -> CursorResult
 }
 
 // What stands behind the format byte.
-fn behind_format(s: &[u8], cursor: Cursor) -> CursorResult
+pub fn behind_format(s: &[u8], cursor: Cursor) -> CursorResult
     ensures { λ r. ⌜ r ≡ cursorResult (spec.behindFormat (cursor .at) (drop (cursor .at) (now (s .entry)))) ⌝ }
 {
     let read = CursorResult::Ok(cursor);

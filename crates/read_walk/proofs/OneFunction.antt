@@ -1,7 +1,7 @@
 -- One function and those that nest in it, by what was read of its parts. (`Passes.antt`: by what `pass_head` and `pass_tail` showed.)
 --     skim-err, skim-read      of what a walk showed: what was read
---     no-head .. all-read      by what was read
---     nested-refused ..        the same, where a walk over the nested functions showed what it read
+--     head-stops .. shown-by   by what was read, whatever the readers of its two parts are
+--     head-refused ..          of the ordinary reading
 -- Assumes nothing.
 use mathlib.Core.Path.{_≡_, refl, sym, _∙_, ap}
 use mathlib.Core.List.{List, _∷_}
@@ -13,7 +13,7 @@ use Rattle.format.specs.declared.refusal.Refusal.{Refusal}
 use Rattle.format.specs.Form.{Bytes, Form}
 use Rattle.format.specs.Reading.{Prototype}
 use Rattle.format.specs.GrammarChunk.{Where, instructionsOf}
-use Rattle.format.specs.Read.{Read, ok, refused, Reader, next}
+use Rattle.format.specs.Read.{Read, ok, refused, Reader, next, _>>=_}
 use Rattle.format.specs.ReadChunk.{forest, function}
 use Rattle.format.proofs.Exact.{Exact}
 use Rattle.format.proofs.Left.{left}
@@ -53,7 +53,46 @@ skim-read {r} exact s w at k e = by (r w at (drop at s)) refl e
           shows = all ∙ ap (skimmedOf w ps) (sym behind);
         }
 
--- ## A function of its parts
+-- ## A function of its parts, whatever reads them: `o` is what is read of it
+module _ (s : Bytes) (r : Where → Reader (List Prototype)) (before : Reader parts.Head) (behind : Reader parts.Tail) (w : Where) (at : ℕ) {o : Read (List Prototype)} (joins : o ≡ whole.joined r before behind w at (drop at s)) where
+  pub head-stops : {q : Refusal} → before at (drop at s) ≡ refused q → o ≡ refused q
+  head-stops e = joins ∙ stopped _ e
+
+  -- n functions nest in it
+  module _ {h : parts.Head} {to : ℕ} (e₁ : before at (drop at s) ≡ ok h to (drop to s)) (n : ℕ) (many : n ≡ h .protos .count) where
+    abbrev pub inner-by : Read (List Prototype)
+    inner-by = forest n r (inside w h) to (drop to s)
+
+    behind-head : o ≡ next inner-by (λ ps. behind >>= λ t end rest. ok (prototypeOf w at h t end ∷ ps) end rest)
+    behind-head = joins ∙ taken _ e₁ ∙ ap (λ n. next (forest n r (inside w h) to (drop to s)) (λ ps. behind >>= λ t end rest. ok (prototypeOf w at h t end ∷ ps) end rest)) (sym many)
+
+    pub nested-stops : {q : Refusal} → inner-by ≡ refused q → o ≡ refused q
+    nested-stops e = behind-head ∙ stopped _ e
+
+    -- a walk over them showed k
+    module _ (k : Skimmed) (nested : Skims (forest n r) s (inside w h) to k) where
+      abbrev pub tail-by : Read parts.Tail
+      tail-by = behind (k .next .at) (drop (k .next .at) s)
+
+      pub to-tail-by : o ≡ next tail-by (λ t end rest. ok (prototypeOf w at h t end ∷ nested .value) end rest)
+      to-tail-by = behind-head ∙ taken _ (nested .is)
+
+      pub tail-stops : {q : Refusal} → tail-by ≡ refused q → o ≡ refused q
+      tail-stops e = to-tail-by ∙ stopped _ e
+
+      module _ {t : parts.Tail} {end : ℕ} {rest : Bytes} (e₃ : tail-by ≡ ok t end rest) where
+        pub all-by : o ≡ ok (prototypeOf w at h t end ∷ nested .value) end rest
+        all-by = to-tail-by ∙ taken _ e₃
+
+        pub shown-by : skim.Ok (record { next = cursorAt end; number = k .number; instructions = k .instructions }) ≡ skimResult w o
+        shown-by =
+            let ps = nested .value in
+            let p = prototypeOf w at h t end in
+            let number : k .number ≡ w .number + length (p ∷ ps) = ap (λ k. k .number) (nested .shows) ∙ omega arith in
+            let instructions : k .instructions ≡ w .instructions + instructionsOf (p ∷ ps) = ap (λ k. k .instructions) (nested .shows) ∙ omega arith in
+            (λ i. skim.Ok (record { next = cursorAt end; number = number i; instructions = instructions i })) ∙ sym (ap (skimResult w) all-by)
+
+-- ## The function of the ordinary reading
 module _ (s : Bytes) (L : ResourceLimits) (left : ℕ) (w : Where) (at : ℕ) where
   abbrev pub head-at : Read parts.Head
   head-at = parts.head L (w .instructions) at (drop at s)
@@ -68,24 +107,7 @@ module _ (s : Bytes) (L : ResourceLimits) (left : ℕ) (w : Where) (at : ℕ) wh
   by-parts = function-body L left w at (drop at s) ∙ in-parts L (entered L left) w at (drop at s)
 
   pub no-head : {q : Refusal} → head-at ≡ refused q → function-at ≡ refused q
-  no-head e = by-parts ∙ stopped _ e
-
-  module _ {h : parts.Head} {to₁ : ℕ} (e₁ : head-at ≡ ok h to₁ (drop to₁ s)) where
-    abbrev pub nested-at : Read (List Prototype)
-    nested-at = forest (h .protos .count) (entered L left) (inside w h) to₁ (drop to₁ s)
-
-    pub no-nested : {q : Refusal} → nested-at ≡ refused q → function-at ≡ refused q
-    no-nested e = by-parts ∙ taken _ e₁ ∙ stopped _ e
-
-    module _ {ps : List Prototype} {to₂ : ℕ} (e₂ : nested-at ≡ ok ps to₂ (drop to₂ s)) where
-      pub up-to-tail : function-at ≡ next (tail-at to₂) (λ t end rest. ok (prototypeOf w at h t end ∷ ps) end rest)
-      up-to-tail = by-parts ∙ taken _ e₁ ∙ taken _ e₂
-
-      pub no-tail : {q : Refusal} → tail-at to₂ ≡ refused q → function-at ≡ refused q
-      no-tail e = up-to-tail ∙ stopped _ e
-
-      pub all-read : {t : parts.Tail} {end : ℕ} {rest : Bytes} → tail-at to₂ ≡ ok t end rest → function-at ≡ ok (prototypeOf w at h t end ∷ ps) end rest
-      all-read e = up-to-tail ∙ taken _ e
+  no-head e = head-stops s (entered L left) (parts.head L (w .instructions)) (parts.tail (L .«max_string_bytes»)) w at by-parts e
 
   pub head-refused : (q : Refusal) → head-at ≡ refused q → skim.Err q ≡ skimResult w function-at
   head-refused q e = sym (ap (skimResult w) (no-head e))
@@ -95,30 +117,19 @@ module _ (s : Bytes) (L : ResourceLimits) (left : ℕ) (w : Where) (at : ℕ) wh
     abbrev pub inner : Read (List Prototype)
     inner = forest n (entered L left) (inside w h) (c₁ .at) (drop (c₁ .at) s)
 
-    as-many : nested-at e₁ ≡ inner
-    as-many = ap (λ n. forest n (entered L left) (inside w h) (c₁ .at) (drop (c₁ .at) s)) (sym many)
-
     pub nested-refused : (q : Refusal) → skim.Err q ≡ skimResult (inside w h) inner → skim.Err q ≡ skimResult w function-at
-    nested-refused q e = sym (ap (skimResult w) (no-nested e₁ (as-many ∙ skim-err (inside w h) inner q e)))
+    nested-refused q e = sym (ap (skimResult w) (nested-stops s (entered L left) (parts.head L (w .instructions)) (parts.tail (L .«max_string_bytes»)) w at by-parts e₁ n many (skim-err (inside w h) inner q e)))
 
     module _ (k : Skimmed) (nested : Skims (forest n (entered L left)) s (inside w h) (c₁ .at) k) where
-      nested-on : nested-at e₁ ≡ ok (nested .value) (k .next .at) (drop (k .next .at) s)
-      nested-on = as-many ∙ nested .is
-
       pub to-tail : function-at ≡ next (tail-at (k .next .at)) (λ t end rest. ok (prototypeOf w at h t end ∷ nested .value) end rest)
-      to-tail = up-to-tail e₁ nested-on
+      to-tail = to-tail-by s (entered L left) (parts.head L (w .instructions)) (parts.tail (L .«max_string_bytes»)) w at by-parts e₁ n many k nested
 
       pub tail-refused : (q : Refusal) → tail-at (k .next .at) ≡ refused q → skim.Err q ≡ skimResult w function-at
-      tail-refused q e = sym (ap (skimResult w) (no-tail e₁ nested-on e))
+      tail-refused q e = sym (ap (skimResult w) (tail-stops s (entered L left) (parts.head L (w .instructions)) (parts.tail (L .«max_string_bytes»)) w at by-parts e₁ n many k nested e))
 
       module _ {t : parts.Tail} {end : ℕ} {rest : Bytes} (e₃ : tail-at (k .next .at) ≡ ok t end rest) where
         pub function-read : function-at ≡ ok (prototypeOf w at h t end ∷ nested .value) end rest
-        function-read = all-read e₁ nested-on e₃
+        function-read = all-by s (entered L left) (parts.head L (w .instructions)) (parts.tail (L .«max_string_bytes»)) w at by-parts e₁ n many k nested e₃
 
         pub function-shown : skim.Ok (record { next = cursorAt end; number = k .number; instructions = k .instructions }) ≡ skimResult w function-at
-        function-shown =
-            let ps = nested .value in
-            let p = prototypeOf w at h t end in
-            let number : k .number ≡ w .number + length (p ∷ ps) = ap (λ k. k .number) (nested .shows) ∙ omega arith in
-            let instructions : k .instructions ≡ w .instructions + instructionsOf (p ∷ ps) = ap (λ k. k .instructions) (nested .shows) ∙ omega arith in
-            (λ i. skim.Ok (record { next = cursorAt end; number = number i; instructions = instructions i })) ∙ sym (ap (skimResult w) function-read)
+        function-shown = shown-by s (entered L left) (parts.head L (w .instructions)) (parts.tail (L .«max_string_bytes»)) w at by-parts e₁ n many k nested e₃

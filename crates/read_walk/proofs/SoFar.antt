@@ -11,18 +11,19 @@ use lib.ListN.{length, length-append, drop}
 use Rattle.format.specs.declared.limits.ResourceLimits.{ResourceLimits}
 use Rattle.format.specs.declared.refusal.Refusal.{Refusal}
 use Rattle.format.specs.declared.refusal.Refusal.the-variants.{NestingDepth, TotalPrototypes}
-use Rattle.format.specs.Form.{Bytes}
+use Rattle.format.specs.Form.{Bytes, Form}
 use Rattle.format.specs.Reading.{Prototype}
 use Rattle.format.specs.GrammarChunk.{Where, instructionsOf, after}
 use Rattle.format.specs.Read.{Read, ok, refused, Reader, next, _>>=_, give}
 use Rattle.format.specs.ReadChunk.{forest, function}
+use Rattle.format.proofs.Exact.{Exact}
 use Rattle.format.proofs.ExactChunk.{exact-function}
 use Rattle.format.proofs.Totals.{instructions-append}
 use Rattle.read_prototype.proofs.On.{taken, stopped}
 use Rattle.read_walk.specs.declared.walk.Skimmed.{Skimmed}
 use Rattle.read_walk.specs.declared.walk.SkimResult.the-variants as skim
-use Rattle.read_walk.specs.Inner.Skim.{entered, on, skimmedOf, skimResult}
-use Rattle.read_walk.proofs.Entering.{too-deep, too-many, enters}
+use Rattle.read_walk.specs.Inner.Skim.{enteredBy, entered, on, skimmedOf, skimResult}
+use Rattle.read_walk.proofs.Entering.{too-deep, too-many, enters-by}
 use Rattle.read_walk.proofs.OneFunction.{skim-err, Skims, skim-read}
 
 pub record SoFar (r : Where → Reader (List Prototype)) (s : Bytes) (w : Where) (n from : ℕ) (k : Skimmed) (more : ℕ) (passed : List Prototype) : Type 0 where
@@ -73,26 +74,47 @@ module _ {r : Where → Reader (List Prototype)} {s : Bytes} {w : Where} {n from
     reads = a .reads ∙ ap (λ o. next o (λ qs. give (passed ++ qs))) (turn some ∙ taken _ e) ∙ grouped passed ps (forest (more - 1) r (after ps (on w k)) to (drop to s));
   }
 
--- ## Of functions that are entered
+-- ## Of functions that are entered, whatever reads a function
+module _ {f : ℕ → Where → Reader (List Prototype)} {F : ℕ → Where → Form (List Prototype)} (exact : (left : ℕ) (w : Where) → Exact (f left w) (F left w))
+    (L : ResourceLimits) (left : ℕ) {s : Bytes} {w : Where} {n from : ℕ} {k : Skimmed} {more : ℕ} {passed : List Prototype} (a : SoFar (enteredBy f L left) s w n from k more passed) (some : 0 < more) where
+  pub deep-by : left ≡ 0 → skim.Err (NestingDepth (k .next .at)) ≡ skimResult w (forest n (enteredBy f L left) w from (drop from s))
+  deep-by e = sym (ap (skimResult w) (one-refused a some (too-deep f L left (on w k) (k .next .at) (drop (k .next .at) s) e)))
+
+  module _ (level : 0 < left) where
+    pub many-by : L .«max_total_prototypes» < k .number → skim.Err (TotalPrototypes (k .next .at)) ≡ skimResult w (forest n (enteredBy f L left) w from (drop from s))
+    many-by h = sym (ap (skimResult w) (one-refused a some (too-many f L left (on w k) (k .next .at) (drop (k .next .at) s) level h)))
+
+    module _ (few : k .number ≤ L .«max_total_prototypes») where
+      enter : enteredBy f L left (on w k) (k .next .at) (drop (k .next .at) s) ≡ f (left - 1) (on w k) (k .next .at) (drop (k .next .at) s)
+      enter = enters-by f L left (on w k) (k .next .at) (drop (k .next .at) s) level few
+
+      pub stops-by : (q : Refusal) → skim.Err q ≡ skimResult (on w k) (f (left - 1) (on w k) (k .next .at) (drop (k .next .at) s)) → skim.Err q ≡ skimResult w (forest n (enteredBy f L left) w from (drop from s))
+      stops-by q e = sym (ap (skimResult w) (one-refused a some (enter ∙ skim-err (on w k) _ q e)))
+
+      module _ (later : Skimmed) (e : skim.Ok later ≡ skimResult (on w k) (f (left - 1) (on w k) (k .next .at) (drop (k .next .at) s))) where
+        pub next-by : Skims (f (left - 1)) s (on w k) (k .next .at) later
+        next-by = skim-read (exact (left - 1)) s (on w k) (k .next .at) later e
+
+        pub goes-on-by : SoFar (enteredBy f L left) s w n from later (more - 1) (passed ++ next-by .value)
+        goes-on-by = subst (λ l. SoFar (enteredBy f L left) s w n from l (more - 1) (passed ++ next-by .value)) (sym (next-by .shows)) (one-read a some (enter ∙ next-by .is))
+
+-- ## Of the ordinary reading
 module _ (L : ResourceLimits) (left : ℕ) {s : Bytes} {w : Where} {n from : ℕ} {k : Skimmed} {more : ℕ} {passed : List Prototype} (a : SoFar (entered L left) s w n from k more passed) (some : 0 < more) where
   pub deep : left ≡ 0 → skim.Err (NestingDepth (k .next .at)) ≡ skimResult w (forest n (entered L left) w from (drop from s))
-  deep e = sym (ap (skimResult w) (one-refused a some (too-deep L left (on w k) (k .next .at) (drop (k .next .at) s) e)))
+  deep e = deep-by (exact-function L) L left a some e
 
   module _ (level : 0 < left) where
     pub many : L .«max_total_prototypes» < k .number → skim.Err (TotalPrototypes (k .next .at)) ≡ skimResult w (forest n (entered L left) w from (drop from s))
-    many h = sym (ap (skimResult w) (one-refused a some (too-many L left (on w k) (k .next .at) (drop (k .next .at) s) level h)))
+    many h = many-by (exact-function L) L left a some level h
 
     module _ (few : k .number ≤ L .«max_total_prototypes») where
-      enter : entered L left (on w k) (k .next .at) (drop (k .next .at) s) ≡ function L (left - 1) (on w k) (k .next .at) (drop (k .next .at) s)
-      enter = enters L left (on w k) (k .next .at) (drop (k .next .at) s) level few
-
       pub stops : (q : Refusal) → skim.Err q ≡ skimResult (on w k) (function L (left - 1) (on w k) (k .next .at) (drop (k .next .at) s)) → skim.Err q ≡ skimResult w (forest n (entered L left) w from (drop from s))
-      stops q e = sym (ap (skimResult w) (one-refused a some (enter ∙ skim-err (on w k) _ q e)))
+      stops q e = stops-by (exact-function L) L left a some level few q e
 
       module _ (later : Skimmed) (e : skim.Ok later ≡ skimResult (on w k) (function L (left - 1) (on w k) (k .next .at) (drop (k .next .at) s))) where
         -- what the next one is
-        pub next-read : Skims (function L (left - 1)) s (on w k) (k .next .at) later
-        next-read = skim-read (exact-function L (left - 1)) s (on w k) (k .next .at) later e
+        abbrev pub next-read : Skims (function L (left - 1)) s (on w k) (k .next .at) later
+        next-read = next-by (exact-function L) L left a some level few later e
 
         pub goes-on : SoFar (entered L left) s w n from later (more - 1) (passed ++ next-read .value)
-        goes-on = subst (λ l. SoFar (entered L left) s w n from l (more - 1) (passed ++ next-read .value)) (sym (next-read .shows)) (one-read a some (enter ∙ next-read .is))
+        goes-on = goes-on-by (exact-function L) L left a some level few later e

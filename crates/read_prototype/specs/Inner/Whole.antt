@@ -20,11 +20,15 @@ prototypeOf w start h t end =
 abbrev pub inside : Where → Head → Where
 inside w h = within w (inherit (h .front .source) (w .source)) (length (h .lists .instructions .items))
 
-abbrev pub parts : ResourceLimits → (Where → Reader (List Prototype)) → Where → Reader (List Prototype)
-parts L r w = do
+-- a function and all that nest in it, by readers of its two parts and of a function that nests in it
+abbrev pub joined : (Where → Reader (List Prototype)) → Reader Head → Reader Tail → Where → Reader (List Prototype)
+joined r before behind w = do
   start ← here
-  h ← head L (w .instructions)
+  h ← before
   nested ← forest (h .protos .count) r (inside w h)
-  t ← tail (L .«max_string_bytes»)
+  t ← behind
   end ← here
   give (prototypeOf w start h t end ∷ nested)
+
+abbrev pub parts : ResourceLimits → (Where → Reader (List Prototype)) → Where → Reader (List Prototype)
+parts L r w = joined r (head L (w .instructions)) (tail (L .«max_string_bytes»)) w

@@ -1,5 +1,5 @@
 -- What a walk over functions shows of those that a reader gives.
---     entered L left w     a function that nests in another, below which functions nest at most `left` deep
+--     entered L left w     a function that nests in another, below which functions nest at most `left` deep; `enteredBy f` where f reads the function
 --     on w k               where the next function stands, behind a walk that began at w
 --     skimResult w o       what a walk that began at w shows of what was read
 use mathlib.Core.List.{List}
@@ -17,14 +17,17 @@ use Rattle.read_walk.specs.declared.walk.Skimmed.{Skimmed}
 use Rattle.read_walk.specs.declared.walk.SkimResult.{SkimResult}
 use Rattle.read_walk.specs.declared.walk.SkimResult.the-variants as skim
 
-abbrev pub entered : ResourceLimits → ℕ → grammar.Where → Reader (List Prototype)
-entered L zero w = do
+abbrev pub enteredBy : (ℕ → grammar.Where → Reader (List Prototype)) → ResourceLimits → ℕ → grammar.Where → Reader (List Prototype)
+enteredBy f L zero w = do
   place ← here
   refuse (NestingDepth place)
-entered L (suc left) w = do
+enteredBy f L (suc left) w = do
   place ← here
   atMost (w .number) (L .«max_total_prototypes») (TotalPrototypes place)
-  function L left w
+  f left w
+
+abbrev pub entered : ResourceLimits → ℕ → grammar.Where → Reader (List Prototype)
+entered L left w = enteredBy (function L) L left w
 
 abbrev pub on : grammar.Where → Skimmed → grammar.Where
 on w k = record { number = k .number; instructions = k .instructions; depth = w .depth; parent = w .parent; source = w .source }
