@@ -1,0 +1,2 @@
+pub mod StrictParts
+pub mod Results
