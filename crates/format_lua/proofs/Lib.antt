@@ -7,9 +7,9 @@ pub mod LundumpLaws
 pub mod LundumpParts
 pub mod LundumpChunk
 pub mod LundumpRead
+pub mod StrictLoaded
 pub mod LundumpBack
 pub mod LuaChunks
 pub mod LundumpCase
 pub mod LdumpCase
 pub mod WiderIf
-pub mod WiderBytes

@@ -1,88 +1,55 @@
--- What Lua's own loader takes (`Undump`, specs/LundumpFunctions.antt), our grammar takes, with the same value, where that value is within the limits.
---     FunctionWithin L p           a function's depth, each count and each string is within its limit
---     FunctionsWithin L w ps       so is each of these functions, the first of them at w, and so are the totals
---     function-within, undumped    what `LoadFunction` and `Undump` take, `Function` and `Main` take
+-- What Lua's own loader takes (`Undump`, specs/LundumpFunctions.antt), the stricter grammar takes (crates/format_strict), with the same value, where that value is within the limits (specs/LundumpWithin.antt).
+--     function-within, undumped    what `LoadFunction` and `Undump` take, `StrictFunction` and `StrictMain` take
 --     loaded-belongs               Lua loads m from the front of a chunk: the chunk belongs under the limits to our grammar, and its reading is what is loaded
 --     loaded-is-read               and so it is read
 -- The first argument of `Undump` bounds how deep functions nest, and is free here: C has no such bound.
--- The converse fails where 01 says so: numbers from 2^31 - 128 on, a string constant of size 0, a format byte other than 0. Elsewhere it holds: `proofs/LundumpBack.antt`.
+-- The converse: `proofs/StrictLoaded.antt`. Of the ordinary grammar it fails where 01 says so, and elsewhere holds: `proofs/LundumpBack.antt`.
 -- Assumes nothing.
-use mathlib.Core.Path.{_≡_, refl, ap}
+use mathlib.Core.Path.{_≡_, refl}
 use mathlib.Core.Bool.{true}
-use mathlib.Core.List.{List, [], _∷_, _++_}
+use mathlib.Core.List.{List, _++_}
 use mathlib.Core.Option.{Option, none, some}
 use Prim.Native.Nat.{ℕ, zero, suc, _+_, _≤_}
 use native.Mathlib.Omega.{arith}
 use lib.ListN.{length, length-append}
 use Rattle.format.specs.declared.limits.ResourceLimits.{ResourceLimits}
-use Rattle.format.specs.Form.{Bytes, Form, Then, Spelt}
-use Rattle.format.specs.GrammarFields.{LuaString, Byte, little}
-use Rattle.format.specs.GrammarHeader.{Header}
+use Rattle.format.specs.Form.{Bytes, Form, Then}
+use Rattle.format.specs.GrammarFields.{LuaString}
 use Rattle.format.specs.Limits.{withinCeilings}
 use Rattle.format.specs.Reading.{Prototype}
-use Rattle.format.specs.GrammarChunk.{inherit, instructionsOf, Where, after, within, Forest, Body, Function, Loaded, outermost, Main, reading, Chunk}
+use Rattle.format.specs.GrammarChunk.{inherit, Where, after, within, Forest, Loaded, outermost, reading, Chunk}
+use Rattle.format_strict.specs.GrammarStrict.{StrictBody, StrictFunction, StrictHeader, StrictMain}
 use Rattle.format_lua.specs.LundumpFunctions.{LoadProtos, LoadFunction, CheckHeader, Undump}
+use Rattle.format_lua.specs.LundumpWithin.{StringWithin, FunctionWithin, FunctionsWithin}
 use Rattle.format.specs.ReadChunk.{shown, read}
 use Rattle.format.proofs.ReadChunkLaws.{read-complete}
-use Rattle.format.proofs.Every.{Any, any, every-many, All, all-any, all-split}
+use Rattle.format_strict.proofs.StrictLaws.{main-strict}
+use Rattle.format.proofs.Every.{Any, any, every-many, all-any, all-split}
 use Rattle.format.proofs.Totals.{instructions-append}
-use Rattle.format.proofs.Wider.{Wider, same-wider, joined, behind, grouped, at-place}
+use Rattle.format.proofs.Wider.{Wider, same-wider, joined, behind, grouped}
 use Rattle.format_lua.proofs.WiderIf.{WiderIf, ends, tested, untested, tested-in, knows-in, untested-in, ends-in, limited, unasked, none-if, learnt, refuted}
-use Rattle.format_lua.proofs.LundumpParts.{int-wider, list-wider, counted-within, upTo-within, StringWithin, string-within, ConstantWithin, constant-within, LocalWithin, local-within, anchor-wider}
+use Rattle.format_lua.proofs.LundumpParts.{int-wider, list-wider, counted-within, upTo-within, string-within, constant-within, local-within, anchor-wider}
 
 -- ## The header
--- the format byte is 0, and ours shows it
-format-byte : {A : Type 0} {G : ℕ → Form A} → Wider (Then (Spelt (0 ∷ [])) (λ _. G 0)) (Then Byte G)
-format-byte = record {
-  widens = λ d.
-      let f = d .one in
-      record {
-        value = 0;
-        front = d .front;
-        back = d .back;
-        whole = d .whole;
-        one = record { value = f .value; front = f .front; back = f .back; whole = f .whole; one = f .one; two = (f .two .0, ap little (f .two .1)) };
-        two = d .two;
-      };
-}
-
 -- into a group, where the rest can be
 into : {A B C : Type 0} {F : Form A} {G : A → Form B} {H : B → Form C} {T : A → Form C} → ((x : A) → Wider (T x) (Then (G x) H)) → Wider (Then F T) (Then (Then F G) H)
 into rest = joined (behind rest) grouped
 
-pub header-wider : Wider CheckHeader Header
-header-wider = into λ _. behind λ _. at-place λ place. joined (behind λ _. into λ _. into λ _. into λ _. into λ _. into λ _. same-wider) format-byte
+pub header-wider : Wider CheckHeader StrictHeader
+header-wider = into λ _. behind λ _. behind λ _. into λ _. into λ _. into λ _. into λ _. into λ _. same-wider
 
 -- ## Functions
 module _ (L : ResourceLimits) where
-  -- (an absent source reads as the parent's, which is within the limit as the parent's own)
-  pub record FunctionWithin (p : Prototype) : Type 0 where
-    pub depth : p .depth ≤ L .«max_nesting_depth»
-    pub source : StringWithin (L .«max_string_bytes») (p .source-name)
-    pub instructions : length (p .instructions) ≤ L .«max_instructions_per_proto»
-    pub constants : length (p .constants) ≤ L .«max_constants_per_proto»
-    pub constant-strings : All (ConstantWithin (L .«max_string_bytes»)) (p .constants)
-    pub upvalues : length (p .upvalues) ≤ L .«max_upvalues_per_proto»
-    pub protos : p .protos ≤ L .«max_total_prototypes»
-    pub local-names : All (LocalWithin (L .«max_string_bytes»)) (p .loc-vars)
-    pub upvalue-names : All (StringWithin (L .«max_string_bytes»)) (p .upvalue-names)
-
-  -- the totals are those of all functions up to the last of these; main is none of the nested ones
-  pub record FunctionsWithin (w : Where) (ps : List Prototype) : Type 0 where
-    pub each : All FunctionWithin ps
-    pub instructions : w .instructions + instructionsOf ps ≤ L .«max_total_instructions»
-    pub functions : w .number + length ps ≤ suc (L .«max_total_prototypes»)
-
   -- the first functions, and those behind them
-  split-within : (w : Where) (ps qs : List Prototype) → FunctionsWithin w (ps ++ qs) → FunctionsWithin w ps × FunctionsWithin (after ps w) qs
+  split-within : (w : Where) (ps qs : List Prototype) → FunctionsWithin L w (ps ++ qs) → FunctionsWithin L w ps × FunctionsWithin L (after ps w) qs
   split-within w ps qs h =
-      let both = all-split FunctionWithin ps qs (h .each) in
+      let both = all-split (FunctionWithin L) ps qs (h .each) in
       let instructions = instructions-append ps qs in
       let functions = length-append ps qs in
       (record { each = both .0; instructions = omega arith; functions = omega arith }, record { each = both .1; instructions = omega arith; functions = omega arith })
 
-  forest-within : (n : ℕ) {F G : Where → Form (List Prototype)} (w : Where) → ((v : Where) → v .depth ≡ w .depth → WiderIf (FunctionsWithin v) (Unit {0}) (F v) (G v))
-      → WiderIf (FunctionsWithin w) (Unit {0}) (LoadProtos n F w) (Forest n G w)
+  forest-within : (n : ℕ) {F G : Where → Form (List Prototype)} (w : Where) → ((v : Where) → v .depth ≡ w .depth → WiderIf (FunctionsWithin L v) (Unit {0}) (F v) (G v))
+      → WiderIf (FunctionsWithin L w) (Unit {0}) (LoadProtos n F w) (Forest n G w)
   forest-within zero w one = ends λ p. tt
   forest-within (suc n) w one =
       tested (one w refl) λ ps.
@@ -95,9 +62,9 @@ module _ (L : ResourceLimits) where
   own-within limit (some t) parent h = h
 
   -- learnt besides: w itself passes the two tests that stand before a nested function
-  body-within : (left : ℕ) {G : Where → Form (List Prototype)} (w : Where) → ((v : Where) → v .depth ≡ w .depth + 1 → WiderIf (FunctionsWithin v) (Unit {0}) (LoadFunction left v) (G v))
-      → WiderIf (FunctionsWithin w) ((w .number ≤ L .«max_total_prototypes») × (w .depth ≤ L .«max_nesting_depth»)) (LoadFunction (suc left) w) (Body L G w)
-  unfolding LoadFunction Body
+  body-within : (left : ℕ) {G : Where → Form (List Prototype)} (w : Where) → ((v : Where) → v .depth ≡ w .depth + 1 → WiderIf (FunctionsWithin L v) (Unit {0}) (LoadFunction left v) (G v))
+      → WiderIf (FunctionsWithin L w) ((w .number ≤ L .«max_total_prototypes») × (w .depth ≤ L .«max_nesting_depth»)) (LoadFunction (suc left) w) (StrictBody L G w)
+  unfolding LoadFunction StrictBody
   body-within left w one =
       untested same-wider λ start.
       tested (string-within (L .«max_string_bytes»)) λ source.
@@ -128,7 +95,7 @@ module _ (L : ResourceLimits) where
       (untested same-wider λ end.
       ends λ p.
       let h = p .each .0 in
-      let inner : FunctionsWithin (within w (inherit source (w .source)) (length instructions)) nested = record { each = p .each .1; instructions = omega (arith, p .instructions); functions = omega (arith, p .functions) } in
+      let inner : FunctionsWithin L (within w (inherit source (w .source)) (length instructions)) nested = record { each = p .each .1; instructions = omega (arith, p .instructions); functions = omega (arith, p .functions) } in
       let total : w .instructions + size ≤ L .«max_total_instructions» = omega (arith, p .instructions) in
       let few : size ≤ L .«max_instructions_per_proto» = omega (arith, h .instructions) in
       let number : w .number ≤ L .«max_total_prototypes» = omega (arith, p .functions) in
@@ -138,13 +105,13 @@ module _ (L : ResourceLimits) where
 
   -- k is as deep as functions may nest below w's, or deeper
   pub function-within : (left k : ℕ) (w : Where) → L .«max_nesting_depth» ≤ w .depth + k
-      → WiderIf (FunctionsWithin w) ((w .number ≤ L .«max_total_prototypes») × (w .depth ≤ L .«max_nesting_depth»)) (LoadFunction left w) (Function L k w)
-  unfolding LoadFunction Function
+      → WiderIf (FunctionsWithin L w) ((w .number ≤ L .«max_total_prototypes») × (w .depth ≤ L .«max_nesting_depth»)) (LoadFunction left w) (StrictFunction L k w)
+  unfolding LoadFunction StrictFunction
   function-within zero k w deep = none-if
   function-within (suc left) zero w deep = body-within left w λ v below. refuted (λ r. omega arith) (function-within left zero v (omega arith))
   function-within (suc left) (suc k) w deep = body-within left w λ v below. learnt (λ r. tt) (limited (function-within left k v (omega arith)))
 
-  main-within : (left : ℕ) → WiderIf (λ m. FunctionsWithin outermost (m .functions)) (Unit {0}) (Undump left) (Main L)
+  main-within : (left : ℕ) → WiderIf (λ m. FunctionsWithin L outermost (m .functions)) (Unit {0}) (Undump left) (StrictMain L)
   main-within left =
       untested header-wider λ headed.
       untested same-wider λ nupvalues.
@@ -152,14 +119,14 @@ module _ (L : ResourceLimits) where
       ends λ p. (p, tt)
 
   -- ## Chunks
-  pub undumped : (left at : ℕ) (b : Bytes) (m : Loaded) → Undump left at b m → FunctionsWithin outermost (m .functions) → Main L at b m
+  pub undumped : (left at : ℕ) (b : Bytes) (m : Loaded) → Undump left at b m → FunctionsWithin L outermost (m .functions) → StrictMain L at b m
   undumped left at b m d h = main-within left .widens at b m h d .0
 
   -- what stands behind main is not looked at by Lua, and is the trailing bytes of ours
-  pub loaded-belongs : (left : ℕ) (front trailing : Bytes) (m : Loaded) → Undump left 0 front m → FunctionsWithin outermost (m .functions)
+  pub loaded-belongs : (left : ℕ) (front trailing : Bytes) (m : Loaded) → Undump left 0 front m → FunctionsWithin L outermost (m .functions)
       → Chunk L (front ++ trailing) (reading L m (length front) trailing)
-  loaded-belongs left front trailing m d h = record { front = front; trailing = trailing; whole = refl; value = m; main = undumped left 0 front m d h; shows = refl }
+  loaded-belongs left front trailing m d h = record { front = front; trailing = trailing; whole = refl; value = m; main = main-strict L .widens (undumped left 0 front m d h); shows = refl }
 
-  pub loaded-is-read : (left : ℕ) (front trailing : Bytes) (m : Loaded) → Undump left 0 front m → FunctionsWithin outermost (m .functions)
+  pub loaded-is-read : (left : ℕ) (front trailing : Bytes) (m : Loaded) → Undump left 0 front m → FunctionsWithin L outermost (m .functions)
       → withinCeilings L ≡ true → length (front ++ trailing) ≤ L .«max_input_bytes» → read L (front ++ trailing) ≡ shown (reading L m (length front) trailing)
   loaded-is-read left front trailing m d h ceilings input = read-complete L (front ++ trailing) (reading L m (length front) trailing) ceilings input (loaded-belongs left front trailing m d h)

@@ -10,14 +10,14 @@ use mathlib.Core.Logic.{_↔_}
 use mathlib.Core.Bool.{Bool, true, false, _&&_, cond}
 use mathlib.Core.List.{List, [], _∷_, _++_, append-nil}
 use mathlib.Core.Option.{Option, none, some}
-use Prim.Native.Nat.{ℕ, zero, suc, _+_, _-_, _^_}
+use Prim.Native.Nat.{ℕ, zero, suc, _+_, _-_}
 use native.Mathlib.Omega.{arith}
 use lib.Dec.{T, ltb, eqb, ltb→lt, lt→ltb}
 use lib.ListN.{length, take}
 use lib.Seq.{take-at}
 use Rattle.format.specs.declared.refusal.Refusal.the-variants.{Overflow}
 use Rattle.format.specs.Form.{Bytes, Below, Form, Then, Is, Here, Nothing, When, Run, Spelt, Many}
-use Rattle.format.specs.GrammarFields.{Field, Number, LuaString}
+use Rattle.format.specs.GrammarFields.{Field, LuaString}
 use Rattle.format.specs.Reading.{Prototype}
 use Rattle.format.specs.GrammarChunk.{inherit, Where, after, within, Loaded, outermost}
 use Rattle.format_lua.specs.LundumpFunctions.{
@@ -46,8 +46,9 @@ use Rattle.format.proofs.Exact.{Exact, Split, never, exact-give, exact-here, ex
 use Rattle.format.proofs.ExactFields.{exact-field, exact-number}
 use Rattle.format.proofs.ExactHeader.{both, both-of, exact-expect}
 use Rattle.format.proofs.ExactChunk.{exact-refuse}
-use Rattle.format_lua.proofs.LundumpLaws.{Ours, size-exactly, int-exactly}
-use Rattle.format_lua.proofs.LundumpParts.{size-wider, int-wider}
+use Rattle.format_strict.specs.ReadStrict as strict
+use Rattle.format_strict.proofs.ExactStrict as strictly
+use Rattle.format_lua.proofs.LundumpParts.{size-wider, int-wider, size-loads, int-loads}
 
 pub record Takes {A : Type 0} (F : Form A) : Type 0 where
   pub reader : Reader A
@@ -128,32 +129,22 @@ bytes-are : (b : Bytes) → Below 256 b → T (bytesOnly b)
 bytes-are [] h = tt
 bytes-are (x ∷ xs) h = both-of (ltb x 256) (bytesOnly xs) (lt→ltb x 256 (h .0)) (bytes-are xs (h .1))
 
--- a number's bytes, read to the last
-pub ours-of : {at v : ℕ} {b : Bytes} → Number at b v → Ours 0 at b v []
-ours-of {at} {v} {b} d = record { to = at + length b; is = rw append-nil at (exact-number .complete {at = at} [] d) }
+-- a reader, and its bytes are bytes
+exact-bytes : {A : Type 0} {r : Reader A} {F G : Form A} → ((at : ℕ) (b : Bytes) (v : A) → Below 256 b → F at b v → G at b v) → ((at : ℕ) (b : Bytes) (v : A) → G at b v → Below 256 b × F at b v) → Exact r F
+    → Exact (judged (λ v b. bytesOnly b) r) G
+exact-bytes to from one = exact-as (λ at b v. (λ g. to at b v (are-bytes b (g .0)) (g .1), λ d. let f = from at b v d in (bytes-are b (f .0), f .1))) (exact-judged (λ v b. bytesOnly b) one)
 
 abbrev pub size : Reader ℕ
 size = judged (λ v b. bytesOnly b) number
 
 pub exact-size : Exact size LoadSize
-exact-size = exact-as (λ at b v. (
-  λ g. (are-bytes b (g .0), size-exactly at b v [] (are-bytes b (g .0)) .1 (ours-of (g .1))),
-  λ d. (bytes-are b (d .0), size-wider .widens {at = at} d),
-)) (exact-judged (λ v b. bytesOnly b) exact-number)
+exact-size = exact-bytes (λ at b v. size-loads at v b) (λ at b v d. (d .0, size-wider .widens {at = at} d)) exact-number
 
 abbrev pub int : Reader ℕ
-int = judged (λ v b. bytesOnly b && ltb v (2 ^ 31 - 128)) number
+int = judged (λ v b. bytesOnly b) strict.int
 
 pub exact-int : Exact int LoadInt
-exact-int = exact-as (λ at b v. (
-  λ g.
-      let k = both (bytesOnly b) (ltb v (2 ^ 31 - 128)) (g .0) in
-      let h = are-bytes b (k .0) in
-      (h, int-exactly at b v [] h .1 (ours-of (g .1), ltb→lt v (2 ^ 31 - 128) (k .1))),
-  λ d.
-      let small = int-exactly at b v [] (d .0) .0 (d .1) .1 in
-      (both-of (bytesOnly b) (ltb v (2 ^ 31 - 128)) (bytes-are b (d .0)) (lt→ltb v (2 ^ 31 - 128) small), int-wider .widens {at = at} d),
-)) (exact-judged (λ v b. bytesOnly b && ltb v (2 ^ 31 - 128)) exact-number)
+exact-int = exact-bytes (λ at b v. int-loads at v b) (λ at b v d. (d .0, int-wider .widens {at = at} d)) strictly.exact-int
 
 abbrev pub take-size : Takes LoadSize
 take-size = record { reader = size; exact = exact-size }

@@ -3,9 +3,11 @@
 -- A part's test stands before the rest, and the condition is on what the whole spells. So the law of the rest says (R) what was learnt of the parts before it:
 -- in `tested one λ x. rest`, `rest` shows that x is within what `one` asks, and `ends` gathers all that was asked.
 -- Assumes nothing.
-use mathlib.Core.Path.{refl}
+use mathlib.Core.Path.{_≡_, refl, _∙_, ap}
 use mathlib.Core.Bool.{Bool, true, false}
+use mathlib.Core.List.{_++_}
 use Prim.Native.Nat.{ℕ, zero, suc}
+use native.Mathlib.Nat.{add-zero}
 use Rattle.format.specs.Form.{Bytes, Form, Then, Is, Here, Given, Nothing, When, Many}
 use Rattle.format.proofs.Build.{skip}
 use Rattle.format.proofs.Every.{Every, Any, any, All}
@@ -87,12 +89,12 @@ module _ {A : Type 0} {P : A → Type 0} {R : Type 0} {F G : Form A} where
   by-test true one two = one
   by-test false one two = two
 
--- the other form notes the place
-pub noted : {A : Type 0} {P : A → Type 0} {R : Type 0} {F : Form A} {G : ℕ → Form A} → ((place : ℕ) → WiderIf P R F (G place)) → WiderIf P R F (Then Here G)
-noted two = record {
+-- the first form notes the place, and the other does not
+pub unplaced : {A : Type 0} {P : A → Type 0} {R : Type 0} {F : ℕ → Form A} {G : Form A} → ((place : ℕ) → WiderIf P R (F place) G) → WiderIf P R (Then Here F) G
+unplaced rest = record {
   widens = λ at b x p d.
-      let r = two at .widens at b x p d in
-      (skip at (refl, refl) (r .0), r .1);
+      let all : b ≡ d .back = d .whole ∙ ap (λ c. c ++ d .back) (d .one .0) in
+      rest (d .value) .widens at b x p (rw all (rw (d .one .0, add-zero) at (d .two)));
 }
 
 -- each of many

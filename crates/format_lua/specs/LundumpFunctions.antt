@@ -4,7 +4,7 @@
 -- loop, LoadConstant, LoadUpvalue, LoadAbsLineInfo, LoadVarName, LoadLocVar. At each stand the lines of C that it is for. `Field 8` is `loadInteger` and `loadNumber`;
 -- `Spelt` is `checkliteral`, and a byte or a number that is loaded and compared.
 -- Bytes of a word or a number are in the order of a little-endian machine: C copies them as they lie in memory (`loadVector`).
--- Where 01 makes ours differ is said at each. What `Undump` takes, our grammar takes, with the same value, where that is within the limits: `proofs/LundumpChunk.antt`.
+-- Where 01 makes ours differ is said at each. What `Undump` takes, our grammar takes, with the same value, where that is within the limits: `proofs/LundumpChunk.antt`. The stricter grammar takes exactly that: `proofs/StrictLoaded.antt`.
 -- Not here: memory (what a loader allocates, or writes behind an array's end), and what happens at a tag that is none (`lua_assert(0)`).
 use mathlib.Core.Path.{_≡_}
 use mathlib.Core.Bool.{Bool, true, false}
