@@ -97,7 +97,7 @@ law (done l) qs e = record { returns = ap code e; kept = λ q old h. absurd (let
 law (refuses q) qs e = record { returns = ap code e; kept = λ q old h. refl; answers = λ old h. absurd (let z : _≡_ {A = ℕ} 0 1 = cc in omega arith) }
 
 -- ## The refusal in each answer is the one in its numbers
-of-summary : (a : SummaryAnswer) → inAnswer (ofSummary a) ≡ inSummary a
+pub of-summary : (a : SummaryAnswer) → inAnswer (ofSummary a) ≡ inSummary a
 of-summary (summary-answer.Ok x) = refl
 of-summary (summary-answer.Err q) = refl
 

@@ -1,5 +1,6 @@
 -- What the exported calls show of a chunk that belongs to the grammar: each shows its part of the reading. The calls' contracts (README, The calls) say that
 --     chunk_summary           answers    shownSummary (spelling L s) (read L s): beside the reading, how many numbers are padded (02, item 1: `Request01.antt`)
+--     strict_summary          answers    shownSummary (spelling L s) (strictRead L s): where the stricter reading accepts, what chunk_summary answers (02, item 7: `Request07.antt`)
 --     trailing_bytes          shows      trailingOf (read L s)
 --     string_bytes            shows      take len (drop place s)
 --     function_fields         answers    shownFields (functionOf f (read L s))

@@ -13,13 +13,12 @@ use mathlib.Core.Path.{_≡_, refl, sym, _∙_, ap}
 use mathlib.Core.Bool.{Bool, true, false, cond}
 use mathlib.Core.List.{List, [], _∷_, _++_}
 use mathlib.Core.Option.{Option, none, some}
-use Prim.Native.Nat.{ℕ, _≤_, _^_}
+use Prim.Native.Nat.{ℕ, _^_}
 use native.Mathlib.Omega.{arith}
-use native.Mathlib.Nat.{zero-add}
 use lib.Dec.{leb, ltb}
 use lib.IntN.{ℤ, pos, negsuc, _+ℤ_}
-use lib.ListN.{length, drop, length-append, getElem?}
-use borrow.Author.Tests.{leb-true, le-leb}
+use lib.ListN.{length, drop, getElem?}
+use borrow.Author.Tests.{le-leb}
 use Rattle.format.specs.declared.limits.ResourceLimits.{ResourceLimits}
 use Rattle.format.specs.declared.refusal.Refusal.{Refusal}
 use Rattle.format.specs.declared.refusal.Refusal.the-variants as refusals
@@ -61,9 +60,8 @@ use Rattle.word_fields.specs.declared.instruction.Encoded.{Encoded}
 use Rattle.word_fields.specs.declared.instruction.Encoded.the-variants as word
 use Rattle.word_fields.specs.Word.{unbiased, withUnbiased, encodedIABx, encodedIAx, byMode, byOpcode, encoded}
 use Rattle.word_fields.proofs.Ranges.{inRange, isWord, ranges}
-use Rattle.read_chunk.proofs.Summaries.{input-ceiling}
-use Rattle.demands.proofs.InOrder.{Inside, inside-more}
-use Rattle.demands.proofs.Order.{in-byte-order}
+use Rattle.demands.proofs.InOrder.{Inside}
+use Rattle.demands.proofs.Order.{in-byte-order, places-by}
 use Rattle.demands.proofs.Refused.{alone, nothing-later, unless, missing, first, byReader, ofChunk, andThen, noFunction, ofFunction, noEntry, largeLine, ofLocal, longName, tooLong, noOpcode, outOfRange}
 use Rattle.demands.proofs.Refused.{forChunk, forSpace, forFunction, forLine, forEntry, forLocal, forWord}
 use Rattle.demands.proofs.Refused.{inSummary, inFields, inWord, inConstant, inUpvalue, inDelta, inAnchor, inName, inLocal, inLine, inIndex, inCopy, inVerdict, inCount, inFindings, inEncoded}
@@ -72,22 +70,7 @@ use Rattle.demands.proofs.Refused.{inSummary, inFields, inWord, inConst
 -- a place, if there is one, is at most the file's length; and then that is within its ceiling
 pub places : (L : ResourceLimits) (s : Bytes) (q : Refusal) → read L s ≡ refusal q → Inside (length s) (reported q .place) × Inside 16777216 (reported q .place)
 unfolding read
-places L s q = go (withinCeilings L) refl (leb (length s) (L .«max_input_bytes»)) refl (main L 0 s) refl
-  where
-    go : (within : Bool) → withinCeilings L ≡ within → (short : Bool) → leb (length s) (L .«max_input_bytes») ≡ short → (m : Read Loaded) → main L 0 s ≡ m
-        → cond within (cond short (outcome L m) (refusal refusals.InputBytes)) (refusal refusals.LimitAboveCeiling) ≡ refusal q
-        → Inside (length s) (reported q .place) × Inside 16777216 (reported q .place)
-    go true f true g (ok m to rest) k e = absurd (let z : _≡_ {A = ℕ} 0 1 = cc in omega arith)
-    go true f true g (refused p) k e =
-        let same : p ≡ q = cc in
-        let d = in-byte-order L s p k in
-        let fits : length (d .front) ≤ length s = omega (arith, ap length (d .whole), length-append (d .front) (d .rest)) in
-        let there : Inside (length (d .front)) (reported p .place) = rw zero-add at (d .by-file .place) in
-        let here = inside-more fits (reported p .place) there in
-        let few : length s ≤ 16777216 = omega (arith, leb-true (length s) (L .«max_input_bytes») g, input-ceiling L f) in
-        rw (← same) (here, inside-more few (reported p .place) here)
-    go true f false g m k e = let same : refusals.InputBytes ≡ q = cc in rw (← same) (tt, tt)
-    go false f short g m k e = let same : refusals.LimitAboveCeiling ≡ q = cc in rw (← same) (tt, tt)
+places L s q = places-by L (main L) s (in-byte-order L s) q
 
 -- ## The order, in general
 -- what comes of conditions behind the chunk's

@@ -31,7 +31,8 @@ use Rattle.format.proofs.Every.{All}
 use Rattle.format.proofs.ReadChunkLaws.{read-sound}
 use Rattle.format_lua.proofs.LundumpBack.{Loadable, LoadedAs, read-is-loaded}
 use Rattle.format_lua.proofs.LdumpWhole.{sourceOf, AsLua, AsStripped, copy-as-dumped, copy-as-stripped}
-use Rattle.format_lua.proofs.LundumpChunk.{FunctionsWithin, loaded-is-read}
+use Rattle.format_lua.specs.LundumpWithin.{FunctionsWithin}
+use Rattle.format_lua.proofs.LundumpChunk.{loaded-is-read}
 use Rattle.show_row.specs.Asked.{functionOf, entryOf}
 use Rattle.index.specs.Index.{shownIndex, indexWritten}
 use Rattle.line_lookup.specs.Lines.{shownLine}
@@ -57,9 +58,11 @@ use Rattle.chunklist_listing.specs.Listing as listings
 use Rattle.format.proofs.limits.ResourceLimits.ceilings as ceilings-call
 use Rattle.format.proofs.limits.ResourceLimits.within_ceilings as within-ceilings-call
 use Rattle.format_spelling.specs.ReadSpelling.{spelling}
+use Rattle.format_strict.specs.ReadStrict.{strictRead}
 use Rattle.format_report.proofs.report_refusal as report-refusal-call
 use Rattle.format_report.proofs.report_warning as report-warning-call
 use Rattle.show_chunk.proofs.summary.chunk_summary as chunk-summary-call
+use Rattle.strict.proofs.strict_summary as strict-summary-call
 use Rattle.show_chunk.proofs.bytes.trailing_bytes as trailing-bytes-call
 use Rattle.show_chunk.proofs.bytes.string_bytes as string-bytes-call
 use Rattle.show_chunk.proofs.fields.function_fields as function-fields-call
@@ -92,6 +95,12 @@ pub chunk-summary : Promise chunk-summary-call.ended chunk-summary-call.Symbol.r
     (r ≡ shownSummary (spelling limits (now chunk)) (read limits (now chunk)))
     ∷ [])
 chunk-summary _ = chunk-summary-call.Met.met
+
+-- what the Rust has not: the stricter reading (02, item 7: `Request07.antt`)
+pub strict-summary : Promise strict-summary-call.ended strict-summary-call.Symbol.routine (λ _ chunk limits r.
+    (r ≡ shownSummary (spelling limits (now chunk)) (strictRead limits (now chunk)))
+    ∷ [])
+strict-summary _ = strict-summary-call.Met.met
 
 pub trailing-bytes : Promise trailing-bytes-call.ended trailing-bytes-call.Symbol.routine (λ _ chunk limits r.
     (now r ≡ trailingOf (read limits (now chunk)))

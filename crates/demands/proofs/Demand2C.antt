@@ -11,6 +11,7 @@ use denote.Ref.{RefT, now}
 use Rattle.format.specs.ReadChunk.{Outcome, read}
 use Rattle.format.specs.Form.{Bytes}
 use Rattle.format_spelling.specs.ReadSpelling.{spelling}
+use Rattle.format_strict.specs.ReadStrict.{strictRead}
 use Rattle.show_row.specs.Asked.{functionOf, entryOf}
 use Rattle.index.specs.Index.{shownIndex, indexWritten}
 use Rattle.line_lookup.specs.Lines.{shownLine}
@@ -32,6 +33,7 @@ use Rattle.c_entries_at.specs.EntryNumbers.{wordAt, constantAt, upvalueAt, delt
 use Rattle.lafzimdo.specs.Version as of-version
 use Rattle.lafzimdo.proofs.version.lafzimdo_version as version-call
 use Rattle.lafzimdo.proofs.summary.lafzimdo_summary as summary-call
+use Rattle.lafzimdo.proofs.stricter.lafzimdo_strict_summary as strict-summary-call
 use Rattle.lafzimdo.proofs.function.lafzimdo_function as function-call
 use Rattle.lafzimdo.proofs.entry.lafzimdo_instruction as instruction-call
 use Rattle.lafzimdo.proofs.entry.lafzimdo_constant as constant-call
@@ -73,6 +75,10 @@ readIn limits chunk = read (limitsOf (now limits)) (now chunk)
 pub summary : Promise summary-call.ended summary-call.Symbol.routine (λ _ chunk limits out out′ r.
     Answered r out out′ (ofSummary (shownSummary (spelling (limitsOf (now limits)) (now chunk)) (readIn limits chunk))))
 summary _ = summary-call.Met.met
+
+pub strict-summary : Promise strict-summary-call.ended strict-summary-call.Symbol.routine (λ _ chunk limits out out′ r.
+    Answered r out out′ (ofSummary (shownSummary (spelling (limitsOf (now limits)) (now chunk)) (strictRead (limitsOf (now limits)) (now chunk)))))
+strict-summary _ = strict-summary-call.Met.met
 
 pub function : Promise function-call.ended function-call.Symbol.routine (λ _ chunk limits function out out′ r.
     Answered r out out′ (ofFields (shownFields (functionOf function (readIn limits chunk)))))

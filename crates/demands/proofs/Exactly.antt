@@ -12,6 +12,7 @@ use native.Mathlib.Omega.{arith}
 use lib.Dec.{leb}
 use lib.ListN.{length}
 use Rattle.format.specs.declared.limits.ResourceLimits.{ResourceLimits}
+use Rattle.format.specs.declared.refusal.Refusal.{Refusal}
 use Rattle.format.specs.declared.refusal.Refusal.the-variants as refusals
 use Rattle.format.specs.declared.refusal.Report.{Report}
 use Rattle.format.specs.declared.header.Warning.{Warning}
@@ -32,32 +33,40 @@ use Rattle.demands.proofs.Order.{in-byte-order}
 number-of : {r t : Report} → some r ≡ some t → r .number ≡ t .number
 number-of e = let same = e in cc
 
-module _ (L : ResourceLimits) (s : Bytes) where
-  -- the reader refuses by 1 to 20 alone
-  by-reader : (n : ℕ) → 21 ≤ n → (m : Read Loaded) → main L 0 s ≡ m → refusedWith (outcome L m) ≡ some (bare n) → ⊥
-  by-reader n h (ok x to rest) is e = let z : _≡_ {A = ℕ} 0 1 = cc in omega arith
-  by-reader n h (refused q) is e = let few = in-byte-order L s q is .by-file .to in let same : reported q .number ≡ n = number-of e in omega arith
+-- the tests, and what a reader gives behind them, which is neither 21 nor 22
+module _ (L : ResourceLimits) (m : Read Loaded) (neither : (q : Refusal) → m ≡ refused q → (reported q .number ≡ 21 → ⊥) × (reported q .number ≡ 22 → ⊥)) where
+  by-reader : (n : ℕ) → ((q : Refusal) → m ≡ refused q → reported q .number ≡ n → ⊥) → refusedWith (outcome L m) ≡ some (bare n) → ⊥
+  by-reader n not e = go m refl e
+    where
+      go : (o : Read Loaded) → m ≡ o → refusedWith (outcome L o) ≡ some (bare n) → ⊥
+      go (ok x to rest) is e = let z : _≡_ {A = ℕ} 0 1 = cc in omega arith
+      go (refused q) is e = not q is (number-of e)
 
   abbrev tests : Bool → Bool → Outcome
-  tests within short = cond within (cond short (outcome L (main L 0 s)) (refusal refusals.InputBytes)) (refusal refusals.LimitAboveCeiling)
+  tests within short = cond within (cond short (outcome L m) (refusal refusals.InputBytes)) (refusal refusals.LimitAboveCeiling)
 
-  first-test : (within short : Bool) → (refusedWith (tests within short) ≡ some (bare 21)) ↔ (within ≡ false)
-  first-test true true = (λ e. absurd (by-reader 21 (omega arith) (main L 0 s) refl e), λ k. absurd (let z : _≡_ {A = ℕ} 0 1 = cc in omega arith))
+  pub first-test : (within short : Bool) → (refusedWith (tests within short) ≡ some (bare 21)) ↔ (within ≡ false)
+  first-test true true = (λ e. absurd (by-reader 21 (λ q is. neither q is .0) e), λ k. absurd (let z : _≡_ {A = ℕ} 0 1 = cc in omega arith))
   first-test true false = (λ e. absurd (let z : _≡_ {A = ℕ} 22 21 = number-of e in omega arith), λ k. absurd (let z : _≡_ {A = ℕ} 0 1 = cc in omega arith))
   first-test false short = (λ e. refl, λ k. refl)
 
-  second-test : (within short : Bool) → (refusedWith (tests within short) ≡ some (bare 22)) ↔ ((within ≡ true) × (short ≡ false))
-  second-test true true = (λ e. absurd (by-reader 22 (omega arith) (main L 0 s) refl e), λ k. absurd (let l = k .1 in let z : _≡_ {A = ℕ} 0 1 = cc in omega arith))
+  pub second-test : (within short : Bool) → (refusedWith (tests within short) ≡ some (bare 22)) ↔ ((within ≡ true) × (short ≡ false))
+  second-test true true = (λ e. absurd (by-reader 22 (λ q is. neither q is .1) e), λ k. absurd (let l = k .1 in let z : _≡_ {A = ℕ} 0 1 = cc in omega arith))
   second-test true false = (λ e. (refl, refl), λ k. refl)
   second-test false short = (λ e. absurd (let z : _≡_ {A = ℕ} 21 22 = number-of e in omega arith), λ k. absurd (let l = k .0 in let z : _≡_ {A = ℕ} 0 1 = cc in omega arith))
 
+module _ (L : ResourceLimits) (s : Bytes) where
+  -- the reader refuses by 1 to 20 alone
+  neither : (q : Refusal) → main L 0 s ≡ refused q → (reported q .number ≡ 21 → ⊥) × (reported q .number ≡ 22 → ⊥)
+  neither q is = let few : reported q .number ≤ 20 = in-byte-order L s q is .by-file .to in (λ e. omega arith, λ e. omega arith)
+
   pub twenty-one : (refusedWith (read L s) ≡ some (bare 21)) ↔ (withinCeilings L ≡ false)
   unfolding read
-  twenty-one = first-test (withinCeilings L) (leb (length s) (L .«max_input_bytes»))
+  twenty-one = first-test L (main L 0 s) neither (withinCeilings L) (leb (length s) (L .«max_input_bytes»))
 
   pub twenty-two : (refusedWith (read L s) ≡ some (bare 22)) ↔ ((withinCeilings L ≡ true) × (leb (length s) (L .«max_input_bytes») ≡ false))
   unfolding read
-  twenty-two = second-test (withinCeilings L) (leb (length s) (L .«max_input_bytes»))
+  twenty-two = second-test L (main L 0 s) neither (withinCeilings L) (leb (length s) (L .«max_input_bytes»))
 
 -- ## Warnings
 abbrev warningOf : WarningCode → ℕ → Warning

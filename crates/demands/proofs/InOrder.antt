@@ -1,11 +1,11 @@
 -- The reader goes through the bytes from the front and ends at the first refusal: what stands behind never changes it. One law for each way to make a reader.
---     Steady low r     from a place on that is at least `low`: with more bytes behind, r gives the same; it goes forward, never behind the end; and it refuses by 1 to 20
---                      alone, with a place that is at most the end. Only 1 and 2 (bytes are missing) can go away with more bytes
+--     Steady of low r  from a place on that is at least `low`: with more bytes behind, r gives the same; it goes forward, never behind the end; and it refuses by 1 to 20
+--                      alone (`of` the ordinary reading; the stricter one has 31 to 33 besides), with a place that is at most the end. Only 1 and 2 (bytes are missing) can go away with more bytes
 --     Lack r at s p    a file that is cut short (1) lacks bytes: so many are wanted at the refusal's place p, there are fewer; with more, but fewer than these, it is the same, and with as many it is not 1 at that place
 -- (And 2 is met behind byte 128 alone: a number is below 2^64 − 128, so place plus size is below 2^64 up to there.)
 -- Assumes nothing.
 use mathlib.Core.Path.{_≡_, refl, _∙_, ap}
-use mathlib.Core.Bool.{Bool, true, false, cond}
+use mathlib.Core.Bool.{Bool, true, false, cond, _&&_, _||_}
 use mathlib.Core.List.{List, [], _∷_, _++_}
 use Prim.Native.Nat.{ℕ, zero, suc, _+_, _-_, _*_, _%_, _≤_, _<_, _^_}
 use native.Mathlib.Omega.{arith}
@@ -49,6 +49,7 @@ use Rattle.format.specs.ReadFields.{field, groups, number, content, string}
 use Rattle.format.specs.ReadHeader.{sameBytes, expect, beforeFormat, behindFormat, header}
 use Rattle.format.specs.ReadChunk.{counted, countedUpTo, always, tagged, constant, upvalue, anchor, local, forest, body, function, main}
 use Rattle.format.proofs.ExactFields.{exact-number}
+use Rattle.demands.proofs.Causes.{Which, ordinary, stricter}
 
 -- a place, if there is one, is at most e
 abbrev pub Inside : ℕ → Place → Type 0
@@ -59,16 +60,34 @@ pub inside-more : {d e : ℕ} → d ≤ e → (p : Place) → Inside d p → Ins
 inside-more le (At place) h = omega arith
 inside-more le None h = tt
 
--- a refusal that a file of e bytes can cause, alone or with the limits: 1 to 20
-pub record ByFile (e : ℕ) (q : Refusal) : Type 0 where
+-- those that the stricter reading adds (02, item 7)
+abbrev pub added : Which → ℕ → Bool
+added ordinary n = false
+added stricter n = leb 31 n && leb n 33
+
+-- 1 to 20, and those
+abbrev pub Has : Which → ℕ → Type 0
+Has ordinary n = n ≤ 20
+Has stricter n = leb n 20 || added stricter n ≡ true
+
+has : (of : Which) (n : ℕ) → leb n 20 || added of n ≡ true → Has of n
+has ordinary n e = leb-true n 20 (only (leb n 20) e)
+  where
+    only : (b : Bool) → b || false ≡ true → b ≡ true
+    only true e = refl
+    only false e = e
+has stricter n e = e
+
+-- a refusal that a file of e bytes can cause, alone or with the limits
+pub record ByFile (of : Which) (e : ℕ) (q : Refusal) : Type 0 where
   pub from : 1 ≤ reported q .number
-  pub to : reported q .number ≤ 20
+  pub to : Has of (reported q .number)
   pub place : Inside e (reported q .place)
 
-listed : {e : ℕ} (q : Refusal) → leb 1 (reported q .number) ≡ true → leb (reported q .number) 20 ≡ true → Inside e (reported q .place) → ByFile e q
-listed q f g h = record { from = leb-true 1 (reported q .number) f; to = leb-true (reported q .number) 20 g; place = h }
+listed : {of : Which} {e : ℕ} (q : Refusal) → leb 1 (reported q .number) ≡ true → leb (reported q .number) 20 || added of (reported q .number) ≡ true → Inside e (reported q .place) → ByFile of e q
+listed {of} q f g h = record { from = leb-true 1 (reported q .number) f; to = has of (reported q .number) g; place = h }
 
-by-longer : {d e : ℕ} {q : Refusal} → d ≤ e → ByFile d q → ByFile e q
+by-longer : {of : Which} {d e : ℕ} {q : Refusal} → d ≤ e → ByFile of d q → ByFile of e q
 by-longer {q} le is = record { from = is .from; to = is .to; place = inside-more le (reported q .place) (is .place) }
 
 -- the place where a refusal's reader began
@@ -76,8 +95,8 @@ pub own : {n : ℕ} → n ≤ n
 own = omega arith
 
 -- what is given, where t stands behind the bytes, which end at e
-pub record StillRefused {A : Type 0} (e : ℕ) (q : Refusal) (o : Read A) : Type 0 where
-  pub by-file : ByFile e q
+pub record StillRefused {A : Type 0} (of : Which) (e : ℕ) (q : Refusal) (o : Read A) : Type 0 where
+  pub by-file : ByFile of e q
   pub stays : 2 < reported q .number → o ≡ refused q
 
 pub record Gives {A : Type 0} (at e : ℕ) (x : A) (to : ℕ) (rest : Bytes) (o : Read A) (t : Bytes) : Type 0 where
@@ -85,9 +104,9 @@ pub record Gives {A : Type 0} (at e : ℕ) (x : A) (to : ℕ) (rest : Bytes) (o 
   pub forward : at ≤ to
   pub end : to + length rest ≡ e
 
-abbrev Same : {A : Type 0} → ℕ → ℕ → Read A → Read A → Bytes → Type 0
-Same at e (ok x to rest) o t = Gives at e x to rest o t
-Same at e (refused q) o t = StillRefused e q o
+abbrev Same : {A : Type 0} → Which → ℕ → ℕ → Read A → Read A → Bytes → Type 0
+Same of at e (ok x to rest) o t = Gives at e x to rest o t
+Same of at e (refused q) o t = StillRefused of e q o
 
 -- behind a place, or refused for another reason
 abbrev pub Past : {A : Type 0} → ℕ → Read A → Type 0
@@ -101,36 +120,36 @@ pub record Lack {A : Type 0} (r : Reader A) (at : ℕ) (s : Bytes) (place : ℕ)
   pub still : (t : Bytes) → at + length (s ++ t) < place + wanted → r at (s ++ t) ≡ refused (Truncated place)
   pub enough : (t : Bytes) → place + wanted ≤ at + length (s ++ t) → Past place (r at (s ++ t))
 
-pub record Steady {A : Type 0} (low : ℕ) (r : Reader A) : Type 0 where
-  pub more : (at : ℕ) (s t : Bytes) → low ≤ at → Same at (at + length s) (r at s) (r at (s ++ t)) t
+pub record Steady {A : Type 0} (of : Which) (low : ℕ) (r : Reader A) : Type 0 where
+  pub more : (at : ℕ) (s t : Bytes) → low ≤ at → Same of at (at + length s) (r at s) (r at (s ++ t)) t
   pub lacks : (at : ℕ) (s : Bytes) (place : ℕ) → low ≤ at → r at s ≡ refused (Truncated place) → Lack r at s place
   pub overflows : (at : ℕ) (s : Bytes) → low ≤ at → r at s ≡ refused Overflow → 128 < at + length s
 
--- a refusal for what is there, with a place that is at most e: 3 to 20
-pub record Tested (e : ℕ) (q : Refusal) : Type 0 where
-  pub by-file : ByFile e q
+-- a refusal for what is there, with a place that is at most e: 3 to 20, and 31 to 33
+pub record Tested (of : Which) (e : ℕ) (q : Refusal) : Type 0 where
+  pub by-file : ByFile of e q
   pub there : 3 ≤ reported q .number
 
-pub tested : {e : ℕ} (q : Refusal) → leb 3 (reported q .number) ≡ true → leb (reported q .number) 20 ≡ true → Inside e (reported q .place) → Tested e q
-tested q f g h =
+pub tested : {of : Which} {e : ℕ} (q : Refusal) → leb 3 (reported q .number) ≡ true → leb (reported q .number) 20 || added of (reported q .number) ≡ true → Inside e (reported q .place) → Tested of e q
+tested {of} q f g h =
     let low : 3 ≤ reported q .number = leb-true 3 (reported q .number) f in
-    record { by-file = record { from = omega arith; to = leb-true (reported q .number) 20 g; place = h }; there = low }
+    record { by-file = record { from = omega arith; to = has of (reported q .number) g; place = h }; there = low }
 
 other : {A P : Type 0} {x : A} {to : ℕ} {rest : Bytes} {q : Refusal} → ok x to rest ≡ refused q → P
 other e = absurd (let z : _≡_ {A = ℕ} 0 1 = cc in omega arith)
 
-pub steady-give : {A : Type 0} {low : ℕ} (x : A) → Steady low (give x)
+pub steady-give : {of : Which} {A : Type 0} {low : ℕ} (x : A) → Steady of low (give x)
 steady-give x = record { more = λ at s t h. record { same = refl; forward = own; end = refl }; lacks = λ at s place h e. other e; overflows = λ at s h e. other e }
 
 -- what follows may keep the place for a refusal
-pub steady-here : {B : Type 0} {low : ℕ} {f : ℕ → Reader B} → ((place : ℕ) → Steady place (f place)) → Steady low (here >>= f)
+pub steady-here : {of : Which} {B : Type 0} {low : ℕ} {f : ℕ → Reader B} → ((place : ℕ) → Steady of place (f place)) → Steady of low (here >>= f)
 steady-here two = record {
   more = λ at s t h. two at .more at s t own;
   lacks = λ at s place h e. (let l = two at .lacks at s place own e in record { from = l .from; wanted = l .wanted; fewer = l .fewer; still = l .still; enough = l .enough });
   overflows = λ at s h e. two at .overflows at s own e;
 }
 
-steady-refuse : {A : Type 0} {low : ℕ} (q : Refusal) → Tested low q → Steady {A = A} low (refuse q)
+pub steady-refuse : {of : Which} {A : Type 0} {low : ℕ} (q : Refusal) → Tested of low q → Steady {A = A} of low (refuse q)
 steady-refuse {A} {low} q is = record {
   more = λ at s t h. let le : low ≤ at + length s = omega arith in record { by-file = by-longer le (is .by-file); stays = λ k. refl };
   lacks = λ at s place h e. (let same : q ≡ Truncated place = cc in let n : reported q .number ≡ 1 = ap (λ q. reported q .number) same in let k = is .there in absurd (omega arith));
@@ -138,19 +157,19 @@ steady-refuse {A} {low} q is = record {
 }
 
 -- behind a value of which something is known
-steady-known : {A B : Type 0} {low : ℕ} {r : Reader A} {f : A → Reader B} (Known : A → Type 0) → Steady low r → ((at : ℕ) (s : Bytes) (x : A) (to : ℕ) (rest : Bytes) → r at s ≡ ok x to rest → Known x)
-    → ((x : A) → Known x → Steady low (f x)) → Steady low (r >>= f)
-steady-known {A} {B} {low} {r} {f} Known one known two = record {
+pub steady-known : {of : Which} {A B : Type 0} {low : ℕ} {r : Reader A} {f : A → Reader B} (Known : A → Type 0) → Steady of low r → ((at : ℕ) (s : Bytes) (x : A) (to : ℕ) (rest : Bytes) → r at s ≡ ok x to rest → Known x)
+    → ((x : A) → Known x → Steady of low (f x)) → Steady of low (r >>= f)
+steady-known {of} {A} {B} {low} {r} {f} Known one known two = record {
   more = λ at s t h. go at (at + length s) s (r at s) refl (r at (s ++ t)) t h (one .more at s t h);
   lacks = λ at s place h e. short at s place h (r at s) refl e;
   overflows = λ at s h e. long at s h (r at s) refl e;
 }
   where
-    behind : (at mid e : ℕ) (o p : Read B) (t : Bytes) → at ≤ mid → Same mid e o p t → Same at e o p t
+    behind : (at mid e : ℕ) (o p : Read B) (t : Bytes) → at ≤ mid → Same of mid e o p t → Same of at e o p t
     behind at mid e (ok x to rest) p t le g = record { same = g .same; forward = let f = g .forward in omega arith; end = g .end }
     behind at mid e (refused q) p t le g = g
 
-    go : (at e : ℕ) (s : Bytes) (o : Read A) → r at s ≡ o → (p : Read A) (t : Bytes) → low ≤ at → Same at e o p t → Same at e (next o f) (next p f) t
+    go : (at e : ℕ) (s : Bytes) (o : Read A) → r at s ≡ o → (p : Read A) (t : Bytes) → low ≤ at → Same of at e o p t → Same of at e (next o f) (next p f) t
     go at e s (ok x mid rest) is p t h g =
         let le = g .forward in
         let on = two x (known at s x mid rest is) .more mid rest t (omega arith) in
@@ -158,20 +177,20 @@ steady-known {A} {B} {low} {r} {f} Known one known two = record {
     go at e s (refused q) is p t h g = record { by-file = g .by-file; stays = λ k. ap (λ o. next o f) (g .stays k) }
 
     -- it goes on from behind the place
-    beyond : (x : A) → Steady low (f x) → (place mid : ℕ) (u : Bytes) → low ≤ mid → place < mid → (o : Read B) → f x mid u ≡ o → Past place o
-    beyond x on place mid u h k (ok y to rest) is = let g : Same mid (mid + length u) (ok y to rest) (f x mid (u ++ [])) [] = rw is at (on .more mid u [] h) in let le = g .forward in omega arith
+    beyond : (x : A) → Steady of low (f x) → (place mid : ℕ) (u : Bytes) → low ≤ mid → place < mid → (o : Read B) → f x mid u ≡ o → Past place o
+    beyond x on place mid u h k (ok y to rest) is = let g : Same of mid (mid + length u) (ok y to rest) (f x mid (u ++ [])) [] = rw is at (on .more mid u [] h) in let le = g .forward in omega arith
     beyond x on place mid u h k (refused q) is = λ e. let l = on .lacks mid u place h (is ∙ ap refused e) in let le = l .from in omega arith
 
     past : (at place : ℕ) (s : Bytes) → low ≤ at → (o : Read A) → r at s ≡ o → Past place o → Past place (next o f)
     past at place s h (ok x mid u) is k =
-        let g : Same at (at + length s) (ok x mid u) (r at (s ++ [])) [] = rw is at (one .more at s [] h) in
+        let g : Same of at (at + length s) (ok x mid u) (r at (s ++ [])) [] = rw is at (one .more at s [] h) in
         let le = g .forward in
         beyond x (two x (known at s x mid u is)) place mid u (omega arith) k (f x mid u) refl
     past at place s h (refused q) is k = k
 
     short : (at : ℕ) (s : Bytes) (place : ℕ) → low ≤ at → (o : Read A) → r at s ≡ o → next o f ≡ refused (Truncated place) → Lack (r >>= f) at s place
     short at s place h (ok x mid rest) is e =
-        let g : (t : Bytes) → Same at (at + length s) (ok x mid rest) (r at (s ++ t)) t = λ t. (let all = one .more at s t h in rw is at all) in
+        let g : (t : Bytes) → Same of at (at + length s) (ok x mid rest) (r at (s ++ t)) t = λ t. (let all = one .more at s t h in rw is at all) in
         let le = g [] .forward in
         let end = g [] .end in
         let l = two x (known at s x mid rest is) .lacks mid rest place (omega arith) e in
@@ -190,29 +209,29 @@ steady-known {A} {B} {low} {r} {f} Known one known two = record {
 
     long : (at : ℕ) (s : Bytes) → low ≤ at → (o : Read A) → r at s ≡ o → next o f ≡ refused Overflow → 128 < at + length s
     long at s h (ok x mid rest) is e =
-        let g : Same at (at + length s) (ok x mid rest) (r at (s ++ [])) [] = rw is at (one .more at s [] h) in
+        let g : Same of at (at + length s) (ok x mid rest) (r at (s ++ [])) [] = rw is at (one .more at s [] h) in
         let le = g .forward in
         let end = g .end in
         let l = two x (known at s x mid rest is) .overflows mid rest (omega arith) e in
         omega arith
     long at s h (refused q) is e = one .overflows at s h (is ∙ (let same : q ≡ Overflow = cc in ap refused same))
 
-pub steady-then : {A B : Type 0} {low : ℕ} {r : Reader A} {f : A → Reader B} → Steady low r → ((x : A) → Steady low (f x)) → Steady low (r >>= f)
+pub steady-then : {of : Which} {A B : Type 0} {low : ℕ} {r : Reader A} {f : A → Reader B} → Steady of low r → ((x : A) → Steady of low (f x)) → Steady of low (r >>= f)
 steady-then one two = steady-known (λ x. Unit {0}) one (λ at s x to rest e. tt) (λ x _. two x)
 
-steady-pick : {A : Type 0} {low : ℕ} {r s : Reader A} (b : Bool) → Steady low r → Steady low s → Steady low (cond b r s)
+pub steady-pick : {of : Which} {A : Type 0} {low : ℕ} {r s : Reader A} (b : Bool) → Steady of low r → Steady of low s → Steady of low (cond b r s)
 steady-pick true one two = one
 steady-pick false one two = two
 
-steady-test : {low : ℕ} (b : Bool) (q : Refusal) → Tested low q → Steady low (test b q)
+pub steady-test : {of : Which} {low : ℕ} (b : Bool) (q : Refusal) → Tested of low q → Steady of low (test b q)
 steady-test true q is = steady-give tt
 steady-test false q is = steady-refuse q is
 
-pub steady-atMost : {low : ℕ} (n m : ℕ) (q : Refusal) → Tested low q → Steady low (atMost n m q)
+pub steady-atMost : {of : Which} {low : ℕ} (n m : ℕ) (q : Refusal) → Tested of low q → Steady of low (atMost n m q)
 steady-atMost n m q is = steady-test (leb n m) q is
 
 -- bytes are missing
-missing : {A : Type 0} {e : ℕ} (b : Bool) (at : ℕ) (o : Read A) → at ≤ e → StillRefused e (cond b (Truncated at) Overflow) o
+missing : {of : Which} {A : Type 0} {e : ℕ} (b : Bool) (at : ℕ) (o : Read A) → at ≤ e → StillRefused of e (cond b (Truncated at) Overflow) o
 missing true at o h = record { by-file = listed (Truncated at) refl refl h; stays = λ k. absurd (omega arith) }
 missing false at o h = record { by-file = listed Overflow refl refl tt; stays = λ k. absurd (omega arith) }
 
@@ -226,8 +245,8 @@ short-there : (b : Bool) (at place : ℕ) → cond b (Truncated at) Overflow ≡
 short-there true at place e = cc
 short-there false at place e = absurd (let z : _≡_ {A = ℕ} 0 1 = cc in omega arith)
 
-pub steady-run : {low : ℕ} (n : ℕ) → n < 2 ^ 64 - 128 → Steady low (run n)
-steady-run n few = record { more = λ at s t h. go at s t (leb n (length s)) refl; lacks = λ at s place h e. lack at s place (leb n (length s)) refl e; overflows = λ at s h e. far at s (leb n (length s)) e }
+pub steady-run : {of : Which} {low : ℕ} (n : ℕ) → n < 2 ^ 64 - 128 → Steady of low (run n)
+steady-run {of} n few = record { more = λ at s t h. go at s t (leb n (length s)) refl; lacks = λ at s place h e. lack at s place (leb n (length s)) refl e; overflows = λ at s h e. far at s (leb n (length s)) e }
   where
     far : (at : ℕ) (s : Bytes) (b : Bool) → piece b n at s ≡ refused Overflow → 128 < at + length s
     far at s true e = other e
@@ -236,7 +255,7 @@ steady-run n few = record { more = λ at s t h. go at s t (leb n (length s)) ref
     all-there : (at : ℕ) (s t : Bytes) → n ≤ length (s ++ t) → run n at (s ++ t) ≡ ok (take n (s ++ t)) (at + n) (drop n (s ++ t))
     all-there at s t k = rw (le-leb n (length (s ++ t)) k)
 
-    go : (at : ℕ) (s t : Bytes) (b : Bool) → leb n (length s) ≡ b → Same at (at + length s) (piece b n at s) (run n at (s ++ t)) t
+    go : (at : ℕ) (s t : Bytes) (b : Bool) → leb n (length s) ≡ b → Same of at (at + length s) (piece b n at s) (run n at (s ++ t)) t
     go at s t true e =
         let h : n ≤ length s = leb-true n (length s) e in
         let k : n ≤ length (s ++ t) = omega (arith, length-append s t) in
@@ -250,27 +269,27 @@ steady-run n few = record { more = λ at s t h. go at s t (leb n (length s)) ref
         let few : length s < n = leb-false n (length s) is in
         record { from = omega arith; wanted = n; fewer = omega arith; still = λ t k. (let less : length (s ++ t) < n = omega arith in rw (lt-leb n (length (s ++ t)) less) e); enough = λ t k. (let there : n ≤ length (s ++ t) = omega arith in let on : place < at + n = omega arith in rw (all-there at s t there) on) }
 
-pub steady-many : {A : Type 0} {low : ℕ} {r : Reader A} (n : ℕ) → Steady low r → Steady low (many n r)
+pub steady-many : {of : Which} {A : Type 0} {low : ℕ} {r : Reader A} (n : ℕ) → Steady of low r → Steady of low (many n r)
 steady-many zero one = steady-give []
 steady-many (suc n) one = steady-then one λ x. steady-then (steady-many n one) λ xs. steady-give _
 
 -- ## Fields
-pub steady-field : {low : ℕ} (n : ℕ) → ltb n (2 ^ 64 - 128) ≡ true → Steady low (field n)
+pub steady-field : {of : Which} {low : ℕ} (n : ℕ) → ltb n (2 ^ 64 - 128) ≡ true → Steady of low (field n)
 steady-field n few = steady-then (steady-run n (ltb-true n (2 ^ 64 - 128) few)) λ bytes. steady-give _
 
-steady-groups : (high at : ℕ) (s t : Bytes) → Same at (at + length s) (groups high at s) (groups high at (s ++ t)) t
-steady-groups high at [] t = missing (ltb (at + 1) (2 ^ 64)) at _ (omega arith)
-steady-groups high at (x ∷ s) t = go (ltb high (2 ^ 57 - 1)) (ltb x 128) (groups (high * 128 + x) (at + 1) s) (groups (high * 128 + x) (at + 1) (s ++ t)) (steady-groups (high * 128 + x) (at + 1) s t)
+steady-groups : (of : Which) (high at : ℕ) (s t : Bytes) → Same of at (at + length s) (groups high at s) (groups high at (s ++ t)) t
+steady-groups of high at [] t = missing (ltb (at + 1) (2 ^ 64)) at _ (omega arith)
+steady-groups of high at (x ∷ s) t = go (ltb high (2 ^ 57 - 1)) (ltb x 128) (groups (high * 128 + x) (at + 1) s) (groups (high * 128 + x) (at + 1) (s ++ t)) (steady-groups of (high * 128 + x) (at + 1) s t)
   where
     end : at + 1 + length s ≡ at + suc (length s)
     end = omega arith
 
-    first : (o p : Read ℕ) → Same (at + 1) (at + 1 + length s) o p t → Same at (at + suc (length s)) o p t
+    first : (o p : Read ℕ) → Same of (at + 1) (at + 1 + length s) o p t → Same of at (at + suc (length s)) o p t
     first (ok y to rest) p g = record { same = g .same; forward = let f = g .forward in omega arith; end = g .end ∙ end }
     first (refused q) p g = rw end at g
 
-    go : (fits low : Bool) (o p : Read ℕ) → Same (at + 1) (at + 1 + length s) o p t
-        → Same at (at + suc (length s)) (cond fits (cond low o (ok (high * 128 + x % 128) (at + 1) s)) (refused VarintOverflow)) (cond fits (cond low p (ok (high * 128 + x % 128) (at + 1) (s ++ t))) (refused VarintOverflow)) t
+    go : (fits low : Bool) (o p : Read ℕ) → Same of (at + 1) (at + 1 + length s) o p t
+        → Same of at (at + suc (length s)) (cond fits (cond low o (ok (high * 128 + x % 128) (at + 1) s)) (refused VarintOverflow)) (cond fits (cond low p (ok (high * 128 + x % 128) (at + 1) (s ++ t))) (refused VarintOverflow)) t
     go true true o p on = first o p on
     go true false o p on = record { same = refl; forward = omega arith; end = end }
     go false low o p on = record { by-file = listed VarintOverflow refl refl tt; stays = λ h. refl }
@@ -340,29 +359,29 @@ far-groups high at (x ∷ s) e = go (ltb high (2 ^ 57 - 1)) (ltb x 128) (λ e. f
     go true false rest e = other e
     go false low rest e = absurd (let z : _≡_ {A = ℕ} 0 1 = cc in omega arith)
 
-pub steady-number : {low : ℕ} → Steady low number
-steady-number = record { more = λ at s t h. steady-groups 0 at s t; lacks = λ at s place h e. lack-groups 0 at s place e; overflows = λ at s h e. far-groups 0 at s e }
+pub steady-number : {of : Which} {low : ℕ} → Steady of low number
+steady-number {of} = record { more = λ at s t h. steady-groups of 0 at s t; lacks = λ at s place h e. lack-groups 0 at s place e; overflows = λ at s h e. far-groups 0 at s e }
 
 -- behind a number, which is below 2^64 − 128
-pub steady-numbered : {B : Type 0} {low : ℕ} {f : ℕ → Reader B} → ((n : ℕ) → n < 2 ^ 64 - 128 → Steady low (f n)) → Steady low (number >>= f)
+pub steady-numbered : {of : Which} {B : Type 0} {low : ℕ} {f : ℕ → Reader B} → ((n : ℕ) → n < 2 ^ 64 - 128 → Steady of low (f n)) → Steady of low (number >>= f)
 steady-numbered two = steady-known (λ n. n < 2 ^ 64 - 128) steady-number (λ at s n to rest e. exact-number .sound {at = at} {s = s} {x = n} {to = to} {rest = rest} e .spelt .fits) two
 
-steady-content : (limit first size : ℕ) → size < 2 ^ 64 - 128 → Steady first (content limit first size)
+steady-content : {of : Which} (limit first size : ℕ) → size < 2 ^ 64 - 128 → Steady of first (content limit first size)
 steady-content limit first zero few = steady-give _
 steady-content limit first (suc n) few =
     steady-then (steady-atMost n limit (StringBytes first) (tested (StringBytes first) refl refl own)) λ _. steady-here λ place. steady-then (steady-run n (omega arith)) λ bytes. steady-give _
 
-pub steady-string : {low : ℕ} (limit : ℕ) → Steady low (string limit)
+pub steady-string : {of : Which} {low : ℕ} (limit : ℕ) → Steady of low (string limit)
 steady-string limit = steady-here λ first. steady-numbered λ size few. steady-content limit first size few
 
 -- ## The header
-steady-expect : {low : ℕ} (bytes : Bytes) (refusal : ℕ → Refusal) → ltb (length bytes) (2 ^ 64 - 128) ≡ true → ((place : ℕ) → Tested place (refusal place)) → Steady low (expect bytes refusal)
+pub steady-expect : {of : Which} {low : ℕ} (bytes : Bytes) (refusal : ℕ → Refusal) → ltb (length bytes) (2 ^ 64 - 128) ≡ true → ((place : ℕ) → Tested of place (refusal place)) → Steady of low (expect bytes refusal)
 steady-expect bytes refusal few is = steady-here λ place. steady-then (steady-run (length bytes) (ltb-true (length bytes) (2 ^ 64 - 128) few)) λ b. steady-test (sameBytes b bytes) (refusal place) (is place)
 
-steady-before : {low : ℕ} → Steady low beforeFormat
+pub steady-before : {of : Which} {low : ℕ} → Steady of low beforeFormat
 steady-before = steady-then (steady-expect signature Signature refl λ place. tested (Signature place) refl refl own) λ _. steady-expect (0x54 ∷ []) Version refl λ place. tested (Version place) refl refl own
 
-steady-behind : {low : ℕ} → Steady low behindFormat
+pub steady-behind : {of : Which} {low : ℕ} → Steady of low behindFormat
 steady-behind =
     steady-then (steady-expect luacData LuacData refl λ place. tested (LuacData place) refl refl own) λ _.
     steady-then (steady-expect (4 ∷ []) InstructionSize refl λ place. tested (InstructionSize place) refl refl own) λ _.
@@ -371,15 +390,15 @@ steady-behind =
     steady-then (steady-expect luacInt LuacInt refl λ place. tested (LuacInt place) refl refl own) λ _.
     steady-expect luacNum LuacNum refl λ place. tested (LuacNum place) refl refl own
 
-steady-header : {low : ℕ} → Steady low header
+steady-header : {of : Which} {low : ℕ} → Steady of low header
 steady-header = steady-then steady-before λ _. steady-here λ place. steady-then (steady-field 1 refl) λ format. steady-then steady-behind λ _. steady-give _
 
 -- ## Lists and entries
 -- (an item may begin at any place)
-pub steady-counted : {low : ℕ} {A : Type 0} {r : Reader A} → ((low : ℕ) → Steady low r) → Steady low (counted r)
+pub steady-counted : {of : Which} {low : ℕ} {A : Type 0} {r : Reader A} → ((low : ℕ) → Steady of low r) → Steady of low (counted r)
 steady-counted one = steady-then steady-number λ n. steady-here λ place. steady-then (steady-many n (one place)) λ items. steady-give _
 
-pub steady-countedUpTo : {low : ℕ} {A : Type 0} {r : Reader A} (limit : ℕ) (refusal : ℕ → Refusal) → ((first : ℕ) → Tested first (refusal first)) → ((low : ℕ) → Steady low r) → Steady low (countedUpTo limit refusal r)
+pub steady-countedUpTo : {of : Which} {low : ℕ} {A : Type 0} {r : Reader A} (limit : ℕ) (refusal : ℕ → Refusal) → ((first : ℕ) → Tested of first (refusal first)) → ((low : ℕ) → Steady of low r) → Steady of low (countedUpTo limit refusal r)
 steady-countedUpTo limit refusal is one =
     steady-here λ first.
     steady-then steady-number λ n.
@@ -388,10 +407,10 @@ steady-countedUpTo limit refusal is one =
     steady-then (steady-many n (one place)) λ items.
     steady-give _
 
-steady-always : {low : ℕ} (limit : ℕ) (instead : Bytes) → Steady low (always limit instead)
+pub steady-always : {of : Which} {low : ℕ} (limit : ℕ) (instead : Bytes) → Steady of low (always limit instead)
 steady-always limit instead = steady-then (steady-string limit) λ t. steady-here λ place. steady-give _
 
-steady-tagged : (limit place tag : ℕ) → Steady place (tagged limit place tag)
+steady-tagged : {of : Which} (limit place tag : ℕ) → Steady of place (tagged limit place tag)
 steady-tagged limit place tag =
     steady-pick (eqb tag 0) (steady-give _)
     (steady-pick (eqb tag 1) (steady-give _)
@@ -402,24 +421,24 @@ steady-tagged limit place tag =
     (steady-pick (eqb tag 20) (steady-then (steady-always limit []) λ t. steady-give _)
     (steady-refuse (ConstantTag place) (tested (ConstantTag place) refl refl own))))))))
 
-pub steady-constant : {low : ℕ} (limit : ℕ) → Steady low (constant limit)
+pub steady-constant : {of : Which} {low : ℕ} (limit : ℕ) → Steady of low (constant limit)
 steady-constant limit = steady-here λ place. steady-then (steady-field 1 refl) λ tag. steady-tagged limit place tag
 
-pub steady-upvalue : {low : ℕ} → Steady low upvalue
+pub steady-upvalue : {of : Which} {low : ℕ} → Steady of low upvalue
 steady-upvalue = steady-then (steady-field 1 refl) λ instack. steady-then (steady-field 1 refl) λ idx. steady-then (steady-field 1 refl) λ kind. steady-give _
 
-pub steady-anchor : {low : ℕ} → Steady low anchor
+pub steady-anchor : {of : Which} {low : ℕ} → Steady of low anchor
 steady-anchor = steady-then steady-number λ pc. steady-then steady-number λ line. steady-give _
 
-pub steady-local : {low : ℕ} (limit : ℕ) → Steady low (local limit)
+pub steady-local : {of : Which} {low : ℕ} (limit : ℕ) → Steady of low (local limit)
 steady-local limit = steady-then (steady-always limit (63 ∷ [])) λ name. steady-then steady-number λ startpc. steady-then steady-number λ endpc. steady-give _
 
 -- ## Functions
-steady-forest : {low : ℕ} (n : ℕ) {r : Where → Reader (List Prototype)} (w : Where) → ((low : ℕ) (w : Where) → Steady low (r w)) → Steady low (forest n r w)
+pub steady-forest : {of : Which} {low : ℕ} (n : ℕ) {r : Where → Reader (List Prototype)} (w : Where) → ((low : ℕ) (w : Where) → Steady of low (r w)) → Steady of low (forest n r w)
 steady-forest zero w one = steady-give []
 steady-forest {low} (suc n) w one = steady-then (one low w) λ ps. steady-then (steady-forest n (after ps w) one) λ more. steady-give (ps ++ more)
 
-steady-body : {low : ℕ} (L : ResourceLimits) {r : Where → Reader (List Prototype)} → ((low : ℕ) (w : Where) → Steady low (r w)) → (w : Where) → Steady low (body L r w)
+steady-body : {of : Which} {low : ℕ} (L : ResourceLimits) {r : Where → Reader (List Prototype)} → ((low : ℕ) (w : Where) → Steady of low (r w)) → (w : Where) → Steady of low (body L r w)
 unfolding body
 steady-body L one w =
     steady-here λ start.
@@ -451,12 +470,12 @@ steady-body L one w =
     steady-here λ end.
     steady-give _
 
-steady-function : {low : ℕ} (L : ResourceLimits) (left : ℕ) (w : Where) → Steady low (function L left w)
+steady-function : {of : Which} {low : ℕ} (L : ResourceLimits) (left : ℕ) (w : Where) → Steady of low (function L left w)
 unfolding function
 steady-function L zero w = steady-body L (λ low w. steady-here λ place. steady-refuse (NestingDepth place) (tested (NestingDepth place) refl refl own)) w
 steady-function L (suc left) w =
     steady-body L (λ low w. steady-here λ place. steady-then (steady-atMost (w .number) (L .«max_total_prototypes») (TotalPrototypes place) (tested (TotalPrototypes place) refl refl own)) λ _. steady-function L left w) w
 
 -- ## Chunks
-pub steady-main : {low : ℕ} (L : ResourceLimits) → Steady low (main L)
+pub steady-main : {of : Which} {low : ℕ} (L : ResourceLimits) → Steady of low (main L)
 steady-main L = steady-then steady-header λ headed. steady-then (steady-field 1 refl) λ forgotten. steady-then (steady-function L (L .«max_nesting_depth») _) λ functions. steady-give _

@@ -45,3 +45,7 @@ pub mod Request05
 pub mod SameInFull
 pub mod Inherits
 pub mod Request06
+pub mod StrictInOrder
+pub mod StrictEarly
+pub mod StrictOrder
+pub mod Request07

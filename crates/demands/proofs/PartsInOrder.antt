@@ -18,6 +18,7 @@ use Rattle.format.proofs.ExactChunk.{exact-counted, exact-countedUpTo, exact-co
 use Rattle.read_entry.specs.Readers.{rawLocal, protosCount, code}
 use Rattle.read_prototype.specs.Front.{front}
 use Rattle.read_prototype.specs.Parts.{head, tail}
+use Rattle.demands.proofs.Causes.{ordinary}
 use Rattle.demands.proofs.InOrder.{
   Steady,
   tested,
@@ -47,14 +48,14 @@ module _ (L : ResourceLimits) where
   limit = L .«max_string_bytes»
 
   -- ## What stands behind changes nothing
-  steady-front : {low : ℕ} → Steady low (front limit)
+  steady-front : {low : ℕ} → Steady ordinary low (front limit)
   steady-front =
       steady-then (steady-string limit) λ source.
       steady-then (steady-then steady-number λ line. steady-then steady-number λ last. steady-give _) λ between.
       steady-then (steady-then (steady-field 1 refl) λ a. steady-then (steady-field 1 refl) λ b. steady-then (steady-field 1 refl) λ c. steady-give _) λ three.
       steady-give _
 
-  steady-code : {low : ℕ} (before : ℕ) → Steady low (code (L .«max_instructions_per_proto») before (L .«max_total_instructions»))
+  steady-code : {low : ℕ} (before : ℕ) → Steady ordinary low (code (L .«max_instructions_per_proto») before (L .«max_total_instructions»))
   steady-code before =
       steady-here λ first.
       steady-then steady-number λ size.
@@ -64,7 +65,7 @@ module _ (L : ResourceLimits) where
       steady-then (steady-many size (steady-field 4 refl)) λ words.
       steady-give _
 
-  steady-protosCount : {low : ℕ} → Steady low (protosCount (L .«max_total_prototypes»))
+  steady-protosCount : {low : ℕ} → Steady ordinary low (protosCount (L .«max_total_prototypes»))
   steady-protosCount =
       steady-here λ first.
       steady-then steady-number λ protos.
@@ -72,7 +73,7 @@ module _ (L : ResourceLimits) where
       steady-here λ place.
       steady-give _
 
-  steady-head : {low : ℕ} (before : ℕ) → Steady low (head L before)
+  steady-head : {low : ℕ} (before : ℕ) → Steady ordinary low (head L before)
   steady-head before =
       steady-then steady-front λ x.
       steady-then
@@ -83,7 +84,7 @@ module _ (L : ResourceLimits) where
       steady-then steady-protosCount λ protos.
       steady-give _
 
-  steady-tail : {low : ℕ} → Steady low (tail limit)
+  steady-tail : {low : ℕ} → Steady ordinary low (tail limit)
   steady-tail =
       steady-then (steady-numbered λ size few. steady-here λ place. steady-then (steady-run size few) λ deltas. steady-give _) λ line-info.
       steady-then (steady-counted λ low. steady-anchor) λ abs-line-info.
@@ -91,35 +92,35 @@ module _ (L : ResourceLimits) where
       steady-then (steady-counted λ low. steady-string limit) λ upvalue-names.
       steady-give _
 
-  steady-rawLocal : {low : ℕ} → Steady low (rawLocal limit)
+  steady-rawLocal : {low : ℕ} → Steady ordinary low (rawLocal limit)
   steady-rawLocal = steady-then (steady-string limit) λ name. steady-here λ behind. steady-then steady-number λ startpc. steady-then steady-number λ endpc. steady-give _
 
   -- ## The front that ends with the cause is refused so
   record Both {A : Type 0} (r : Reader A) : Type 1 where
     form : Form A
     exact : Exact r form
-    early : early.Early L r
+    early : early.Early ordinary L r
 
   both-give : {A : Type 0} (x : A) → Both (give x)
-  both-give x = record { form = Is x; exact = exact-give x; early = early.early-give L x }
+  both-give x = record { form = Is x; exact = exact-give x; early = early.early-give x }
 
   both-here : {B : Type 0} {f : ℕ → Reader B} → ((place : ℕ) → Both (f place)) → Both (here >>= f)
-  both-here two = record { form = Then Here (λ place. two place .form); exact = exact-then exact-here (λ place. two place .exact); early = early.early-here L (λ place. two place .early) }
+  both-here two = record { form = Then Here (λ place. two place .form); exact = exact-then exact-here (λ place. two place .exact); early = early.early-here (λ place. two place .early) }
 
   both-then : {A B : Type 0} {r : Reader A} {f : A → Reader B} → Both r → ((x : A) → Both (f x)) → Both (r >>= f)
-  both-then one two = record { form = Then (one .form) (λ x. two x .form); exact = exact-then (one .exact) (λ x. two x .exact); early = early.early-then L (one .exact) (one .early) (λ x. two x .early) }
+  both-then one two = record { form = Then (one .form) (λ x. two x .form); exact = exact-then (one .exact) (λ x. two x .exact); early = early.early-then (one .exact) (one .early) (λ x. two x .early) }
 
-  both-of : {A : Type 0} {r : Reader A} {F : Form A} → Exact r F → early.Early L r → Both r
+  both-of : {A : Type 0} {r : Reader A} {F : Form A} → Exact r F → early.Early ordinary L r → Both r
   both-of {F} exact early = record { form = F; exact = exact; early = early }
 
   both-number : Both fields.number
-  both-number = both-of exact-number (early.early-number L)
+  both-number = both-of exact-number (early.early-number)
 
   both-byte : Both (fields.field 1)
-  both-byte = both-of (exact-field 1) (early.early-field L 1)
+  both-byte = both-of (exact-field 1) (early.early-field 1)
 
   both-string : Both (fields.string limit)
-  both-string = both-of (exact-string limit) (early.early-string L)
+  both-string = both-of (exact-string limit) (early.early-string)
 
   both-front : Both (front limit)
   both-front =
@@ -134,33 +135,33 @@ module _ (L : ResourceLimits) where
       exact-then (exact-atMost size (L .«max_instructions_per_proto») (q.Instructions first)) λ _.
       exact-then (exact-atMost (before + size) (L .«max_total_instructions») (q.TotalInstructions first)) λ _.
       exact-then exact-here λ place. exact-then (exact-many size (exact-field 4)) λ words. exact-give _)
-      (early.early-numbered L _ λ first size bytes d. early.soon-counts L _ first size before bytes d (early.soon-early L (
-      early.early-here L λ place. early.early-then L (exact-many size (exact-field 4)) (early.early-many L size (exact-field 4) (early.early-field L 4)) λ words. early.early-give L _)))
+      (early.early-numbered _ λ first size bytes d. early.soon-counts _ first size before bytes d tt (early.soon-early (
+      early.early-here λ place. early.early-then (exact-many size (exact-field 4)) (early.early-many size (exact-field 4) (early.early-field 4)) λ words. early.early-give _)))
 
   both-protosCount : Both (protosCount (L .«max_total_prototypes»))
   both-protosCount = both-of
       (exact-then exact-here λ first. exact-then exact-number λ protos. exact-then (exact-atMost protos (L .«max_total_prototypes») (q.Prototypes first)) λ _. exact-then exact-here λ place. exact-give _)
-      (early.early-numbered L _ λ first protos bytes d.
-      early.soon-test L _ (leb protos (L .«max_total_prototypes»)) (q.Prototypes first) (λ k. early.read-number L first protos bytes d (leb-false protos (L .«max_total_prototypes») k)) (early.soon-early L (
-      early.early-here L λ place. early.early-give L _)))
+      (early.early-numbered _ λ first protos bytes d.
+      early.soon-test _ (leb protos (L .«max_total_prototypes»)) (q.Prototypes first) (λ k. early.read-number first protos bytes d (leb-false protos (L .«max_total_prototypes») k)) (early.soon-early (
+      early.early-here λ place. early.early-give _)))
 
   both-head : (before : ℕ) → Both (head L before)
   both-head before =
       both-then both-front λ x.
       both-then
       (both-then (both-code before) λ instructions.
-      both-then (both-of (exact-countedUpTo (L .«max_constants_per_proto») q.Constants (exact-constant limit)) (early.early-countedUpTo L (L .«max_constants_per_proto») q.Constants (λ place. refl) (exact-constant limit) (early.early-constant L))) λ constants.
-      both-then (both-of (exact-countedUpTo (L .«max_upvalues_per_proto») q.Upvalues exact-upvalue) (early.early-countedUpTo L (L .«max_upvalues_per_proto») q.Upvalues (λ place. refl) exact-upvalue (early.early-upvalue L))) λ upvalues.
+      both-then (both-of (exact-countedUpTo (L .«max_constants_per_proto») q.Constants (exact-constant limit)) (early.early-countedUpTo (L .«max_constants_per_proto») q.Constants (λ place. refl) (exact-constant limit) (early.early-constant))) λ constants.
+      both-then (both-of (exact-countedUpTo (L .«max_upvalues_per_proto») q.Upvalues exact-upvalue) (early.early-countedUpTo (L .«max_upvalues_per_proto») q.Upvalues (λ place. refl) exact-upvalue (early.early-upvalue))) λ upvalues.
       both-give _) λ lists.
       both-then both-protosCount λ protos.
       both-give _
 
   both-tail : Both (tail limit)
   both-tail =
-      both-then (both-then both-number λ size. both-here λ place. both-then (both-of (exact-run size) (early.early-run L size)) λ deltas. both-give _) λ line-info.
-      both-then (both-of (exact-counted exact-anchor) (early.early-counted L exact-anchor (early.early-anchor L))) λ abs-line-info.
-      both-then (both-of (exact-counted (exact-local limit)) (early.early-counted L (exact-local limit) (early.early-local L))) λ loc-vars.
-      both-then (both-of (exact-counted (exact-string limit)) (early.early-counted L (exact-string limit) (early.early-string L))) λ upvalue-names.
+      both-then (both-then both-number λ size. both-here λ place. both-then (both-of (exact-run size) (early.early-run size)) λ deltas. both-give _) λ line-info.
+      both-then (both-of (exact-counted exact-anchor) (early.early-counted exact-anchor (early.early-anchor))) λ abs-line-info.
+      both-then (both-of (exact-counted (exact-local limit)) (early.early-counted (exact-local limit) (early.early-local))) λ loc-vars.
+      both-then (both-of (exact-counted (exact-string limit)) (early.early-counted (exact-string limit) (early.early-string))) λ upvalue-names.
       both-give _
 
   both-rawLocal : Both (rawLocal limit)
@@ -175,22 +176,22 @@ module _ (L : ResourceLimits) where
     tail-decided = decided L (tail limit) steady-tail (both-tail .early) place s p
 
     pub word-decided : fields.field 4 place s ≡ refused p → Decided L (fields.field 4) place s p
-    word-decided = decided L (fields.field 4) (steady-field 4 refl) (early.early-field L 4) place s p
+    word-decided = decided L (fields.field 4) (steady-field 4 refl) (early.early-field 4) place s p
 
     pub constant-decided : chunk.constant limit place s ≡ refused p → Decided L (chunk.constant limit) place s p
-    constant-decided = decided L (chunk.constant limit) (steady-constant limit) (early.early-constant L) place s p
+    constant-decided = decided L (chunk.constant limit) (steady-constant limit) (early.early-constant) place s p
 
     pub upvalue-decided : chunk.upvalue place s ≡ refused p → Decided L chunk.upvalue place s p
-    upvalue-decided = decided L chunk.upvalue steady-upvalue (early.early-upvalue L) place s p
+    upvalue-decided = decided L chunk.upvalue steady-upvalue (early.early-upvalue) place s p
 
     pub delta-decided : fields.field 1 place s ≡ refused p → Decided L (fields.field 1) place s p
-    delta-decided = decided L (fields.field 1) (steady-field 1 refl) (early.early-field L 1) place s p
+    delta-decided = decided L (fields.field 1) (steady-field 1 refl) (early.early-field 1) place s p
 
     pub anchor-decided : chunk.anchor place s ≡ refused p → Decided L chunk.anchor place s p
-    anchor-decided = decided L chunk.anchor steady-anchor (early.early-anchor L) place s p
+    anchor-decided = decided L chunk.anchor steady-anchor (early.early-anchor) place s p
 
     pub local-decided : rawLocal limit place s ≡ refused p → Decided L (rawLocal limit) place s p
     local-decided = decided L (rawLocal limit) steady-rawLocal (both-rawLocal .early) place s p
 
     pub string-decided : fields.string limit place s ≡ refused p → Decided L (fields.string limit) place s p
-    string-decided = decided L (fields.string limit) (steady-string limit) (early.early-string L) place s p
+    string-decided = decided L (fields.string limit) (steady-string limit) (early.early-string) place s p

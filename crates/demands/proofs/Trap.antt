@@ -67,7 +67,7 @@ module _ {A : Type 0} (limit : ℕ) (refusal : ℕ → Refusal) (r : Reader A) (
 pub in-order : (L : ResourceLimits) → InByteOrder L (countedUpTo (L .«max_constants_per_proto») q.Constants byte)
 in-order L s p e =
     let limit = L .«max_constants_per_proto» in
-    decided L (countedUpTo limit q.Constants byte) (steady-countedUpTo limit q.Constants (λ first. tested (q.Constants first) refl refl own) λ low. steady-field 1 refl) (early-countedUpTo L limit q.Constants (λ place. refl) (exact-field 1) (early-field L 1)) 0 s p e
+    decided L (countedUpTo limit q.Constants byte) (steady-countedUpTo limit q.Constants (λ first. tested (q.Constants first) refl refl own) λ low. steady-field 1 refl) (early-countedUpTo limit q.Constants (λ place. refl) (exact-field 1) (early-field 1)) 0 s p e
 
 -- ## The wrong one is not, whatever the limits: with a limit of 0 for the constants the two differ in the order alone
 -- a list of one item, under a limit of 0

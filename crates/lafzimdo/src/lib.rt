@@ -6,6 +6,7 @@ pub mod full;
 pub mod function;
 pub mod part;
 pub mod space;
+pub mod stricter;
 pub mod summary;
 pub mod version;
 pub mod whole;

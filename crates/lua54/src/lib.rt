@@ -13,7 +13,7 @@ pub use format_report::report_refusal;
 pub use format_report::report_warning;
 pub use read_header::OptionWarning;
 
-// The summary of a chunk; its bytes.
+// The summary of a chunk, and of one that Lua's own loader takes; its bytes.
 pub use read_chunk::summary::Summary;
 pub use read_chunk::summary::Warnings;
 pub use read_field::string::OptionString;
@@ -23,6 +23,7 @@ pub use show_chunk::bytes::trailing_bytes;
 pub use show_chunk::summary::ChunkSummary;
 pub use show_chunk::summary::SummaryAnswer;
 pub use show_chunk::summary::chunk_summary;
+pub use strict::strict_summary;
 
 // A function's fields and entries, by number; the index of all.
 pub use format::entry::AbsLineInfo;
