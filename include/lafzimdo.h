@@ -26,12 +26,13 @@ extern "C" {
 #define LAFZIMDO_VERSION (LAFZIMDO_VERSION_MAJOR * 1000000 + LAFZIMDO_VERSION_MINOR * 1000 + LAFZIMDO_VERSION_PATCH)
 #define LAFZIMDO_VERSION_TEXT "0.1.0"
 
-/* Of a refusal: its number, 1 to 30; whether it has a place; the place. (A place of 2^32 or more is left out: only a part asked for at such a place can have one.) */
+/* Of a refusal: its number, 1 to 33; whether it has a place; the place. (A place of 2^32 or more is left out: only a part asked for at such a place can have one.) */
 #define LAFZIMDO_NUMBER(r) ((unsigned)((r) & 255))
 #define LAFZIMDO_HAS_PLACE(r) (((r) >> 8) != 0)
 #define LAFZIMDO_PLACE(r) (((r) >> 8) - 1)
 
-/* The refusals, by their numbers (docs/REFUSALS.md). The first group is caused by the file, the second by the file with the limits, the third by the caller. */
+/* The refusals, by their numbers (docs/REFUSALS.md). The first group is caused by the file, the second by the file with the limits, the third by the caller,
+ * the last by the file in the stricter reading (lafzimdo_strict_summary). */
 enum lafzimdo_refusal {
     LAFZIMDO_REFUSED_TRUNCATED = 1,
     LAFZIMDO_REFUSED_OVERFLOW = 2,
@@ -64,7 +65,11 @@ enum lafzimdo_refusal {
     LAFZIMDO_REFUSED_FIELD_RANGE = 27,
     LAFZIMDO_REFUSED_NO_OPCODE = 28,
     LAFZIMDO_REFUSED_ANCHOR_ORDER = 29,
-    LAFZIMDO_REFUSED_PC_ORDER = 30
+    LAFZIMDO_REFUSED_PC_ORDER = 30,
+
+    LAFZIMDO_REFUSED_FORMAT = 31,
+    LAFZIMDO_REFUSED_INT_OVERFLOW = 32,
+    LAFZIMDO_REFUSED_NULL_STRING = 33
 };
 
 /* The limits, in this order: input bytes, nesting depth, prototypes in all, instructions of a prototype, instructions in all, constants of a prototype,
@@ -295,6 +300,11 @@ uint64_t lafzimdo_version(void);
  * code and place of the first warning, code and place of the second (0: none, 1: L54-HEADER-003, 2: L54-CHUNK-001);
  * how many of the chunk's numbers, string sizes and counts among them, are padded: not in their shortest form */
 uint64_t lafzimdo_summary(const uint8_t *chunk, size_t len, const uint64_t limits[9], uint64_t out[LAFZIMDO_SUMMARY_NUMBERS]);
+
+/* Two passes. The stricter reading, as Lua's own loader (lundump.c) reads: where it accepts, what lafzimdo_summary gives. Refused besides: 31 a format byte other than 0; 32 a number of 2^31 - 128 or more where the
+ * loader reads an int, which is every number but a string's size; 33 a string constant of size 0. They come among 1 to 20 in the order of the bytes. A chunk that is read here is read by every call, with the same
+ * reading. Not objected to, as by the loader: more upvalue names than upvalues. */
+uint64_t lafzimdo_strict_summary(const uint8_t *chunk, size_t len, const uint64_t limits[9], uint64_t out[LAFZIMDO_SUMMARY_NUMBERS]);
 
 /* One pass. A function: depth, parent; whether there is a source, its place, its length; first line, last line; parameters, vararg, stack; how many instructions, constants,
  * upvalues, nested functions, deltas, anchors, locals, upvalue names */

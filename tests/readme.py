@@ -80,10 +80,12 @@ def commands(folder):
     at = sample.index(0x800007B8.to_bytes(4, "little"))
     damaged[at:at + 4] = 0xFFFFFFB8.to_bytes(4, "little")
     (where / "damaged.luac").write_bytes(damaged)
+    (where / "odd.luac").write_bytes(sample[:5] + b"\1" + sample[6:])
     typed = {line.split("#")[0].strip() for line in readme.splitlines() if line.startswith("    ") and "lafzimdo" in line}
     expected = {
         "lafzimdo check archive/*.luac": (1, "archive/a.luac: verdict valid-for-analysis findings 0 warnings 0\narchive/half.luac: refused 1 at "),
         "lafzimdo check damaged.luac": (4, "verdict invalid\nfindings 1\nwarnings 0\nerror in function 0 at pc 51 (recentre.lua:64, JMP 16777216): "),
+        "lafzimdo check --strict odd.luac": (1, ""),
         "find . -name '*.luac' -print0 | lafzimdo copy --into copies --files-from -": (1, ""),
         "lafzimdo list --json archive/*.luac | jq -r 'select(.refused) | .file'": (0, "archive/half.luac\n"),
     }
@@ -91,7 +93,7 @@ def commands(folder):
         assert command in typed, command
         if "jq" not in command or shutil.which("jq"):
             assert run("sh", "-c", command, status=status, cwd=where).startswith(begins), command
-    assert sorted(path.name for path in (where / "copies").iterdir()) == ["a.luac", "damaged.luac"]
+    assert sorted(path.name for path in (where / "copies").iterdir()) == ["a.luac", "damaged.luac", "odd.luac"]
     for command in re.findall(r"^    lafzimdo ([a-z]+) ", readme + rust, re.M):
         run(program, command, "--help")
 

@@ -42,6 +42,9 @@ const char *lafzimdo_refusal_text(unsigned number) {
         "there is no opcode above 82",
         "the pcs of the function's anchors do not rise strictly",
         "a pc of the list is below the one before it",
+        "the format byte is not 0 (Lua's loader: format mismatch)",
+        "a number that Lua reads as an int is 2^31 - 128 or more (Lua's loader: integer overflow)",
+        "a string constant has size 0 (Lua's loader: bad format for constant string)",
     };
     return TEXT_OF(texts, number);
 }

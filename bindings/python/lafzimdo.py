@@ -262,11 +262,13 @@ class Chunk:
         self._rows = self._functions = None
 
     @classmethod
-    def read(cls, data, limits=Limits()):
-        """Reads a chunk, in one pass. `data` are its bytes."""
+    def read(cls, data, limits=Limits(), strict=False):
+        """Reads a chunk, in one pass. `data` are its bytes. With `strict` as Lua's own loader would, in two passes: what it objects to is refused besides, with 31 (a format byte other than 0), 32 (a
+        number of 2^31 - 128 or more that the loader reads as an int) and 33 (a string constant of size 0); what is read is the same chunk."""
         data = bytes(data)
         numbers = (ctypes.c_uint64 * 9)(*_fitting(limits))
-        return cls(data, Limits(*limits), _ask("lafzimdo_summary", data, ctypes.c_size_t(len(data)), numbers)[:15])
+        call = "lafzimdo_strict_summary" if strict else "lafzimdo_summary"
+        return cls(data, Limits(*limits), _ask(call, data, ctypes.c_size_t(len(data)), numbers)[:15])
 
     def __repr__(self):
         return f"<lafzimdo.Chunk of {len(self.bytes)} bytes, {self.function_count} functions>"

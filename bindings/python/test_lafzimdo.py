@@ -216,6 +216,34 @@ class Sample(unittest.TestCase):
             self.assertTrue(all(pool.map(work, range(200))))
 
 
+class Strict(unittest.TestCase):
+    def test_worked_cases(self):
+        """Those of the crate for Rust."""
+        cases = [line.split(" | ") for line in (TOP / "bindings/rust/tests/data/strict.txt").read_text().splitlines() if line[0] != "#"]
+        self.assertEqual(len(cases), 46)
+        for name, spelt, *answers in cases:
+            data = bytes.fromhex(spelt if spelt.startswith("1b4c") else SAMPLE[:31].hex() + spelt)
+            limits = lafzimdo.Limits(**{limit: int(value) for limit, value in (other.split(" ") for other in answers[2:])})
+            for strict, expected in zip((False, True), answers):
+                self.assertEqual(self.shown(data, limits, strict), expected, (name, strict))
+
+    def shown(self, data, limits, strict):
+        """An answer as the table has it."""
+        try:
+            chunk = lafzimdo.Chunk.read(data, limits, strict)
+        except lafzimdo.Refused as refusal:
+            return str(refusal).split(":")[0]
+        warnings = [f" L54-{CODES[w.number]} at {w.place}" for w in chunk.warnings]
+        return f"read {chunk.function_count} {len(chunk.trailing_bytes)}" + "".join(warnings)
+
+    def test_what_is_read_is_the_same(self):
+        chunk = lafzimdo.Chunk.read(SAMPLE, strict=True)
+        self.assertEqual((chunk.copy(), len(chunk.functions), chunk.limits), (SAMPLE, 7, lafzimdo.Limits()))
+        with self.assertRaises(lafzimdo.Refused) as caught:
+            lafzimdo.Chunk.read(SAMPLE[:5] + b"\1" + SAMPLE[6:], strict=True)
+        self.assertEqual(str(caught.exception), "refused 31 at 5: the format byte is not 0 (Lua's loader: format mismatch)")
+
+
 class Example(unittest.TestCase):
     def test_constants(self):
         ran = subprocess.run([sys.executable, HERE / "examples/constants.py", TOP / "samples"], capture_output=True, text=True, env={"PYTHONPATH": str(HERE), "PYTHONDONTWRITEBYTECODE": "1"})

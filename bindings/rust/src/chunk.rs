@@ -39,11 +39,41 @@ pub(crate) struct Shown {
     index: OnceLock<Index>,
 }
 
+/// A call that reads: the library's summary, or the stricter one.
+type Summary = fn(&[u8], &[u64; 9]) -> Result<[u64; 15], Refusal>;
+
 impl<'a> Chunk<'a> {
     /// Reads a chunk, in one pass.
     pub fn read(bytes: &'a [u8], limits: Limits) -> Result<Chunk<'a>, Refusal> {
+        Chunk::read_by(ffi::summary, bytes, limits)
+    }
+
+    /// Reads a chunk as Lua's own loader would, in two passes: what it objects to is refused besides, with 31 (a format byte other than 0), 32 (a number of 2^31 - 128 or more that
+    /// the loader reads as an int, which is every number but a string's size) and 33 (a string constant of size 0), each as soon as its bytes are read. What is read is the chunk that
+    /// [`read`](Chunk::read) gives.
+    ///
+    /// More upvalue names than upvalues pass, as they pass the loader unseen.
+    ///
+    /// ```
+    /// use lafzimdo::{Chunk, Limits, Refusal};
+    ///
+    /// # let file = concat!(env!("CARGO_MANIFEST_DIR"), "/tests/data/recentre.luac");
+    /// # #[cfg(any())]
+    /// let file = "recentre.luac";
+    /// let mut bytes = std::fs::read(file)?;
+    /// assert!(Chunk::read_strict(&bytes, Limits::ceilings()).is_ok());
+    /// bytes[5] = 1;
+    /// assert!(Chunk::read(&bytes, Limits::ceilings()).is_ok());
+    /// assert_eq!(Chunk::read_strict(&bytes, Limits::ceilings()).unwrap_err(), Refusal::Format(5));
+    /// # Ok::<(), std::io::Error>(())
+    /// ```
+    pub fn read_strict(bytes: &'a [u8], limits: Limits) -> Result<Chunk<'a>, Refusal> {
+        Chunk::read_by(ffi::strict_summary, bytes, limits)
+    }
+
+    fn read_by(summary: Summary, bytes: &'a [u8], limits: Limits) -> Result<Chunk<'a>, Refusal> {
         let input = Input { bytes, limits: limits.numbers() };
-        let summary = ffi::summary(input.bytes, &input.limits)?;
+        let summary = summary(input.bytes, &input.limits)?;
         let [version, format, isize, intsize, sizet, numsize, num, functions, place, len, rest @ ..] = summary;
         let [code1, place1, code2, place2, padded] = rest;
         let shown = Shown {

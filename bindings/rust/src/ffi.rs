@@ -23,6 +23,7 @@ macro_rules! calls {
 
 calls! {
     summary lafzimdo_summary() 15;
+    strict_summary lafzimdo_strict_summary() 15;
     fields lafzimdo_function(function) 18;
     line lafzimdo_line(function, pc) 1;
     instruction lafzimdo_instruction(function, entry) 1;

@@ -25,6 +25,8 @@
 //! # Ok::<(), Box<dyn std::error::Error>>(())
 //! ```
 //!
+//! [`Chunk::read_strict`] reads as Lua's own loader would, and refuses what that objects to.
+//!
 //! Every call on a chunk by numbers, such as [`Chunk::constant`], is a pass over the file. Who wants all of a chunk goes through [`Chunk::functions`] and the lists of
 //! each [`Function`]: these go on from place to place, and the whole costs a few passes, whatever the file holds.
 //!

@@ -37,6 +37,13 @@ impl OwnedChunk {
         Ok(OwnedChunk { limits: limits.numbers(), shown, bytes })
     }
 
+    /// Reads a chunk as Lua's own loader would ([`Chunk::read_strict`]), in two passes.
+    pub fn read_strict(bytes: impl Into<Arc<[u8]>>, limits: Limits) -> Result<OwnedChunk, Refusal> {
+        let bytes = bytes.into();
+        let Chunk { shown, .. } = Chunk::read_strict(&bytes, limits)?;
+        Ok(OwnedChunk { limits: limits.numbers(), shown, bytes })
+    }
+
     /// The chunk, with everything that can be asked of it. It is not read again, and its index is made once, however often this is called.
     pub fn chunk(&self) -> Chunk<'_> {
         Chunk { input: Input { bytes: &self.bytes, limits: self.limits }, shown: self.shown.clone() }

@@ -13,7 +13,7 @@ macro_rules! refusals {
         }
 
         impl Refusal {
-            /// The number, 1 to 30.
+            /// The number, 1 to 33.
             pub const fn number(&self) -> u8 {
                 match self { $(Refusal::$name { .. } => $number,)* }
             }
@@ -26,7 +26,7 @@ macro_rules! refusals {
             fn of_number(number: u8, place: usize) -> Refusal {
                 match number {
                     $($number => Refusal::$name $((place as $place))?,)*
-                    _ => unreachable!("the library's refusals have the numbers 1 to 30, not {number}"),
+                    _ => unreachable!("the library's refusals have the numbers 1 to 33, not {number}"),
                 }
             }
         }
@@ -64,6 +64,9 @@ refusals! {
     28 NoOpcode "there is no opcode above 82";
     29 AnchorOrder "the pcs of the function's anchors do not rise strictly";
     30 PcOrder "a pc of the list is below the one before it";
+    31 Format(usize) "the format byte is not 0 (Lua's loader: format mismatch)";
+    32 IntOverflow(usize) "a number that Lua reads as an int is 2^31 - 128 or more (Lua's loader: integer overflow)";
+    33 NullString(usize) "a string constant has size 0 (Lua's loader: bad format for constant string)";
 }
 
 impl Refusal {
@@ -88,7 +91,10 @@ impl Refusal {
             | Upvalues(place)
             | Prototypes(place)
             | NestingDepth(place)
-            | TotalPrototypes(place) => Some(place),
+            | TotalPrototypes(place)
+            | Format(place)
+            | IntOverflow(place)
+            | NullString(place) => Some(place),
             Overflow | VarintOverflow | LimitAboveCeiling | InputBytes | NoFunction | NoEntry | LineTooLarge
             | LentSpace | FieldRange | NoOpcode | AnchorOrder | PcOrder => None,
         }
@@ -126,7 +132,7 @@ mod tests {
     #[test]
     fn numbers_and_places() {
         assert_eq!(Refusal::of_status(0), Ok(()));
-        for number in 1..=30 {
+        for number in 1..=33 {
             let without = refusal(number);
             let with = refusal(number + 256 * 46);
             assert_eq!((u64::from(without.number()), u64::from(with.number())), (number, number));
@@ -149,7 +155,7 @@ mod tests {
         let (_, list) = list.split_once("pub enum Refusal {").unwrap();
         let (list, _) = list.split_once('}').unwrap();
         let names = list.lines().map(str::trim).filter(|line| !line.is_empty() && !line.starts_with("//"));
-        let ours = (1..=30).map(|number| format!("{:?},", refusal(number + 256)).replace("(0)", "(usize)"));
+        let ours = (1..=33).map(|number| format!("{:?},", refusal(number + 256)).replace("(0)", "(usize)"));
         assert_eq!(names.collect::<Vec<_>>(), ours.collect::<Vec<_>>());
     }
 }

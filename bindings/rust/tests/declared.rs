@@ -79,7 +79,7 @@ fn of_ours() -> Calls {
 #[test]
 fn as_in_the_header() {
     let (header, ours) = (of_header(), of_ours());
-    assert_eq!(ours.len(), 31);
+    assert_eq!(ours.len(), 32);
     for (name, types) in &ours {
         assert_eq!(header.get(name), Some(types), "{name}");
     }

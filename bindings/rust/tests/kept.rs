@@ -185,7 +185,7 @@ fn every_kept_answer() {
         numbers
             .extend(ours.iter().filter_map(|line| Some(line.split_once("refused ")?.1.split(' ').next()?.to_string())));
     }
-    // 24 and 26 are not in the protocol: tests/refusals.rs, tests/lent.rs. Nor are 29 and 30, which the Rust has not: tests/sweep.rs.
+    // 24 and 26 are not in the protocol: tests/refusals.rs, tests/lent.rs. Nor are 29 and 30, which the Rust has not: tests/sweep.rs; nor 31 to 33: tests/strict.rs.
     let all = (1..=28).filter(|number| ![24, 26].contains(number)).map(|number: u8| number.to_string());
     assert_eq!(numbers, all.collect());
 }

@@ -1,5 +1,5 @@
 //! The arguments.
-use crate::command::{number, Asked, Choice, Command, ALL};
+use crate::command::{number, Asked, Choice, Command, ALL, EVERY};
 use crate::help;
 use crate::trouble::Trouble;
 use lafzimdo::Limits;
@@ -126,5 +126,6 @@ fn needed(
 }
 
 fn choice(command: &Command, name: &str) -> Option<&'static Choice> {
-    command.options.iter().find(|choice| name == choice.long || (!name.is_empty() && name == choice.short))
+    let mut choices = command.options.iter().chain(&EVERY);
+    choices.find(|choice| name == choice.long || (!name.is_empty() && name == choice.short))
 }

@@ -16,7 +16,7 @@ pub struct Command {
     /// What it does, in a line.
     pub short: &'static str,
     pub long: &'static str,
-    /// Its own options; limits, `--help` and `--` are every command's.
+    /// Its own options; `EVERY`, limits, `--help` and `--` are every command's.
     pub options: &'static [Choice],
     /// Does what is asked, and gives the exit status.
     pub run: fn(&Asked) -> Result<u8, Trouble>,
@@ -29,6 +29,16 @@ pub struct Choice {
     pub value: &'static str,
     pub text: &'static str,
 }
+
+/// The options of every command.
+pub const EVERY: [Choice; 1] = [STRICT];
+
+const STRICT: Choice = Choice {
+    short: "",
+    long: "--strict",
+    value: "",
+    text: "read as Lua's own loader reads; what it would object to is refused (31, 32, 33)",
+};
 
 /// What a command is asked: its options, the limits, and what is left.
 pub struct Asked {
@@ -55,9 +65,9 @@ impl Asked {
         self.value(option).map(|value| number(value, option)).transpose()
     }
 
-    /// The file of a name, under the limits.
+    /// The file of a name, as it is to be read.
     pub fn input(&self, name: &OsStr) -> Input {
-        Input { name: name.into(), limits: self.limits }
+        Input { name: name.into(), limits: self.limits, strict: self.has(STRICT.long) }
     }
 
     /// That there are too few or too many operands.

@@ -5,10 +5,11 @@ use std::ffi::{OsStr, OsString};
 use std::fs::File;
 use std::io::{self, BufWriter, Read, StdoutLock};
 
-/// The name of the file, `-` for standard input, and the limits under which it is read.
+/// The name of the file, `-` for standard input, the limits under which it is read, and whether as strictly as Lua's own loader reads.
 pub struct Input {
     pub name: OsString,
     pub limits: Limits,
+    pub strict: bool,
 }
 
 impl Input {
@@ -29,7 +30,8 @@ impl Input {
 
     /// The chunk that these bytes are.
     pub fn chunk<'a>(&self, bytes: &'a [u8]) -> Result<Chunk<'a>, Trouble> {
-        Chunk::read(bytes, self.limits).map_err(|refusal| self.refused(refusal))
+        let read = if self.strict { Chunk::read_strict } else { Chunk::read };
+        read(bytes, self.limits).map_err(|refusal| self.refused(refusal))
     }
 
     /// A refusal of the library, of this file.

@@ -1,10 +1,13 @@
 //! The help texts.
-use crate::command::{Choice, Command, ALL};
+use crate::command::{Choice, Command, ALL, EVERY};
 
-const OPTIONS: &str = "\
+const HELP: &str = "\
 Options of every command:
   -h, --help    this help
   --            what follows is no option
+";
+
+const LIMITS: &str = "\
   --max-input-bytes N, --max-nesting-depth N, --max-total-prototypes N, --max-instructions-per-proto N,
   --max-total-instructions N, --max-constants-per-proto N, --max-upvalues-per-proto N, --max-string-bytes N,
   --max-diagnostics N
@@ -52,7 +55,7 @@ pub fn all() -> String {
     }
     text += "  help [COMMAND]\n      this help, or that on one command\n";
     text += "  help json, help schema\n      what --json prints; its JSON Schema\n\n";
-    text + OPTIONS + "`lafzimdo --version` (-V) prints the version.\n\n" + STATUSES
+    text + &every() + "`lafzimdo --version` (-V) prints the version.\n\n" + STATUSES
 }
 
 /// The help on one command.
@@ -62,7 +65,13 @@ pub fn of(command: &Command) -> String {
     for option in *options {
         text += &line(option);
     }
-    format!("{text}\n{OPTIONS}\n{STATUSES}")
+    format!("{text}\n{}\n{STATUSES}", every())
+}
+
+/// The options of every command.
+fn every() -> String {
+    let choices: String = EVERY.iter().map(|Choice { long, text, .. }| format!("  {long:<13} {text}\n")).collect();
+    format!("{HELP}{choices}{LIMITS}")
 }
 
 /// `  -f, --force   what it does`.
