@@ -25,6 +25,10 @@ double run_summary(const struct set *set) {
     TIMED(set, must(lafzimdo_summary(c->bytes, c->len, limits, out) == 0 && out[7] == c->functions, "summary"));
 }
 
+double run_strict(const struct set *set) {
+    TIMED(set, must(lafzimdo_strict_summary(c->bytes, c->len, limits, out) == 0 && out[7] == c->functions, "strict_summary"));
+}
+
 double run_index(const struct set *set) {
     TIMED(set, must(lafzimdo_index(c->bytes, c->len, limits, rows, rows_len, out) == 0 && out[0] == c->functions, "index"));
 }

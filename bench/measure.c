@@ -9,9 +9,9 @@
 #include <stdlib.h>
 #include <string.h>
 
-enum { MEMCPY, SKIP, TEST, SUMMARY, INDEX, COPY_LENGTH, COPY, VERDICT, FINDINGS, LINE, LINES, LOAD, DUMP, CALLS };
-static const char *const names[CALLS] = {"memcpy", "C reader", "C verdict", "summary", "index", "copy_length", "copy", "verdict", "findings", "line", "lines", "lua_load", "lua_dump"};
-static const call runs[CALLS] = {run_memcpy, run_skip, run_test, run_summary, run_index, run_copy_length, run_copy, run_verdict, run_findings, run_line, run_lines, run_load, run_dump};
+enum { MEMCPY, SKIP, TEST, SUMMARY, STRICT, INDEX, COPY_LENGTH, COPY, VERDICT, FINDINGS, LINE, LINES, LOAD, DUMP, CALLS };
+static const char *const names[CALLS] = {"memcpy", "C reader", "C verdict", "summary", "strict", "index", "copy_length", "copy", "verdict", "findings", "line", "lines", "lua_load", "lua_dump"};
+static const call runs[CALLS] = {run_memcpy, run_skip, run_test, run_summary, run_strict, run_index, run_copy_length, run_copy, run_verdict, run_findings, run_line, run_lines, run_load, run_dump};
 #define FIRST_OWN SUMMARY
 #define LAST_OWN LINES
 
@@ -104,6 +104,11 @@ static void show_own_calls(const char *title) {
     printf("\n");
 }
 
+static void show_strict(void) {
+    printf("\nThe stricter summary in times of the summary (goal: at most 2.2), and lua_load in times of it:\n\n| file | strict / summary | lua_load / strict |\n|---|--:|--:|\n");
+    for (int f = 0; f < files; f++) printf("| %s | %.2f | %.2f |\n", sets[f].name, best[f][STRICT] / best[f][SUMMARY], best[f][LOAD] / best[f][STRICT]);
+}
+
 static void show_lines(void) {
     printf("\nA list of %d pcs in times of one lookup (goal on 16 MB: at most 1.5):\n\n| file | lines / line |\n|---|--:|\n", PCS);
     for (int f = 0; f < files; f++) printf("| %s | %.2f |\n", sets[f].name, best[f][LINES] / best[f][LINE]);
@@ -162,6 +167,6 @@ int main(int count, char **words) {
     getloadavg(load, 3);
     printf(", behind: %.2f\n\n", load[0]);
     if (growth) show_growth();
-    else show_times(), show_goals(), show_words(), show_lines(), show_each();
+    else show_times(), show_goals(), show_words(), show_strict(), show_lines(), show_each();
     return 0;
 }

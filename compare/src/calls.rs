@@ -37,6 +37,7 @@ macro_rules! calls {
 
 calls! {
     SUMMARY: Whole, 15, lafzimdo_summary;
+    STRICT_SUMMARY: Whole, 15, lafzimdo_strict_summary;
     COPY_LENGTH: Whole, 1, lafzimdo_copy_length;
     FULL_COPY_LENGTH: Whole, 1, lafzimdo_full_copy_length;
     VERDICT: Whole, 1, lafzimdo_verdict;

@@ -4,12 +4,14 @@ use crate::case::{Case, Limits};
 use crate::chance::Chance;
 use crate::damage::hurt;
 use crate::functions_made::{long_function, tree};
-use crate::make::{number, Made, Padding, Spelling, FORMAT, LARGEST};
+use crate::make::{number, Made, Padding, Spelling, FORMAT, HEADER, LARGEST};
 
 /// One in so many stands near 10,000 findings: such a case takes long.
 const STOPS: usize = 2000;
 /// One in so many has a list of hundreds or thousands of entries.
 const LONG: usize = 400;
+/// One in so many has an odd format and something else that is wrong in the header.
+const ODD_HEADERS: usize = 200;
 const LONGEST_KEPT: usize = 4000;
 const MOST_FINDINGS: usize = 10_000;
 /// MOVE and LOADK of a register beyond a stack of 2; LOADK's constant is not there either.
@@ -44,6 +46,10 @@ impl Cases {
         }
         if chance.one_in(LONG) {
             let chunk = long(&mut chance);
+            return Case { limits: limits(&mut chance, &chunk), chunk, ask };
+        }
+        if chance.one_in(ODD_HEADERS) {
+            let chunk = odd_header(&mut chance);
             return Case { limits: limits(&mut chance, &chunk), chunk, ask };
         }
         let mut own = None;
@@ -119,6 +125,18 @@ fn made(chance: &mut Chance) -> Vec<u8> {
 fn long(chance: &mut Chance) -> Vec<u8> {
     let main = long_function(chance);
     spelt(chance, &main)
+}
+
+/// Another format, and a byte of the header changed, or the file cut off there.
+fn odd_header(chance: &mut Chance) -> Vec<u8> {
+    let mut bytes = made(chance);
+    bytes[FORMAT] = chance.of(&[0, 1, 2, 128, 255]);
+    match chance.below(3) {
+        0 => bytes.truncate(chance.of(&[FORMAT - 1, FORMAT, FORMAT + 1, FORMAT + 1, FORMAT + 2, HEADER.len()])),
+        1 => bytes[chance.below(HEADER.len())] ^= 1 << chance.below(8),
+        _ => {}
+    }
+    bytes
 }
 
 /// A run of deltas that ends near 2^64: cut short, or refusal 2.

@@ -4,11 +4,12 @@ use crate::chance::Chance;
 use crate::check_places::{parts_in_order, places};
 use crate::check_read::read_chunk;
 use crate::check_refused::refused_chunk;
+use crate::check_strict::strict_summary;
 use crate::check_words::words;
 use crate::difference::Difference;
 use crate::full::full_copy;
 use crate::judged::Judged;
-use crate::lender::Lender;
+use crate::lender::{coded, Lender};
 use crate::limits::read;
 use crate::tally::Tally;
 use std::panic::{catch_unwind, AssertUnwindSafe};
@@ -32,6 +33,7 @@ pub fn check(case: &Case, lender: &mut Lender, tally: &mut Tally) -> Result<(), 
         Err(refusal) => {
             asked.tally.refused(refusal.number);
             refused_chunk(&mut asked, refusal)?;
+            strict_summary(&mut asked, &limits, Err(coded(refusal)))?;
         }
         Ok(chunk) => {
             let mut judged = judge("the Rust's answers", || Judged::of(&chunk, &case.chunk, &limits))?;
@@ -41,6 +43,7 @@ pub fn check(case: &Case, lender: &mut Lender, tally: &mut Tally) -> Result<(), 
                 judged.full = full_copy(&judged.functions, &judged.heads, &judged.copy, Some(wrong));
             }
             read_chunk(&mut asked, &judged)?;
+            strict_summary(&mut asked, &limits, Ok(judged.summary))?;
             parts_in_order(&mut asked, &judged)?;
         }
     }

@@ -13,6 +13,8 @@ const CLOSURE: u32 = 79;
 const RULED: [u32; 7] = [LOADK, GETUPVAL, SETUPVAL, GETTABUP, SETTABUP, JMP, CLOSURE];
 const NO_JUMP: i64 = 16_777_215;
 
+/// Among them the first numbers that are no int for lundump.c, and the last that is one.
+const INTS: [u64; 5] = [(1 << 31) - 129, (1 << 31) - 129, (1 << 31) - 128, (1 << 31) - 127, (1 << 31) - 1];
 const ODD_NUMBERS: [u64; 14] =
     [0, 1, 127, 128, 300, 16_383, 16_384, 1 << 31, 1 << 32, (1 << 62) - 1, 1 << 62, 1 << 63, LARGEST, LARGEST - 1];
 const ODD_FLOATS: [u64; 6] =
@@ -21,7 +23,10 @@ const TAGS: [u8; 7] = [0, 1, 17, 3, 19, 4, 20];
 
 fn odd_number(chance: &mut Chance) -> u64 {
     match chance.below(12) {
-        0 => chance.of(&ODD_NUMBERS),
+        0 => match chance.below(3) {
+            0 => chance.of(&INTS),
+            _ => chance.of(&ODD_NUMBERS),
+        },
         1 => chance.number() >> chance.below(64),
         _ => chance.below(12) as u64,
     }
@@ -161,6 +166,7 @@ pub fn function(chance: &mut Chance, nested: Vec<Made>) -> Made {
         ];
         let which = chance.below(8);
         let count = claimed.get(which).copied().unwrap_or(0) as u64;
+        let int = chance.of(&INTS);
         made.claim = Some((
             which,
             chance.of(&[
@@ -171,6 +177,7 @@ pub fn function(chance: &mut Chance, nested: Vec<Made>) -> Made {
                 1 << 24,
                 (1 << 24) + 1,
                 1 << 40,
+                int,
                 LARGEST,
             ]),
         ));

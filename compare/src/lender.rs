@@ -44,6 +44,8 @@ pub enum Way {
     Sources(usize),
     /// And so of a list of pcs: what is expected is wrong in one of the ways of check_lines.rs.
     List(usize),
+    /// And so of the stricter reading: what is expected goes by one of the wrong rules of strict.rs.
+    Strict(usize),
     /// The refusal's number, and its place.
     Refusal,
     Place,
@@ -149,6 +151,14 @@ impl Lender {
     pub fn wrong_list(&self) -> Option<usize> {
         match self.alteration {
             Some(Alteration { way: Way::List(way), .. }) => Some(way),
+            _ => None,
+        }
+    }
+
+    /// The wrong rule for the stricter reading, if the self-test has one.
+    pub fn wrong_strict(&self) -> Option<usize> {
+        match self.alteration {
+            Some(Alteration { way: Way::Strict(rule), .. }) => Some(rule),
             _ => None,
         }
     }

@@ -59,12 +59,17 @@ impl<'a> Parts<'a> {
         self.reader.position() as u64
     }
 
-    fn byte(&mut self) -> Result<u64, Refusal> {
+    pub fn byte(&mut self) -> Result<u64, Refusal> {
         self.reader.read_u8().map(u64::from).map_err(refused)
     }
 
-    fn number(&mut self) -> Result<u64, Refusal> {
+    pub fn number(&mut self) -> Result<u64, Refusal> {
         Ok(self.reader.read_varint_lua54().map_err(refused)?.0)
+    }
+
+    /// So many bytes in one piece.
+    pub fn run(&mut self, bytes: u64) -> Result<(), Refusal> {
+        self.reader.read_exact(bytes as usize).map(drop).map_err(refused)
     }
 
     /// A count, refused above its limit with this number.
@@ -139,7 +144,7 @@ impl<'a> Parts<'a> {
     pub fn tail(&mut self) -> Result<Tail, Refusal> {
         let deltas = self.number()?;
         let deltas = [deltas, self.place()];
-        self.reader.read_exact(deltas[0] as usize).map_err(refused)?;
+        self.run(deltas[0])?;
         let anchors = self.number()?;
         let anchors = self.list(anchors, Parts::anchor)?;
         let (mut locals, mut names) = (Vec::new(), Vec::new());

@@ -1,5 +1,5 @@
 // That each comparison can fail: every number of every call's answer, its refusal and place, and the memory lent to it are changed in turn before they are
-// compared, and a run of cases must find each change; in the index each number of a row. So it must where padded numbers of one kind are not counted, and where the sources of the full copy go by a wrong rule, or a list of pcs is judged in a wrong way.
+// compared, and a run of cases must find each change; in the index each number of a row. So it must where padded numbers of one kind are not counted, and where the sources of the full copy or the stricter reading go by a wrong rule, or a list of pcs is judged in a wrong way.
 use crate::calls::CHUNK_CALLS;
 use crate::cases::Cases;
 use crate::check::{check, judge, CHUNK};
@@ -8,6 +8,7 @@ use crate::full::{AS_LONG, WRONG};
 use crate::judged::COLUMNS;
 use crate::lender::{Alteration, Lender, Way};
 use crate::padded::KINDS;
+use crate::strict::WRONG as WRONG_STRICT;
 use crate::tally::Tally;
 
 /// So many cases at most until a change is found.
@@ -33,6 +34,9 @@ fn ways(call: &str, numbers: usize) -> Vec<Way> {
     }
     if call == "lafzimdo_summary" {
         ways.extend((0..KINDS.len()).map(Way::Kind));
+    }
+    if call == "lafzimdo_strict_summary" {
+        ways.extend((0..WRONG_STRICT.len()).map(Way::Strict));
     }
     if call == "lafzimdo_index" {
         ways.extend((0..COLUMNS).map(Way::Column));

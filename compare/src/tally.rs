@@ -29,11 +29,27 @@ pub struct Tally {
     /// Copies that are read, and cases whose full copy is another than the archive copy.
     pub copies: u64,
     sourced: u64,
+    /// Of the stricter reading: 31 to 33; cases that are read, and those of 31 to 33 that the ordinary one reads.
+    strict: [u64; 3],
+    strict_read: u64,
+    strict_only: u64,
 }
 
 impl Tally {
     pub fn refused(&mut self, number: u8) {
         self.refusals[usize::from(number)] += 1;
+    }
+
+    /// The stricter reading's refusal, if any, beside whether the ordinary one reads the chunk. 1 to 22 are those of the ordinary one, counted there.
+    pub fn strict(&mut self, refusal: Option<u8>, read: bool) {
+        match refusal {
+            None => self.strict_read += 1,
+            Some(number) if number > 30 => {
+                self.strict[usize::from(number) - 31] += 1;
+                self.strict_only += u64::from(read);
+            }
+            Some(_) => {}
+        }
     }
 
     pub fn read(&mut self, judged: &Judged) {
@@ -61,6 +77,7 @@ impl Tally {
             (&mut self.cases_with, &other.cases_with),
             (&mut self.warnings, &other.warnings),
             (&mut self.padded, &other.padded),
+            (&mut self.strict, &other.strict),
         ];
         for (sums, counts) in lists {
             sums.iter_mut().zip(counts).for_each(|(sum, count)| *sum += count);
@@ -78,6 +95,8 @@ impl Tally {
         self.parts += other.parts;
         self.copies += other.copies;
         self.sourced += other.sourced;
+        self.strict_read += other.strict_read;
+        self.strict_only += other.strict_only;
     }
 
     pub fn print(&self) {
@@ -89,6 +108,11 @@ impl Tally {
         println!("           lines refused with 25 at which the Rust stops: {}", self.stopped_lines);
         row("of a word", refusals(27, 28));
         row("of a list", refusals(29, 30));
+        row("strictly", self.strict.iter().zip(31..).map(|(count, number)| format!("{number}: {count}")).collect());
+        println!(
+            "           of these the ordinary reading reads: {}; the stricter one reads: {}",
+            self.strict_only, self.strict_read
+        );
         row("verdict", VERDICTS.iter().zip(self.verdicts).map(|(name, count)| format!("{name}: {count}")).collect());
         row("warnings", self.warnings.iter().enumerate().map(|(i, count)| format!("{i}: {count}")).collect());
         row(

@@ -1,0 +1,1 @@
+# The stricter reading against Lua's own loader (../run_strict.py).
