@@ -34,11 +34,13 @@ PROMISES = {
     'request 4': ['demands/Request04'],
     'request 5': ['demands/Request05'],
     'request 6': ['demands/Request06', 'demands/SameInFull:same-in-full', 'format_lua/LdumpFull:full-as-dumped short-object no-object one-object'],
+    'request 7': ['demands/Request07', 'demands/StrictOrder', 'format_strict/StrictAgrees:strict-agrees besides', 'format_lua/StrictLoaded:strict-as-loaded'],
 }
 # the table of docs/PROOF.md: what a group of files says, and the files; what is reached and named nowhere here comes last
 GROUPS = [
     ('the grammar of a chunk under limits, and the reading; no reader in it', 'format/specs: Form GrammarFields GrammarHeader Reading GrammarChunk Limits'),
     ("the Rust's reader as a function, with every refusal and place", 'format/specs: Read ReadFields ReadHeader ReadChunk Refusals Warnings'),
+    ('the stricter grammar, and its reader as a function, with every refusal and place', 'format_strict/specs: GrammarStrict ReadStrict'),
     ('the archive copy and the full copy; how long their numbers are, by their leading zeros', 'format/specs: Shortest Copy FullCopy; copy_put/specs: Lengths'),
     ('how a chunk is spelt, counted along the grammar; the same along the reader, for contracts', 'format_spelling/specs: Spelling ReadSpelling'),
     ('what each call on a chunk answers, and leaves in lent memory', 'show_row/specs: Asked; show_chunk/specs: Summaries Fields; show_entry/specs: Entries; show_local/specs: Locals; index/specs: Index; copy/specs: Copied; copy_full/specs: InFull; slice/specs: Over'),
@@ -48,10 +50,10 @@ GROUPS = [
     ('instruction words; lopcodes.h', 'word_opcodes/specs: Table Lopcodes; word_fields/specs: Word; word_fields/proofs: Ranges Words Macros Created'),
     ('for who links from C: limits, refusals and answers as numbers; parts at a place, with the readers of a function in two parts', 'c_boundary/specs: Status; c_boundary/proofs: Numbers; c_words/specs: Words; c_entries/specs: EntryNumbers; c_numbers/specs: Numbers; c_finding/specs: FindingNumbers; c_findings/specs: FindingNumbers; lafzimdo/specs: Answers Version; c_parts/specs: PartNumbers; c_entries_at/specs: EntryNumbers; read_prototype/specs: Front Parts PartsShown; read_entry/specs: Readers'),
     ('what `chunklist` prints', 'chunklist_listing/specs: Listing; chunklist_lines/specs: Lines; format/specs: Ascii; text_print/specs: Output'),
-    ("Lua's own loader, dumper and line lookup, close to the C", 'format_lua/specs: Lundump LundumpFunctions Ldump LdumpFunctions; line_lookup/specs: Ldebug; format_lua/proofs: LundumpParts LundumpChunk LundumpBack LdumpChunk LdumpWhole LdumpFull; format/proofs: Every'),
+    ("Lua's own loader, dumper and line lookup, close to the C", 'format_lua/specs: Lundump LundumpFunctions LundumpWithin Ldump LdumpFunctions; line_lookup/specs: Ldebug; format_lua/proofs: LundumpBack LdumpChunk LdumpWhole LdumpFull; format/proofs: Every'),
     ("words of demand 1's statements: a call's conditions in order; what a refusal is about", 'demands/proofs: Refused Causes InOrder Early Order AtOneByte CutShort Continued ByLimits Exactly Accepted ByC RefusedAt PartsInOrder Printed Demand1; format/proofs: RefusalNumbers'),
     ("words of demand 2's statements: a whole contract", 'demands/proofs: Promise Demand2 Demand2C'),
-    ("words of demand 3's and the requests' statements: what is shown, what is set aside", 'demands/proofs: Request01 Request02 AfterCounts Request03 Request05 Depths Request06 Demand3 Calls Written Same SameInFull Inherits Alike Together Complete ShownAt SpeltHere EntriesAt Nested; format/proofs: Located OrderCases; read_nth/proofs: Strings; line_batch/proofs: Laws'),
+    ("words of demand 3's and the requests' statements: what is shown, what is set aside", 'demands/proofs: Request01 Request02 AfterCounts Request03 Request05 Depths Request06 Request07 StrictOrder Demand3 Calls Written Same SameInFull Inherits Alike Together Complete ShownAt SpeltHere EntriesAt Nested; format/proofs: Located OrderCases; read_nth/proofs: Strings; line_batch/proofs: Laws'),
 ]
 WORD = re.compile(r'[^\s(){};,\[\]]+')
 HEAD = re.compile(r'^( *)(abbrev |unfoldable )?(pub )?(record |data )?(\S+)')
