@@ -4,6 +4,7 @@
 #     compare/stack.py header     the same, and writes what was measured into the header's line
 # Every declaration of the header is measured; one that cannot be called from what is known here is a failure. Needs `rt staticlib lafzimdo` (or a library in
 # the folder LAFZIMDO_LIB) and a C compiler.
+import ctypes
 import os
 import pathlib
 import re
@@ -114,23 +115,32 @@ def calls_on(depth):
 
 # ---- chunklist
 
-PAGE = 4096
+PAGE, ALIGNED = 4096, 16
+NO_RANDOM_ADDRESSES = 0x0040000
+LIBC = ctypes.CDLL(None)
 
 
-def chunklist_ends(data, stack):
-    """Whether the program ends well on these bytes with so much stack."""
+def chunklist_ends(data, pages, shift):
+    """Whether the program ends well on these bytes with so many pages of stack, of which so many bytes are taken before it begins (by a word of its environment)."""
     def limited():
-        resource.setrlimit(resource.RLIMIT_STACK, (stack, stack))
-    return subprocess.run([program], input=data, stdout=subprocess.DEVNULL, stderr=subprocess.DEVNULL, env={}, preexec_fn=limited).returncode >= 0
+        LIBC.personality(NO_RANDOM_ADDRESSES)
+        resource.setrlimit(resource.RLIMIT_STACK, (pages * PAGE, pages * PAGE))
+    return subprocess.run([program], input=data, stdout=subprocess.DEVNULL, stderr=subprocess.DEVNULL, env={"SHIFT": "x" * shift}, preexec_fn=limited).returncode >= 0
+
+
+def least(enough, end):
+    """The smallest number below the end that is enough, where each above it is too; the end, where none is."""
+    first, last = 0, end
+    while first < last:
+        middle = (first + last) // 2
+        first, last = (first, middle) if enough(middle) else (middle + 1, last)
+    return first
 
 
 def chunklist_on(data):
-    """The smallest stack that does, to a page: where the stack begins in its page is chance."""
-    least, enough = 0, 1024
-    while least + 1 < enough:
-        middle = (least + enough) // 2
-        least, enough = (least, middle) if chunklist_ends(data, middle * PAGE) else (middle, enough)
-    return enough * PAGE
+    """The stack that the program takes, to 16 bytes, and beside it the same for all data: the pages that do, less what can be taken before."""
+    pages = least(lambda n: chunklist_ends(data, n, 0), 1024)
+    return pages * PAGE - (least(lambda n: not chunklist_ends(data, pages, n * ALIGNED), PAGE // ALIGNED) - 1) * ALIGNED
 
 
 # ---- what came out
@@ -159,7 +169,7 @@ def said():
 
 def chunklist_row():
     nothing, half, full = (chunklist_on(data) for data in (b"", chunk(HALF), chunk(CEILING)))
-    return "chunklist", max(full - half - PAGE, 0) // (CEILING - HALF), full - nothing
+    return "chunklist", (full - half) // (CEILING - HALF), full - nothing
 
 
 def main():

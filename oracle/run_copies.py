@@ -67,12 +67,17 @@ def run(folder, data):
     return done.returncode, done.stdout, done.stderr
 
 
-def main():
+def ready(program):
+    """Whether the tools are there and the library's answers are built; says what is not."""
     for tool in (LUAC, LUA, "cc"):
         if not shutil.which(tool):
-            print(f"run_copies.py: no copy was run: {tool} is not there")
-            return 2
-    if subprocess.run([COMPARE / "build.sh", "answers"]).returncode:
+            print(f"{program}: no copy was run: {tool} is not there")
+            return False
+    return subprocess.run([COMPARE / "build.sh", "answers"]).returncode == 0
+
+
+def main():
+    if not ready("run_copies.py"):
         return 2
     with tempfile.TemporaryDirectory() as name:
         folder = Path(name)

@@ -5,7 +5,6 @@
 # The last line says how many did; the status is 1 where one did not. Needs luac5.4 and lua5.4, a C compiler and liblafzimdo.a (rt staticlib lafzimdo); where one of them is missing it says so, and the status is 2.
 import ctypes
 import os
-import shutil
 import subprocess
 import sys
 import tempfile
@@ -16,7 +15,7 @@ sys.dont_write_bytecode = True
 
 from kept.build import chunk
 from kept.parse import main_of
-from run_copies import ANSWERS, COMPARE, LUA, LUAC, SAMPLES, compiled, run, too_deep
+from run_copies import ANSWERS, LUA, LUAC, SAMPLES, compiled, ready, run, too_deep
 
 JOINED = SAMPLES / "joined"
 CEILINGS = (16777216, 14, 16777216, 16777216, 16777216, 16777216, 16777216, 16777216, 10000)
@@ -67,11 +66,7 @@ def dumped(data):
 
 
 def main():
-    for tool in (LUAC, LUA, "cc"):
-        if not shutil.which(tool):
-            print(f"run_full.py: no copy was run: {tool} is not there")
-            return 2
-    if subprocess.run([COMPARE / "build.sh", "answers"]).returncode:
+    if not ready("run_full.py"):
         return 2
     wrong, ran, named = [], 0, 0
     library = Library()

@@ -151,19 +151,22 @@ pub(crate) fn index(chunk: &[u8], limits: &[u64; 9], rows: &mut [[u32; Row::COLU
 
 /// The copy's length; it is at the front of `copy`.
 pub(crate) fn copy(chunk: &[u8], limits: &[u64; 9], copy: &mut [u8]) -> Result<usize, Refusal> {
-    let mut out = [0; 1];
-    let (lent, room) = (copy.as_mut_ptr(), copy.len());
-    // SAFETY: as above; the copy is written into `copy`, for which this function has the only reference.
-    let status = unsafe { lafzimdo_copy(chunk.as_ptr(), chunk.len(), limits, lent, room, &mut out) };
-    Refusal::of_status(status).map(|()| out[0] as usize)
+    copy_by(lafzimdo_copy, chunk, limits, copy)
 }
 
 /// The full copy's length; it is at the front of `copy`.
 pub(crate) fn full_copy(chunk: &[u8], limits: &[u64; 9], copy: &mut [u8]) -> Result<usize, Refusal> {
+    copy_by(lafzimdo_full_copy, chunk, limits, copy)
+}
+
+/// A call that writes a copy.
+type Copies = unsafe extern "C" fn(*const u8, usize, &[u64; 9], *mut u8, usize, &mut [u64; 1]) -> u64;
+
+fn copy_by(call: Copies, chunk: &[u8], limits: &[u64; 9], copy: &mut [u8]) -> Result<usize, Refusal> {
     let mut out = [0; 1];
     let (lent, room) = (copy.as_mut_ptr(), copy.len());
     // SAFETY: as above; the copy is written into `copy`, for which this function has the only reference.
-    let status = unsafe { lafzimdo_full_copy(chunk.as_ptr(), chunk.len(), limits, lent, room, &mut out) };
+    let status = unsafe { call(chunk.as_ptr(), chunk.len(), limits, lent, room, &mut out) };
     Refusal::of_status(status).map(|()| out[0] as usize)
 }
 

@@ -1,6 +1,7 @@
 //! The lines of all instructions, by the proved call and as this crate computes them, are those of the call for one, which is proved.
 mod common;
 
+use common::chance::Chance;
 use common::{chunk, function};
 use lafzimdo::{Chunk, Limits};
 
@@ -36,22 +37,10 @@ fn of_every_kept_chunk() {
     assert!(lines > 10_000, "only {lines} lines");
 }
 
-/// Numbers by chance, the same in every run.
-struct Chance(u64);
-
-impl Chance {
-    fn below(&mut self, end: u64) -> u64 {
-        self.0 ^= self.0 << 13;
-        self.0 ^= self.0 >> 7;
-        self.0 ^= self.0 << 17;
-        self.0 % end
-    }
-}
-
 /// Functions of up to 12 instructions with deltas, many of them -128, and anchors in any order, also behind the last instruction, twice at one pc, as many as instructions.
 #[test]
 fn by_chance() {
-    let mut chance = Chance(0x9e37_79b9_7f4a_7c15);
+    let mut chance = Chance::new();
     for _ in 0..20_000 {
         let instructions = chance.below(12) as usize;
         let deltas: Vec<i8> =

@@ -1,6 +1,7 @@
 //! The lines of a list of pcs: worked cases, memory that is lent, refusals and their order; by chance against the call for one pc and a set of deltas made here.
 mod common;
 
+use common::chance::Chance;
 use common::{chunk, function};
 use lafzimdo::{Chunk, Limits, Lines, Refusal};
 use std::collections::BTreeSet;
@@ -80,18 +81,6 @@ fn refusals_in_their_order() {
     assert_eq!(read.lines(1, &[1, 0]), Err(Refusal::NoFunction));
 }
 
-/// Numbers by chance, the same in every run.
-struct Chance(u64);
-
-impl Chance {
-    fn below(&mut self, end: u64) -> u64 {
-        self.0 ^= self.0 << 13;
-        self.0 ^= self.0 >> 7;
-        self.0 ^= self.0 << 17;
-        self.0 % end
-    }
-}
-
 /// The deltas that the lookup at a pc walks over: none by rule 2, else from the base on.
 fn walked(made: Made<'_>, pc: u64) -> std::ops::Range<usize> {
     let (_, instructions, deltas, anchors) = made;
@@ -105,7 +94,7 @@ fn walked(made: Made<'_>, pc: u64) -> std::ops::Range<usize> {
 
 #[test]
 fn by_chance() {
-    let mut chance = Chance(0x9e37_79b9_7f4a_7c15);
+    let mut chance = Chance::new();
     let mut answered = 0;
     for _ in 0..20_000 {
         let instructions = chance.below(8) as usize;

@@ -18,7 +18,7 @@ use denote.Ref.{now}
 use Rattle.format.specs.declared.limits.ResourceLimits.{ResourceLimits}
 use Rattle.format.specs.declared.refusal.Refusal.{Refusal}
 use Rattle.format.specs.Reading.{Reading}
-use Rattle.format.specs.Form.{Bytes, Below}
+use Rattle.format.specs.Form.{Bytes, All, Below}
 use Rattle.format.specs.Limits as limits
 use Rattle.format.specs.Limits.{withinCeilings}
 use Rattle.format.specs.Refusals.{reported}
@@ -27,7 +27,6 @@ use Rattle.format.specs.GrammarChunk.{Loaded, outermost, reading}
 use Rattle.format.specs.ReadChunk.{Outcome, shown, refusal, read}
 use Rattle.format_lua.specs.LundumpFunctions.{Undump}
 use Rattle.format_lua.specs.LdumpFunctions.{«luaU_dump»}
-use Rattle.format.proofs.Every.{All}
 use Rattle.format.proofs.ReadChunkLaws.{read-sound}
 use Rattle.format_lua.proofs.LundumpBack.{Loadable, LoadedAs, read-is-loaded}
 use Rattle.format_lua.proofs.LdumpWhole.{sourceOf, AsLua, AsStripped, copy-as-dumped, copy-as-stripped}

@@ -11,10 +11,10 @@ use native.Mathlib.Nat.{zero-add}
 use native.Mathlib.Omega.{arith}
 use lib.ListN.{length}
 use Rattle.format.specs.declared.limits.ResourceLimits.{ResourceLimits}
-use Rattle.format.specs.Form.{Bytes, Form, Then, Given, Nothing}
+use Rattle.format.specs.Form.{Bytes, All, Form, Then, Given, Nothing}
 use Rattle.format.specs.Reading.{Prototype, Reading}
 use Rattle.format.specs.GrammarChunk.{Where, after, within, inherit, Forest, Body, Function, Loaded, outermost, Main, Chunk}
-use Rattle.format.proofs.Every.{Every, any, every-then, every-is, every-nothing, All, all-append, all-split}
+use Rattle.format.proofs.Every.{Every, any, every-then, every-is, every-nothing, all-append, all-split}
 use Rattle.format.proofs.Wider.{same-wider}
 use Rattle.format_lua.proofs.WiderIf.{WiderIf, ends, tested, untested, none-if, unasked, learnt, refuted}
 

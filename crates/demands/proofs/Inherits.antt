@@ -4,33 +4,25 @@
 --     missing-above        so a function that misses a source has a parent that misses one
 -- Assumes nothing.
 use mathlib.Core.Path.{_≡_, refl, sym, _∙_, ap, subst}
-use mathlib.Core.List.{List, [], _∷_, _++_}
+use mathlib.Core.List.{List, [], _∷_}
 use mathlib.Core.Option.{Option, none, some}
-use Prim.Native.Nat.{ℕ, zero, suc, _+_}
+use Prim.Native.Nat.{ℕ, zero, suc}
 use native.Mathlib.Omega.{arith}
 use native.Mathlib.Numerals.{add-one}
-use native.Mathlib.Nat.{add-zero, zero-add, add-suc, suc-add}
+use native.Mathlib.Nat.{zero-add}
 use lib.ListN.{length}
 use Rattle.format.specs.declared.limits.ResourceLimits.{ResourceLimits}
-use Rattle.format.specs.Form.{Bytes, Form}
+use Rattle.format.specs.Form.{Bytes, All, Form}
 use Rattle.format.specs.GrammarFields.{LuaString}
 use Rattle.format.specs.Reading.{Prototype, Reading}
 use Rattle.format.specs.GrammarChunk.{Where, after, within, inherit, outermost, Forest, Body, Function, Loaded, Chunk}
-use Rattle.format.proofs.Every.{Every, any, every-then, every-is, every-nothing, All, all-append}
+use Rattle.format.proofs.Every.{Every, any, every-then, every-is, every-nothing, all-append}
 use Rattle.format_lua.proofs.LdumpWhole.{sourceOf}
+use Rattle.format_lua.proofs.LdumpFull.{Are, are-split, are-all}
 
 pub record Inherited (outer : Option LuaString) (p : Prototype) : Type 0 where
   pub spelt : Option LuaString
   pub is : p .source-name ≡ inherit spelt outer
-
--- the functions from the number n on have these sources
-abbrev Are : (ℕ → Option LuaString) → ℕ → List Prototype → Type 0
-Are source n [] = Unit {0}
-Are source n (p ∷ ps) = (source n ≡ p .source-name) × Are source (suc n) ps
-
-are-split : (source : ℕ → Option LuaString) (n : ℕ) (ps more : List Prototype) → Are source n (ps ++ more) → Are source n ps × Are source (n + length ps) more
-are-split source n [] more a = (tt, rw add-zero a)
-are-split source n (p ∷ ps) more a = let rest = are-split source (suc n) ps more (a .1) in ((a .0, rest .0), rw (add-suc, ← suc-add) (rest .1))
 
 -- of a function that stands at w, and of those that nest in it
 record Here (w : Where) (ps : List Prototype) : Type 0 where
@@ -101,10 +93,6 @@ function-here L zero = body-here L λ w. every-nothing
 function-here L (suc left) = body-here L λ w. every-then any λ _ _. function-here L left w
 
 -- ## The functions of a chunk
-are-all : (fs ps : List Prototype) (n : ℕ) → ((k : ℕ) → sourceOf fs (n + k) ≡ sourceOf ps k) → Are (sourceOf fs) n ps
-are-all fs [] n at = tt
-are-all fs (p ∷ ps) n at = (rw add-zero at (at 0), are-all fs ps (suc n) (λ k. rw (add-suc, ← suc-add) at (at (suc k))))
-
 -- all but main
 abbrev pub Nested : (Prototype → Type 0) → List Prototype → Type 0
 Nested P [] = Unit {0}

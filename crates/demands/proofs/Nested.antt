@@ -14,12 +14,12 @@ use lib.ListN.{length, take, drop, length-append, getElem?}
 use borrow.Author.Tests.{eq-eqb, ne-eqb}
 use Rattle.format.specs.declared.limits.ResourceLimits.{ResourceLimits}
 use Rattle.format.specs.declared.refusal.Refusal.the-variants.{TotalPrototypes, Prototypes}
-use Rattle.format.specs.Form.{Bytes, Form}
+use Rattle.format.specs.Form.{Bytes, All, Form}
 use Rattle.format.specs.Reading.{Reading, Prototype}
 use Rattle.format.specs.GrammarChunk.{Where, after, Loaded, reading}
 use Rattle.format.specs.Read.{Read, ok, refused, Reader}
 use Rattle.format.specs.ReadChunk.{forest, function, main, outcome, shown, read}
-use Rattle.format.proofs.Every.{All, all-append}
+use Rattle.format.proofs.Every.{all-append}
 use Rattle.format.proofs.Exact.{Exact, exact-atMost}
 use Rattle.format.proofs.ExactFields.{exact-field, exact-number}
 use Rattle.format.proofs.ExactHeader.{exact-header}

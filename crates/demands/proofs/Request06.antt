@@ -22,14 +22,13 @@ use mathlib.Core.Option.{Option, none, Option·map}
 use Prim.Native.Nat.{_≤_}
 use lib.ListN.{length}
 use Rattle.format.specs.declared.limits.ResourceLimits.{ResourceLimits}
-use Rattle.format.specs.Form.{Bytes, Below}
+use Rattle.format.specs.Form.{Bytes, All, Below}
 use Rattle.format.specs.GrammarFields.{LuaString}
 use Rattle.format.specs.Reading.{Prototype, Reading}
 use Rattle.format.specs.GrammarChunk.{Chunk}
 use Rattle.format.specs.ReadChunk.{shown, read}
 use Rattle.format.specs.Copy.{keptString, copy}
 use Rattle.format.specs.FullCopy.{equalSources, nestedSource, fullCopy}
-use Rattle.format.proofs.Every.{All}
 use Rattle.format.proofs.FullSources as sources
 use Rattle.format.proofs.ReadChunkLaws.{read-sound, read-complete}
 use Rattle.format_spelling.specs.Spelling.{paddedIn}

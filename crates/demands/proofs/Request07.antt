@@ -40,7 +40,6 @@ use Rattle.format_strict.proofs.StrictAgrees as agrees
 use Rattle.format_spelling.specs.ReadSpelling.{spelling}
 use Rattle.format_lua.specs.LundumpWithin.{LoadedWithin}
 use Rattle.format_lua.proofs.StrictLoaded.{strict-as-loaded}
-use Rattle.read_chunk.specs.Decoded.{summaryOf}
 use Rattle.show_chunk.specs.declared.summary.ChunkSummary.{ChunkSummary}
 use Rattle.show_chunk.specs.declared.summary.SummaryAnswer.the-variants as summary-answer
 use Rattle.show_chunk.specs.Summaries.{shownSummary}

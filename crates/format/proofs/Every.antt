@@ -5,7 +5,7 @@ use mathlib.Core.List.{List, [], _∷_, _++_}
 use mathlib.Core.Bool.{Bool, true, false}
 use Prim.Native.Nat.{ℕ, zero, suc, _<_, _^_, _-_}
 use lib.ListN.{length}
-use Rattle.format.specs.Form.{Bytes, Form, Then, Is, Given, Nothing, When, Run, Many}
+use Rattle.format.specs.Form.{Bytes, All, Form, Then, Is, Given, Nothing, When, Run, Many}
 use Rattle.format.specs.GrammarFields.{Number}
 
 pub record Every {A : Type 0} (F : Form A) (P : A → Type 0) : Type 0 where
@@ -39,10 +39,6 @@ every-number = record { holds = λ at b v d. d .fits }
 
 pub every-run : (n : ℕ) → Every (Run n) (λ b. length b ≡ n)
 every-run n = record { holds = λ at b y d. rw (d .0) at (d .1) }
-
-abbrev pub All : {A : Type 0} → (A → Type 0) → List A → Type 0
-All P [] = Unit {0}
-All P (x ∷ xs) = P x × All P xs
 
 pub all-any : {A : Type 0} (xs : List A) → All Any xs
 all-any [] = tt

@@ -14,7 +14,7 @@ use lib.Seq.{length-take-le}
 use Rattle.format.specs.declared.limits.ResourceLimits.{ResourceLimits}
 use Rattle.format.specs.declared.refusal.Refusal.{Refusal}
 use Rattle.format.specs.declared.refusal.Refusal.the-variants.{StringBytes, Instructions, TotalInstructions, Constants, Upvalues, Prototypes, TotalPrototypes}
-use Rattle.format.specs.Form.{Bytes, Form}
+use Rattle.format.specs.Form.{Bytes, All, Form}
 use Rattle.format.specs.GrammarFields.{LuaString}
 use Rattle.format.specs.Reading.{Prototype}
 use Rattle.format.specs.GrammarChunk.{Listed, inherit, Where, after, within, Loaded}
@@ -25,7 +25,7 @@ use Rattle.format.proofs.Exact.{Exact, never, exact-then, exact-place, 
 use Rattle.format.proofs.ExactFields.{exact-field, exact-number, exact-string}
 use Rattle.format.proofs.ExactHeader.{exact-header}
 use Rattle.format.proofs.ExactChunk.{exact-countedUpTo, exact-counted, exact-constant, exact-upvalue, exact-anchor, exact-local, exact-refuse, exact-forest, exact-function}
-use Rattle.format.proofs.Every.{every-many, every-run, All, all-append}
+use Rattle.format.proofs.Every.{every-many, every-run, all-append}
 use Rattle.format.proofs.Every as every
 use Rattle.format.proofs.Left.{left}
 use Rattle.format.proofs.Steps.{run-was}

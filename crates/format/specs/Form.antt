@@ -10,10 +10,14 @@ infixl 10 _>>=_ _>>_
 abbrev pub Bytes : Type 0
 Bytes = List ℕ
 
+-- P holds of each
+abbrev pub All : {A : Type 0} → (A → Type 0) → List A → Type 0
+All P [] = Unit {0}
+All P (x ∷ xs) = P x × All P xs
+
 -- each is below n: the bytes of a file are numbers below 256
 abbrev pub Below : ℕ → List ℕ → Type 0
-Below n [] = Unit {0}
-Below n (x ∷ xs) = (x < n) × Below n xs
+Below n xs = All (λ x. x < n) xs
 
 abbrev pub Form : Type 0 → Type 1
 Form A = ℕ → Bytes → A → Type 0

@@ -14,7 +14,7 @@ use mathlib.Core.Bool.{Bool, true, false}
 use mathlib.Core.List.{List, [], _∷_, _++_, map}
 use mathlib.Core.Option.{none}
 use lib.ListN.{replicate}
-use Rattle.format.specs.Form.{Bytes}
+use Rattle.format.specs.Form.{Bytes, All}
 use Rattle.format.specs.Limits.{ceilings}
 use Rattle.format.specs.Reading.{Prototype, Reading}
 use Rattle.format.specs.ReadHeader.{sameBytes}
@@ -24,7 +24,6 @@ use Rattle.format.specs.Copy.{listBytes, behindSource, copy}
 use Rattle.format.specs.FullCopy.{allWithin, fullFunction, fullCopy}
 use Rattle.format_lua.specs.Ldump.{dumpSize}
 use Rattle.format_lua.specs.LdumpFunctions.{dumpFunction, «luaU_dump»}
-use Rattle.format.proofs.Every.{All}
 use Rattle.format.proofs.Distinct.{functionsOf}
 use Rattle.format.proofs.ReadChunkLaws.{read-sound}
 use Rattle.format_lua.proofs.LdumpWhole.{sourceOf, AsLua, AsStripped, copy-as-dumped}

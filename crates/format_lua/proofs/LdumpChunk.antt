@@ -17,9 +17,9 @@ use Rattle.format.specs.Shortest.{shortest}
 use Rattle.format.specs.Copy.{fieldBytes, optionBytes, constantBytes, upvalueBytes, anchorBytes, localBytes, listBytes, behindSource}
 use Rattle.format_lua.specs.LdumpFunctions.{dumpString, dumpEach, isShort, dumpConstant, Dump, dumpAbsLineInfo, dumpLocVar, upvalueNames, dumpDebug, dumpSource, dumpFunction}
 use Rattle.format.specs.ReadHeader.{sameBytes}
-use Rattle.format.specs.Form.{Bytes}
+use Rattle.format.specs.Form.{Bytes, All}
 use Rattle.format.specs.GrammarFields.{LuaString}
-use Rattle.format.proofs.Every.{All, all-any}
+use Rattle.format.proofs.Every.{all-any}
 use Rattle.format_lua.proofs.LdumpLaws.{dumped}
 
 abbrev pub Fits : ℕ → Type 0

@@ -13,12 +13,12 @@ use Prim.Native.Nat.{ℕ, zero, suc, _+_, _≤_}
 use native.Mathlib.Omega.{arith}
 use native.Mathlib.Numerals.{add-one}
 use native.Mathlib.Nat.{add-zero, zero-add, add-suc, suc-add}
-use lib.Dec.{T, eqb, eqb-refl, lit<}
+use lib.Dec.{eqb, eqb-refl, lit<}
 use borrow.Author.Tests.{le-leb}
 use lib.ListN.{length, take, drop, length-drop}
 use lib.Seq.{take-at, drop-at, take-all}
 use Rattle.format.specs.declared.limits.ResourceLimits.{ResourceLimits}
-use Rattle.format.specs.Form.{Bytes, Form}
+use Rattle.format.specs.Form.{Bytes, All, Form}
 use Rattle.format.specs.GrammarFields.{LuaString}
 use Rattle.format.specs.Reading.{Prototype, Reading}
 use Rattle.format.specs.GrammarChunk.{Where, after, within, inherit, outermost, Forest, Body, Function, Loaded, Chunk}
@@ -26,12 +26,12 @@ use Rattle.format.specs.ReadHeader.{sameBytes}
 use Rattle.format.specs.Copy.{fieldBytes, optionBytes, behindSource, headerBytes, upvaluesOfMain}
 use Rattle.format.specs.FullCopy.{equalSources, nestedSource, Within, allWithin, fullFunction, fullNest, fullFunctions, fullCopy}
 use Rattle.format_lua.specs.LdumpFunctions.{isShort, object, Dump, sameSource, dumpString, dumpSource, dumpFunction, dumpNested, «luaU_dump»}
-use Rattle.format.proofs.Every.{Every, any, every-then, every-is, every-nothing, All, all-split}
+use Rattle.format.proofs.Every.{Every, any, every-then, every-is, every-nothing, all-split}
 use Rattle.format.proofs.ExactHeader.{same-eq}
 use Rattle.format_lua.proofs.LdumpLaws.{dumped}
 use Rattle.format_lua.proofs.LdumpChunk.{StringFits, FunctionFits, TaggedByLength, Named, Alike, string-is, copied-as-dumped}
 use Rattle.format_lua.proofs.LdumpKnown.{There, functions-known}
-use Rattle.format_lua.proofs.LdumpWhole.{sourceOf}
+use Rattle.format_lua.proofs.LdumpWhole.{sourceOf, true-T, T-true}
 
 -- two sources are one object exactly where the full copy takes them for the same
 abbrev Pointed : Option LuaString → Option LuaString → Type 0
@@ -55,12 +55,6 @@ and-true false = refl
 and-same : (b c : Bool) → (b ≡ true → c ≡ true) → b && c ≡ b
 and-same true c h = h refl
 and-same false c h = refl
-
-T-true : (b : Bool) → T b → b ≡ true
-T-true true t = refl
-
-true-T : {b : Bool} → b ≡ true → T b
-true-T e = rw e tt
 
 -- strings of the same bytes are as long, so both are short
 pub short-object : (source : Option LuaString) (t : LuaString) → length (t .bytes) ≤ 40 → sameSource source (some t) ≡ equalSources source (some t)
@@ -88,11 +82,11 @@ source-is psource source h e = ap (λ b. cond b (dumpString none) (dumpString so
 
 -- ## Functions, one after the other: what both make of them
 -- by the sources of all functions of the chunk: each of these has its own, from the number n on
-abbrev Are : (ℕ → Option LuaString) → ℕ → List Prototype → Type 0
+abbrev pub Are : (ℕ → Option LuaString) → ℕ → List Prototype → Type 0
 Are source n [] = Unit {0}
 Are source n (p ∷ ps) = (source n ≡ p .source-name) × Are source (suc n) ps
 
-are-split : (source : ℕ → Option LuaString) (n : ℕ) (ps more : List Prototype) → Are source n (ps ++ more) → Are source n ps × Are source (n + length ps) more
+pub are-split : (source : ℕ → Option LuaString) (n : ℕ) (ps more : List Prototype) → Are source n (ps ++ more) → Are source n ps × Are source (n + length ps) more
 are-split source n [] more a = (tt, rw add-zero a)
 are-split source n (p ∷ ps) more a = let rest = are-split source (suc n) ps more (a .1) in ((a .0, rest .0), rw (add-suc, ← suc-add) (rest .1))
 
@@ -202,7 +196,7 @@ function-both L zero = body-both L λ w. every-nothing
 function-both L (suc left) = body-both L λ w. every-then any λ _ _. function-both L left w
 
 -- ## The whole
-are-all : (fs ps : List Prototype) (n : ℕ) → ((k : ℕ) → sourceOf fs (n + k) ≡ sourceOf ps k) → Are (sourceOf fs) n ps
+pub are-all : (fs ps : List Prototype) (n : ℕ) → ((k : ℕ) → sourceOf fs (n + k) ≡ sourceOf ps k) → Are (sourceOf fs) n ps
 are-all fs [] n at = tt
 are-all fs (p ∷ ps) n at = (rw add-zero at (at 0), are-all fs ps (suc n) (λ k. rw (add-suc, ← suc-add) at (at (suc k))))
 

@@ -14,10 +14,10 @@ use lib.Dec.{eqb, lit<}
 use lib.ListN.{length}
 use Rattle.format.specs.Reading.{Prototype, Reading}
 use Rattle.format.specs.declared.limits.ResourceLimits.{ResourceLimits}
-use Rattle.format.specs.Form.{Bytes, Form}
+use Rattle.format.specs.Form.{Bytes, All, Form}
 use Rattle.format.specs.GrammarFields.{LuaString, Content, String}
 use Rattle.format.specs.GrammarChunk.{Counted, CountedUpTo, Always, Tagged, Constant, Anchor, Local, Where, after, within, inherit, Forest, Body, Function, Loaded, outermost, Chunk}
-use Rattle.format.proofs.Every.{Every, any, every-then, every-is, every-nothing, every-when, every-number, every-run, every-many, All, all-append}
+use Rattle.format.proofs.Every.{Every, any, every-then, every-is, every-nothing, every-when, every-number, every-run, every-many, all-append}
 use Rattle.format_lua.proofs.LdumpChunk.{Fits, StringFits, ConstantFits, AnchorFits, LocalFits, ListFits, FunctionFits}
 
 -- ## In what was read every number fits

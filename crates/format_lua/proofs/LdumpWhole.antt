@@ -16,14 +16,13 @@ use lib.Dec.{T, lit<, ltb, eqb, eqb→eq, eqb-refl}
 use borrow.Author.Tests.{ltb-true, ltb-false}
 use lib.ListN.{length, take, drop}
 use Rattle.format.specs.declared.limits.ResourceLimits.{ResourceLimits}
-use Rattle.format.specs.Form.{Bytes}
+use Rattle.format.specs.Form.{Bytes, All}
 use Rattle.format.specs.GrammarFields.{LuaString}
 use Rattle.format.specs.Reading.{Prototype, Reading}
 use Rattle.format.specs.GrammarChunk.{Chunk}
 use Rattle.format.specs.ReadHeader.{sameBytes}
 use Rattle.format.specs.Copy.{fieldBytes, optionBytes, nest, functionsBytes, headerBytes, upvaluesOfMain, copy}
 use Rattle.format_lua.specs.LdumpFunctions.{object, Dump, sameSource, dumpSource, dumpNested, dumpHeader, «luaU_dump»}
-use Rattle.format.proofs.Every.{All}
 use Rattle.format.proofs.ExactHeader.{both, both-of, same-eq, same-refl}
 use Rattle.format_lua.proofs.LdumpLaws.{dumped}
 use Rattle.format_lua.proofs.LdumpChunk.{StringFits, FunctionFits, TaggedByLength, Named, Alike, string-is, copied-as-dumped}
@@ -59,10 +58,10 @@ abbrev key : Option LuaString → List ℕ
 key none = []
 key (some s) = object s ∷ s .bytes
 
-true-T : {b : Bool} → b ≡ true → T b
+pub true-T : {b : Bool} → b ≡ true → T b
 true-T e = rw e tt
 
-T-true : (b : Bool) → T b → b ≡ true
+pub T-true : (b : Bool) → T b → b ≡ true
 T-true true h = refl
 
 key-of : (s t : Option LuaString) → sameSource s t ≡ true → key s ≡ key t

@@ -18,7 +18,7 @@ use lib.Dec.{eqb}
 use lib.ListN.{length}
 use Rattle.format.specs.declared.limits.ResourceLimits.{ResourceLimits}
 use Rattle.format.specs.declared.entry.AbsLineInfo.{AbsLineInfo}
-use Rattle.format.specs.Form.{Bytes, Below, Form, Then, Is, Here, Spelt}
+use Rattle.format.specs.Form.{Bytes, All, Below, Form, Then, Is, Here, Spelt}
 use Rattle.format.specs.GrammarFields.{Byte, Number, LuaString}
 use Rattle.format.specs.GrammarFields as ours
 use Rattle.format.specs.GrammarHeader.{Headed, Header, headerOf, formatWarnings}
@@ -30,7 +30,7 @@ use Rattle.format_lua.specs.LundumpFunctions.{Undump}
 use Rattle.format_lua.specs.LundumpWithin.{FunctionsWithin}
 use Rattle.format.proofs.Build.{skip, last}
 use Rattle.format.proofs.Below.{below-split}
-use Rattle.format.proofs.Every.{Any, any, every-run, every-many, All, all-any, all-split}
+use Rattle.format.proofs.Every.{Any, any, every-run, every-many, all-any, all-split}
 use Rattle.format.proofs.Wider.{same-wider}
 use Rattle.format_lua.proofs.WiderIf.{WiderIf, unasked, none-if, ends, learns, tested, knows, untested, by-test, many-if, unplaced}
 use Rattle.format_lua.proofs.LundumpChunk.{undumped}

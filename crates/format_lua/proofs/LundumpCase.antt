@@ -14,13 +14,12 @@ use mathlib.Core.Option.{Option, none, some}
 use Prim.Native.Nat.{ℕ, zero, suc}
 use native.Mathlib.Omega.{arith}
 use lib.ListN.{replicate, set, take}
-use Rattle.format.specs.Form.{Bytes}
+use Rattle.format.specs.Form.{Bytes, All}
 use Rattle.format.specs.Limits.{ceilings}
 use Rattle.format.specs.GrammarChunk.{Loaded, outermost, reading}
 use Rattle.format_lua.specs.LundumpFunctions.{LoadFunction, Undump}
 use Rattle.format_lua.specs.LundumpWithin.{FunctionsWithin}
 use Rattle.format.specs.ReadChunk.{shown, read}
-use Rattle.format.proofs.Every.{All}
 use Rattle.format_lua.proofs.LundumpChunk.{loaded-is-read}
 use Rattle.format_lua.proofs.LundumpBack.{Loadable}
 use Rattle.format_lua.proofs.LundumpRead.{take-function, loads, loads-exactly, never-loads}

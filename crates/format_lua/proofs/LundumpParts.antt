@@ -11,7 +11,7 @@ use mathlib.Core.Option.{Option, none, some, Option·getD}
 use Prim.Native.Nat.{ℕ, zero, suc, _+_, _≤_}
 use lib.Dec.{eqb}
 use lib.ListN.{length}
-use Rattle.format.specs.Form.{Bytes, Below, Form}
+use Rattle.format.specs.Form.{Bytes, All, Below, Form}
 use Rattle.format.specs.GrammarFields.{Number, LuaString, String}
 use Rattle.format.specs.GrammarFields as ours
 use Rattle.format.specs.GrammarChunk.{Always}
@@ -22,7 +22,7 @@ use Rattle.format.proofs.Build.{skip, last}
 use Rattle.format_strict.proofs.StrictLaws.{int-number, int-small}
 use Rattle.format.proofs.ExactFields.{exact-number}
 use Rattle.format_lua.proofs.LundumpLaws.{Ours, size-exactly, int-exactly}
-use Rattle.format.proofs.Every.{any, every-run, every-many, All}
+use Rattle.format.proofs.Every.{any, every-run, every-many}
 use Rattle.format.proofs.Wider.{Wider, then-wider, behind, so, many-wider, same-wider}
 use Rattle.format_lua.proofs.WiderIf.{WiderIf, ends, learns, tested, knows, untested, limited, by-test, unasked, none-if, many-if}
 

@@ -15,7 +15,7 @@ use native.Mathlib.Nat.{add-zero}
 use lib.Dec.{eqb}
 use lib.ListN.{length, length-append}
 use Rattle.format.specs.declared.limits.ResourceLimits.{ResourceLimits}
-use Rattle.format.specs.Form.{Bytes, Below, Form, Then, Is, Given, Nothing, When, Run, Many}
+use Rattle.format.specs.Form.{Bytes, All, Below, Form, Then, Is, Given, Nothing, When, Run, Many}
 use Rattle.format.specs.GrammarFields.{LuaString, Number, String}
 use Rattle.format.specs.GrammarFields as ours
 use Rattle.format.specs.Reading.{Prototype, Reading}
@@ -23,7 +23,7 @@ use Rattle.format.specs.GrammarChunk.{inherit, instructionsOf, Where, after, wi
 use Rattle.format_strict.specs.GrammarStrict.{Int, StrictCounted, StrictCountedUpTo, There, Present, StrictConstant, StrictAnchor, StrictLocal, StrictBody, StrictFunction, StrictHeader, StrictMain, StrictChunk}
 use Rattle.format_lua.specs.LundumpFunctions.{LoadSize, LoadInt, Content, LoadStringN, NotNull, LoadString, LoadCounted, LoadConstant, LoadAbsLineInfo, LoadLocVar, LoadProtos, LoadFunction, CheckHeader, Undump}
 use Rattle.format_lua.specs.LundumpWithin.{BytesWithin, StringWithin, ConstantWithin, LocalWithin, FunctionWithin, FunctionsWithin, LoadedWithin}
-use Rattle.format.proofs.Every.{Any, every-run, All, all-append}
+use Rattle.format.proofs.Every.{Any, every-run, all-append}
 use Rattle.format.proofs.Totals.{instructions-append}
 use Rattle.format.proofs.Build.{skip}
 use Rattle.format.proofs.Below.{below-split}

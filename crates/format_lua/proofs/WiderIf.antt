@@ -8,9 +8,9 @@ use mathlib.Core.Bool.{Bool, true, false}
 use mathlib.Core.List.{_++_}
 use Prim.Native.Nat.{ℕ, zero, suc}
 use native.Mathlib.Nat.{add-zero}
-use Rattle.format.specs.Form.{Bytes, Form, Then, Is, Here, Given, Nothing, When, Many}
+use Rattle.format.specs.Form.{Bytes, All, Form, Then, Is, Here, Given, Nothing, When, Many}
 use Rattle.format.proofs.Build.{skip}
-use Rattle.format.proofs.Every.{Every, Any, any, All}
+use Rattle.format.proofs.Every.{Every, Any, any}
 use Rattle.format.proofs.Wider.{Wider, opened, known}
 
 pub record WiderIf {A : Type 0} (P : A → Type 0) (R : Type 0) (F G : Form A) : Type 0 where

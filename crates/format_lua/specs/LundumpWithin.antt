@@ -8,11 +8,10 @@ use mathlib.Core.Option.{Option, none, some}
 use Prim.Native.Nat.{ℕ, suc, _+_, _≤_}
 use lib.ListN.{length}
 use Rattle.format.specs.declared.limits.ResourceLimits.{ResourceLimits}
-use Rattle.format.specs.Form.{Bytes}
+use Rattle.format.specs.Form.{Bytes, All}
 use Rattle.format.specs.GrammarFields.{LuaString}
 use Rattle.format.specs.Reading.{ConstantValue, nil, boolean, integer, float, short-string, long-string, LocalVar, Prototype, Reading}
 use Rattle.format.specs.GrammarChunk.{instructionsOf, Where, Loaded, outermost, reading}
-use Rattle.format.proofs.Every.{All}
 use Rattle.format_lua.specs.LundumpFunctions.{Undump}
 
 -- ## Strings and entries, by the limit on strings

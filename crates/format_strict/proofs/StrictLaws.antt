@@ -4,28 +4,26 @@
 --     strict-is-read                                   what is read strictly is read, with the same reading
 --     int-number, int-small                            an int is a number below 2^31 - 128
 -- Assumes nothing.
-use mathlib.Core.Path.{_≡_, refl, sym, _∙_, ap}
+use mathlib.Core.Path.{_≡_, refl, _∙_, ap}
 use mathlib.Core.Bool.{Bool, true, false, cond}
 use mathlib.Core.List.{List, [], _∷_, _++_, append-nil}
 use mathlib.Core.Option.{Option, none, some, Option·getD}
-use Prim.Native.Nat.{ℕ, zero, suc, _+_, _-_, _^_, _≤_, _<_}
-use native.Mathlib.Omega.{arith}
+use Prim.Native.Nat.{ℕ, zero, suc, _-_, _^_, _≤_, _<_}
 use native.Mathlib.Nat.{zero-add, add-zero}
 use lib.Dec.{eqb, leb}
 use borrow.Author.Tests.{leb-true, le-leb}
 use lib.ListN.{length}
 use Rattle.format.specs.declared.limits.ResourceLimits.{ResourceLimits}
-use Rattle.format.specs.declared.refusal.Refusal.{Refusal}
 use Rattle.format.specs.declared.refusal.Refusal.the-variants.{InputBytes, LimitAboveCeiling}
 use Rattle.format.specs.Form.{Bytes, Form, Then, Is, Here, Given, Spelt}
 use Rattle.format.specs.Limits.{withinCeilings}
-use Rattle.format.specs.GrammarFields.{LuaString, Number, String, Byte, little}
+use Rattle.format.specs.GrammarFields.{LuaString, Number, Byte, little}
 use Rattle.format.specs.GrammarHeader.{Header}
 use Rattle.format.specs.Reading.{Prototype, Reading}
-use Rattle.format.specs.GrammarChunk.{Counted, CountedUpTo, Always, Tagged, Constant, Anchor, Local, Where, after, Forest, Body, Function, Loaded, Main, reading, Chunk}
-use Rattle.format_strict.specs.GrammarStrict.{Int, StrictCounted, StrictCountedUpTo, There, Present, StrictTagged, StrictConstant, StrictAnchor, StrictLocal, StrictBody, StrictFunction, StrictHeader, StrictMain, StrictChunk}
+use Rattle.format.specs.GrammarChunk.{Counted, CountedUpTo, Always, Constant, Anchor, Local, Where, Body, Function, Loaded, Main, reading, Chunk}
+use Rattle.format_strict.specs.GrammarStrict.{Int, StrictCounted, StrictCountedUpTo, There, Present, StrictConstant, StrictAnchor, StrictLocal, StrictBody, StrictFunction, StrictHeader, StrictMain, StrictChunk}
 use Rattle.format.specs.Read.{Read, ok, refused}
-use Rattle.format.specs.ReadChunk.{Outcome, shown, refusal, outcome, read}
+use Rattle.format.specs.ReadChunk.{shown, refusal, outcome, read}
 use Rattle.format_strict.specs.ReadStrict.{strictMain, strictRead}
 use Rattle.format.proofs.Exact.{Split}
 use Rattle.format_strict.proofs.ExactStrict.{exact-strictMain}

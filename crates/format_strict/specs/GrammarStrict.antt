@@ -2,7 +2,7 @@
 -- It differs from the ordinary one (crates/format/specs/GrammarChunk.antt) in three places: the format byte is 0; every number but a string's size is an int, below 2^31 - 128; a string constant is there.
 -- Each production names the function of lundump.c that loads it. What does not differ is the ordinary grammar's: fields, numbers, strings, upvalues, the rest of the header, what is shown.
 use mathlib.Core.Path.{_≡_}
-use mathlib.Core.Bool.{Bool, true, false}
+use mathlib.Core.Bool.{true, false}
 use mathlib.Core.List.{List, [], _∷_, _++_}
 use mathlib.Core.Option.{Option, none, some}
 use Prim.Native.Nat.{ℕ, zero, suc, _+_, _-_, _^_, _≤_, _<_}
@@ -10,11 +10,11 @@ use lib.Dec.{eqb}
 use lib.ListN.{length}
 use Rattle.format.specs.declared.limits.ResourceLimits.{ResourceLimits}
 use Rattle.format.specs.declared.entry.AbsLineInfo.{AbsLineInfo}
-use Rattle.format.specs.Form.{Bytes, Form, Then, _>>=_, _>>_, Is, Here, Given, Spelt, Nothing, When, Run, Many}
+use Rattle.format.specs.Form.{Bytes, Form, _>>=_, _>>_, Is, Here, Given, Spelt, Nothing, When, Run, Many}
 use Rattle.format.specs.GrammarFields.{Field, Byte, Number, LuaString, String}
 use Rattle.format.specs.GrammarHeader.{Headed, headerOf, BeforeFormat, BehindFormat}
 use Rattle.format.specs.Reading.{ConstantValue, nil, boolean, integer, float, short-string, long-string, LocalVar, Prototype, Reading}
-use Rattle.format.specs.GrammarChunk.{Listed, Always, Upvalue, inherit, Where, after, within, prototype, Forest, Loaded, outermost, reading}
+use Rattle.format.specs.GrammarChunk.{Listed, Always, Upvalue, inherit, Where, within, prototype, Forest, Loaded, outermost, reading}
 
 -- ## Ints: numbers that `loadInt` reads. `loadUnsigned` takes a further byte while what it has is below INT_MAX >> 7 = 2^24 - 1; so an int is below (2^24 - 1) * 128. (crates/format_lua: it is so.)
 abbrev pub Int : Form ℕ

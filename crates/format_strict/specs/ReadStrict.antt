@@ -2,8 +2,8 @@
 --     31   a format byte other than 0, right after that byte
 --     32   a number that lundump.c reads as an int, from 2^31 - 128 on, when it is complete: before anything is made of it. (Cut short it is 1, and from 2^64 - 128 on 3: both are found earlier.)
 --     33   a string constant of size 0, right after the size
-use mathlib.Core.Bool.{Bool, true, false, cond}
-use mathlib.Core.List.{List, [], _∷_, _++_}
+use mathlib.Core.Bool.{true, false, cond}
+use mathlib.Core.List.{List, [], _∷_}
 use mathlib.Core.Option.{Option, none, some}
 use Prim.Native.Nat.{ℕ, zero, suc, _+_, _-_, _^_}
 use lib.Dec.{eqb, leb, ltb}
@@ -30,12 +30,12 @@ use Rattle.format.specs.Form.{Bytes}
 use Rattle.format.specs.GrammarFields.{LuaString}
 use Rattle.format.specs.GrammarHeader.{Headed, headerOf}
 use Rattle.format.specs.Limits.{withinCeilings}
-use Rattle.format.specs.Reading.{ConstantValue, nil, boolean, integer, float, short-string, long-string, LocalVar, Prototype, Reading}
-use Rattle.format.specs.GrammarChunk.{Listed, inherit, Where, within, prototype, outermost, Loaded, reading}
-use Rattle.format.specs.Read.{Read, ok, refused, Reader, next, _>>=_, _>>_, give, here, refuse, test, atMost, run, many}
+use Rattle.format.specs.Reading.{ConstantValue, nil, boolean, integer, float, short-string, long-string, LocalVar, Prototype}
+use Rattle.format.specs.GrammarChunk.{Listed, inherit, Where, within, prototype, outermost, Loaded}
+use Rattle.format.specs.Read.{Reader, next, _>>=_, _>>_, give, here, refuse, test, atMost, run, many}
 use Rattle.format.specs.ReadFields.{field, byte, number, string}
 use Rattle.format.specs.ReadHeader.{expect, beforeFormat, behindFormat}
-use Rattle.format.specs.ReadChunk.{always, upvalue, forest, Outcome, shown, refusal, outcome}
+use Rattle.format.specs.ReadChunk.{always, upvalue, forest, Outcome, refusal, outcome}
 
 abbrev pub int : Reader ℕ
 int = do

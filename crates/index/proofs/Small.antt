@@ -12,11 +12,11 @@ use native.Mathlib.Omega.{arith}
 use lib.ListN.{length, length-append}
 use Rattle.format.specs.Limits.{DEEPEST, MOST}
 use Rattle.format.specs.declared.limits.ResourceLimits.{ResourceLimits}
-use Rattle.format.specs.Form.{Bytes, Form, Then, Is, Here, Given, Nothing, Run, Many}
+use Rattle.format.specs.Form.{Bytes, All, Form, Then, Is, Here, Given, Nothing, Run, Many}
 use Rattle.format.specs.GrammarFields.{Field, Number}
 use Rattle.format.specs.Reading.{Prototype}
 use Rattle.format.specs.GrammarChunk.{Listed, Counted, CountedUpTo, inherit, Where, after, within, Forest, Body, Function, Main, Loaded}
-use Rattle.format.proofs.Every.{All, all-append}
+use Rattle.format.proofs.Every.{all-append}
 use Rattle.index.specs.Index.{indexRow, index}
 use Rattle.index_row.specs.Inner.Stored.{low, stored}
 

@@ -20,8 +20,8 @@ use lib.Seq.{set-out, take-set-le, take-set-lt, drop-set-lt, drop-set-add}
 use mir.Syntax.{w8}
 use mir.Val.{toZ}
 use Rattle.format.specs.declared.entry.AbsLineInfo.{AbsLineInfo}
-use Rattle.format.specs.Form.{Bytes}
-use Rattle.format.proofs.Every.{All, all-append}
+use Rattle.format.specs.Form.{Bytes, All}
+use Rattle.format.proofs.Every.{all-append}
 use Rattle.line_lookup.specs.Lines.{rule2, baseOf, stepped, walked, raised, lineOf}
 use Rattle.line_batch.specs.Batch.{numbersFrom, unlessGiven, walkedBy, has, walkedByAny, countBelow, deltasRead}
 use Rattle.line_batch.proofs.Counts.{within, within-true, has-from, count-same, count-joined, count-most, count-none}

@@ -13,8 +13,8 @@ use native.Mathlib.Omega.{arith}
 use borrow.Author.Tests.{leb-true, leb-false, ltb-true, ltb-false}
 use lib.Dec.{eqb, leb, ltb}
 use lib.ListN.{length, drop, getElem?}
+use Rattle.format.specs.Form.{All}
 use Rattle.format.specs.declared.entry.AbsLineInfo.{AbsLineInfo}
-use Rattle.format.proofs.Every.{All}
 use Rattle.line_lookup.specs.Lines.{rule2}
 use Rattle.line_batch.specs.Batch.{orderedFrom, neverFalls}
 use Rattle.line_batch.specs.Inner.Numbered.{Passed, passUp, passTo, numberedFrom, nonePassed}

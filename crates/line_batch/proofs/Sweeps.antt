@@ -19,8 +19,7 @@ use lib.Seq.{drop-append-le, drop-append-add, take-take, drop-length, drop-at}
 use mir.Syntax.{w8}
 use mir.Val.{toZ}
 use Rattle.format.specs.declared.entry.AbsLineInfo.{AbsLineInfo}
-use Rattle.format.specs.Form.{Bytes}
-use Rattle.format.proofs.Every.{All}
+use Rattle.format.specs.Form.{Bytes, All}
 use Rattle.line_lookup.specs.Lines.{baseOf, walked, raised, byDeltas}
 use Rattle.line_lookup.specs.Inner.Scan.{added, summed}
 use Rattle.line_lookup.proofs.Rising.{RisingFrom, Rising}

@@ -19,8 +19,7 @@ use Rattle.format.specs.Limits.{MOST}
 use Rattle.format.specs.declared.entry.AbsLineInfo.{AbsLineInfo}
 use Rattle.format.specs.declared.refusal.Refusal.{Refusal}
 use Rattle.format.specs.declared.refusal.Refusal.the-variants.{LineTooLarge, LentSpace, AnchorOrder, PcOrder}
-use Rattle.format.specs.Form.{Bytes}
-use Rattle.format.proofs.Every.{All}
+use Rattle.format.specs.Form.{Bytes, All}
 use Rattle.line_lookup.specs.Lines.{rule1, rule2, rule3, baseOf, byDeltas, lineOf, large}
 use Rattle.line_lookup.proofs.Range.{all-low, base-low}
 use Rattle.line_lookup.proofs.Rising.{RisingFrom, Rising}

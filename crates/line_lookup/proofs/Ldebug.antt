@@ -16,8 +16,7 @@ use lib.Seq.{getD-take}
 use mir.Syntax.{w8}
 use mir.Val.{toZ}
 use Rattle.format.specs.declared.entry.AbsLineInfo.{AbsLineInfo}
-use Rattle.format.specs.Form.{Bytes}
-use Rattle.format.proofs.Every.{All}
+use Rattle.format.specs.Form.{Bytes, All}
 use Rattle.line_lookup.specs.Ldebug.{MAXIWTHABS, getbaseline, increments, «luaG_getfuncline»}
 use Rattle.line_lookup.specs.Lines.{baseOf, lineAt, walked, raised, byDeltas, lineOf}
 use Rattle.line_lookup.proofs.Fast.{from-head, from-none, next-is}

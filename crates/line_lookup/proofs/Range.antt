@@ -16,8 +16,7 @@ use mir.Syntax.{w8, w64}
 use mir.Val.{SFits, toZ}
 use Rattle.format.specs.Limits.{MOST}
 use Rattle.format.specs.declared.entry.AbsLineInfo.{AbsLineInfo}
-use Rattle.format.specs.Form.{Bytes}
-use Rattle.format.proofs.Every.{All}
+use Rattle.format.specs.Form.{Bytes, All}
 use Rattle.line_lookup.specs.Lines.{baseOf, lineAt, stepped, walked, large}
 use Rattle.line_lookup.specs.Inner.Scan.{added}
 use Rattle.line_lookup.proofs.Scans.{pick-both}

@@ -16,8 +16,8 @@ use borrow.Author.Tests.{leb-true, leb-false, le-leb, ne-eqb, eq-eqb}
 use lib.Dec.{leb}
 use lib.IntN.{ℤ, pos}
 use lib.ListN.{length, drop, getD, getElem?}
+use Rattle.format.specs.Form.{All}
 use Rattle.format.specs.declared.entry.AbsLineInfo.{AbsLineInfo}
-use Rattle.format.proofs.Every.{All}
 use Rattle.line_lookup.specs.Lines.{baseOf, lineAt}
 use Rattle.line_lookup.proofs.Scans.{pick-both}
 

@@ -7,12 +7,11 @@ use Prim.Native.Nat.{ℕ, zero, suc}
 use native.Mathlib.Omega.{arith}
 use lib.ListN.{length, drop, getElem?}
 use Rattle.format.specs.declared.limits.ResourceLimits.{ResourceLimits}
-use Rattle.format.specs.Form.{Bytes}
+use Rattle.format.specs.Form.{Bytes, All}
 use Rattle.format.specs.Reading.{Reading, Prototype}
 use Rattle.format.specs.GrammarChunk.{Loaded, reading}
 use Rattle.format.specs.Read.{Read, ok, refused}
 use Rattle.format.specs.ReadChunk.{main, outcome, Outcome, shown, refusal, read}
-use Rattle.format.proofs.Every.{All}
 use Rattle.format.proofs.ExactChunk.{exact-main}
 use Rattle.format.proofs.Left.{left}
 use Rattle.format.proofs.Located.{Located, all-located}

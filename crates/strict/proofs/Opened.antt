@@ -5,13 +5,12 @@
 --     in-ceilings                  what a walk asks of the limits
 --     refused-so, same-reading     the answer, by what judging showed
 -- Assumes nothing.
-use mathlib.Core.Path.{_≡_, refl, sym, _∙_, ap}
-use mathlib.Core.Bool.{Bool, true, false, cond, _&&_}
+use mathlib.Core.Path.{_≡_, sym, _∙_, ap}
+use mathlib.Core.Bool.{true, false}
 use mathlib.Core.List.{List, [], _∷_}
 use Prim.Native.Nat.{ℕ, _≤_, _<_}
 use native.Mathlib.Omega.{arith}
-use borrow.Author.Tests.{leb-true, le-leb, lt-leb}
-use lib.Dec.{leb}
+use borrow.Author.Tests.{le-leb, lt-leb}
 use lib.ListN.{length, drop}
 use Rattle.format.specs.declared.limits.ResourceLimits.{ResourceLimits}
 use Rattle.format.specs.declared.refusal.Refusal.{Refusal}
@@ -19,17 +18,17 @@ use Rattle.format.specs.declared.refusal.Refusal.the-variants.{LimitAboveCeilin
 use Rattle.format.specs.Form.{Bytes, Form, Then, Is}
 use Rattle.format.specs.Limits.{withinCeilings}
 use Rattle.format.specs.GrammarFields.{Byte, little}
-use Rattle.format.specs.Reading.{Prototype, Reading}
+use Rattle.format.specs.Reading.{Prototype}
 use Rattle.format.specs.GrammarHeader.{Headed, headerOf}
 use Rattle.format.specs.GrammarChunk.{outermost, Loaded, reading}
-use Rattle.format.specs.Read.{Read, ok, refused, Reader, next, _>>=_, _>>_, give, run}
+use Rattle.format.specs.Read.{Read, ok, refused, Reader, next, _>>=_, give, run}
 use Rattle.format.specs.ReadFields.{byte}
 use Rattle.format.specs.ReadHeader.{expect, beforeFormat, behindFormat}
-use Rattle.format.specs.ReadChunk.{shown, refusal, outcome, read}
+use Rattle.format.specs.ReadChunk.{shown, outcome, read}
 use Rattle.format.proofs.Exact.{Exact, exact-give, exact-then}
 use Rattle.format.proofs.ExactFields.{exact-field}
 use Rattle.format_strict.specs.GrammarStrict.{StrictHeader}
-use Rattle.format_strict.specs.ReadStrict.{strictHeader, strictFunction, strictMain, strictRead}
+use Rattle.format_strict.specs.ReadStrict.{strictFunction, strictMain, strictRead}
 use Rattle.format_strict.proofs.ExactStrict.{exact-strictHeader}
 use Rattle.format_strict.proofs.StrictLaws.{strict-is-read}
 use Rattle.slice.specs.declared.cursor.Cursor.{Cursor}

@@ -20,7 +20,7 @@ use Rattle.format.specs.Reading.{LocalVar}
 use Rattle.format.specs.Read.{Read, ok, refused, Reader, next, _>>_, _>>=_, give, run}
 use Rattle.format.specs.ReadFields.{field, string}
 use Rattle.format.proofs.ExactFields.{exact-field}
-use Rattle.format_strict.specs.ReadStrict.{int, there, present, strictTagged, strictConstant, strictAnchor, strictLocal}
+use Rattle.format_strict.specs.ReadStrict.{int, there, strictTagged, strictConstant, strictAnchor, strictLocal}
 use Rattle.slice.specs.declared.cursor.Cursor.{Cursor}
 use Rattle.slice.specs.declared.cursor.CursorResult.{CursorResult}
 use Rattle.slice.specs.declared.cursor.CursorResult.the-variants as cursor

@@ -7,7 +7,6 @@ use lib.ListN.{drop}
 use Rattle.format.specs.declared.refusal.Refusal.{Refusal}
 use Rattle.format.specs.declared.refusal.Refusal.the-variants.{IntOverflow}
 use Rattle.format.specs.Form.{Bytes}
-use Rattle.format.specs.Read.{_>>_, give, test}
 use Rattle.format.specs.ReadFields.{number}
 use Rattle.format.proofs.ExactFields.{exact-number}
 use Rattle.format_strict.specs.ReadStrict.{int}

@@ -1,3 +1,4 @@
 pub mod Chains
+mod Turns
 pub mod Ints
 pub mod Entries

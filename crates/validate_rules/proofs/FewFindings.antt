@@ -6,7 +6,7 @@ use mathlib.Core.Option.{Option, none, some}
 use Prim.Native.Nat.{ℕ, _+_, _≤_}
 use native.Mathlib.Omega.{arith}
 use lib.ListN.{length}
-use Rattle.format.proofs.Every.{All}
+use Rattle.format.specs.Form.{All}
 use Rattle.word_opcodes.specs.declared.opcode.OptionOpcode54.{OptionOpcode54}
 use Rattle.word_opcodes.specs.declared.opcode.OptionOpcode54.the-variants as option
 use Rattle.word_fields.specs.declared.instruction.RawInstruction54.{RawInstruction54}

@@ -9,8 +9,8 @@ use lib.ListN.{length, length-append}
 use lib.Dec.{leb}
 use borrow.Author.Tests.{leb-true, leb-false, le-leb}
 use Rattle.format.specs.declared.limits.ResourceLimits.{ResourceLimits}
-use Rattle.format.specs.Form.{Bytes}
-use Rattle.format.proofs.Every.{All, all-append}
+use Rattle.format.specs.Form.{Bytes, All}
+use Rattle.format.proofs.Every.{all-append}
 use Rattle.read_next.specs.declared.Row.{Row}
 use Rattle.read_next.specs.Inner.Rows.{rowsFrom}
 use Rattle.validate_rules.specs.declared.finding.Finding.{Finding}

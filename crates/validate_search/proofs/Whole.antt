@@ -8,13 +8,12 @@ use lib.ListN.{length, drop}
 use borrow.Author.Tests.{lt-ltb}
 use Rattle.format.specs.Limits.{DEEPEST}
 use Rattle.format.specs.declared.limits.ResourceLimits.{ResourceLimits}
-use Rattle.format.specs.Form.{Bytes}
+use Rattle.format.specs.Form.{Bytes, All}
 use Rattle.format.specs.Reading.{Prototype, Reading}
 use Rattle.format.specs.GrammarChunk.{Where}
 use Rattle.format.specs.Read.{Read, ok, refused, Reader, next, give, many}
 use Rattle.format.specs.ReadFields.{field}
 use Rattle.format.specs.ReadChunk.{function}
-use Rattle.format.proofs.Every.{All}
 use Rattle.format.proofs.Exact.{never}
 use Rattle.format.proofs.ExactFields.{exact-field}
 use Rattle.format.proofs.Left.{left}

@@ -9,12 +9,11 @@ use Rattle.format.specs.Limits.{DEEPEST, MOST, Walkable}
 use Rattle.format.specs.declared.limits.ResourceLimits.{ResourceLimits}
 use Rattle.format.specs.declared.refusal.Refusal.{Refusal}
 use Rattle.format.specs.declared.header.Warning.{Warning}
-use Rattle.format.specs.Form.{Bytes}
+use Rattle.format.specs.Form.{Bytes, All}
 use Rattle.format.specs.Reading.{Prototype, Reading}
 use Rattle.format.specs.GrammarChunk.{outermost, Loaded, reading}
 use Rattle.format.specs.Read.{Read, ok, refused}
 use Rattle.format.specs.ReadChunk.{function, main, outcome, Outcome, shown, refusal, read}
-use Rattle.format.proofs.Every.{All}
 use Rattle.format.proofs.Located.{Located, all-located}
 use Rattle.format.proofs.ReadChunkLaws.{read-sound, main-complete, read-within}
 use Rattle.read_chunk.specs.declared.summary.Summary.{Summary}

@@ -4,6 +4,7 @@ use lafzimdo::Limits;
 use std::fs;
 use std::path::{Path, PathBuf};
 
+pub mod chance;
 pub mod kept;
 pub mod run;
 pub mod undump;

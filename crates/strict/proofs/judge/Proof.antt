@@ -1,8 +1,7 @@
 -- `strict::judge` meets its contract: by what stands before main and what a walk over the functions showed (`Opened.antt`). Assumes nothing.
-use mathlib.Core.Path.{refl, sym, _∙_, ap}
+use mathlib.Core.Path.{refl, sym, _∙_}
 use borrow.Author.Needs.{needs}
 use Rattle.format.specs.GrammarChunk.{outermost}
-use Rattle.slice.specs.declared.cursor.CursorResult.the-variants as cursor
 use Rattle.strict.proofs.Opened.{opening-refused, functions-refused, functions-passed}
 use Rattle.strict.proofs.judge.Statement.{statement}
 use Rattle.strict.proofs.judge.Tie as tie

@@ -1,38 +1,18 @@
--- `strict_entry::pass::pass_constants` meets its contract. The invariant: what all constants show those left show (read_entry's `Turns.antt`). Assumes nothing.
-use mathlib.Core.Path.{refl, sym, _∙_}
+-- `strict_entry::pass::pass_constants` meets its contract. The invariant: what all constants show those left show (`Turns.antt`). Assumes nothing.
+use mathlib.Core.Path.{sym, _∙_}
 use native.Mathlib.Omega.{arith}
 use borrow.Author.Needs.{needs}
-use lib.ListN.{drop}
 use Rattle.format_strict.specs.ReadStrict.{strictConstant}
 use Rattle.format_strict.proofs.ExactStrict.{exact-strictConstant}
-use Rattle.read_field.proofs.Shows.{cursor-err, cursor-ok}
-use Rattle.read_entry.proofs.Turns.{Rest, ends, stops, goes-on}
+use Rattle.strict_entry.proofs.Turns.{Left, begins, ends, stops, goes-on}
 use Rattle.strict_entry.proofs.pass.pass_constants.Statement.{statement}
 use Rattle.strict_entry.proofs.pass.pass_constants.Tie as tie
 
 abbrev Inv-loop : tie.InvT-loop
-Inv-loop s n max-string-bytes next₀ left₀ next left = Rest (strictConstant max-string-bytes) s n (next₀ .at) left (next .at)
+Inv-loop s n max-string-bytes next₀ left₀ next left = Left (strictConstant max-string-bytes) s n (next₀ .at) left (next .at)
 
 abbrev μ-loop : tie.MeasureT-loop
 μ-loop s n max-string-bytes next₀ left₀ next left = left
-
-returns : tie.Need-returns Inv-loop μ-loop
-returns c =
-    let a = c .before .before .before .before .before .before .before .args in
-    let l = c .before .before .before .before .before .loop in
-    stops (strictConstant (a .max-string-bytes)) (a .s .now) (a .n) (a .cursor .at) (l .left) (l .next .at) (l .inv) (omega arith) _ (cursor-err (strictConstant (a .max-string-bytes) (l .next .at) (drop (l .next .at) (a .s .now))) _ (sym (c .before .passed .given .1) ∙ c .before .before .before .pass-constant .ensures))
-
-loop-again : tie.Need-loop-again Inv-loop μ-loop
-loop-again c =
-    let a = c .before .before .before .before .before .before .before .args in
-    let l = c .before .before .before .before .before .loop in
-    goes-on (strictConstant (a .max-string-bytes)) (a .s .now) (a .n) (a .cursor .at) (l .left) (l .next .at) (l .inv) (omega arith) (exact-strictConstant (a .max-string-bytes)) (cursor-ok (strictConstant (a .max-string-bytes) (l .next .at) (drop (l .next .at) (a .s .now))) _ (sym (c .before .passed2 .given .1) ∙ c .before .before .before .pass-constant .ensures) .was)
-
-returns-2 : tie.Need-returns-2 Inv-loop μ-loop
-returns-2 c =
-    let a = c .before .before .before .args in
-    let l = c .before .loop in
-    ends (strictConstant (a .max-string-bytes)) (a .s .now) (a .n) (a .cursor .at) (l .left) (l .next .at) (l .inv) (omega arith)
 
 pub pass-constants-spec : {M : Type 1} → statement M
 pass-constants-spec =
@@ -40,8 +20,8 @@ pass-constants-spec =
     (tie.spec
     Inv-loop
     μ-loop
-    (λ c. refl) (λ c κs. search needs) (λ c. search needs)
-    returns
+    (λ c. begins) (λ c κs. search needs) (λ c. search needs)
+    (λ c. stops (c .before .before .before .before .before .loop .inv) (omega arith) (sym (c .before .passed .given .1) ∙ c .before .before .before .pass-constant .ensures))
     (λ c. search needs) (λ c. search needs) (λ c. search needs)
-    loop-again
-    returns-2)
+    (λ c. goes-on (c .before .before .before .before .before .loop .inv) (omega arith) (exact-strictConstant (c .before .before .before .before .before .before .before .args .max-string-bytes)) (sym (c .before .passed2 .given .1) ∙ c .before .before .before .pass-constant .ensures))
+    (λ c. ends (c .before .loop .inv) (omega arith)))
