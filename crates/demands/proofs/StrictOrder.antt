@@ -3,6 +3,7 @@
 --     strict-decided-early     the same of `strictRead`: 21 and 22 first
 --     strict-cut-short         1 lacks bytes; strict-continues: and some bytes behind end it
 --     strict-places            a place lies in the file, or is its end
+--     never-two                2 is none of its refusals: 32 comes first
 --     strict-order             what `strictRead` refuses is the first of 21, 22, its reader's refusal
 --     strict-twenty-one, -two  21 and 22, exactly
 --     thirty-one, -two, -three the cause of each, said out; fourteen, sixteen, seventeen, eighteen: those of a count that is above its limit
@@ -36,6 +37,7 @@ use Rattle.format.proofs.Exact.{exact-run}
 use Rattle.format.proofs.ExactHeader.{exact-expect}
 use Rattle.format.proofs.OrderCases.{refusedWith}
 use Rattle.format_strict.proofs.StrictAgrees.{Agree, main-agrees}
+use Rattle.format_strict.proofs.NoOverflow.{strict-no-two}
 use Rattle.demands.proofs.Causes.{stricter, causeBy, Unlike, LastNumber, Ends}
 use Rattle.demands.proofs.InOrder.{Inside, Lack}
 use Rattle.demands.proofs.StrictInOrder.{steady-strictMain}
@@ -77,6 +79,9 @@ module _ (L : ResourceLimits) (within : withinCeilings L ≡ true) where
   strict-cut-short = cut-short-by L strictRead (strictMain L) by-strictMain (strict-lacks L)
 
 module _ (L : ResourceLimits) (s : Bytes) where
+  pub never-two : (q : Refusal) → strictRead L s ≡ refusal q → reported q .number ≡ 2 → ⊥
+  never-two = strict-no-two L s
+
   pub strict-places : (q : Refusal) → strictRead L s ≡ refusal q → Inside (length s) (reported q .place) × Inside 16777216 (reported q .place)
   unfolding strictRead
   strict-places q = places-by L (strictMain L) s (strict-in-byte-order L s) q

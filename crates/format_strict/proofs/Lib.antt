@@ -1,4 +1,5 @@
 pub mod ExactStrict
 pub mod StrictLaws
 pub mod StrictAgrees
+pub mod NoOverflow
 pub mod StrictCases

@@ -1,5 +1,6 @@
 -- The numbers of answers for C, as include/lafzimdo.h lists them for each array: values in which all numbers differ, and one theorem over each list, which antt computes.
 --     summary-holds    version, format, instruction size, integer size, size_t size, number size, the test number's bits; functions; trailing place and length; code and place of both warnings; padded numbers
+--     summary-read, strict-read    of a chunk's bytes, by the ordinary and by the stricter reading
 --     warnings-hold    1 is L54-HEADER-003, 2 L54-CHUNK-001; without a warning both numbers are 0
 --     fields-hold      function 4 of the chunk of crates/format/proofs/Distinct.antt: depth, parent; source; lines; three bytes; eight counts; a source that is absent
 --     constants-hold   the tag, value or place, length
@@ -13,10 +14,11 @@ use mathlib.Core.Bool.{true, false}
 use mathlib.Core.List.{List, [], _∷_, map}
 use Prim.Native.Nat.{ℕ, _-_, _^_}
 use lib.IntN.{pos, negsuc}
-use Rattle.format.specs.declared.refusal.Refusal.the-variants.{NoEntry, LineTooLarge, AnchorOrder, PcOrder}
+use Rattle.format.specs.declared.refusal.Refusal.the-variants.{NoEntry, LineTooLarge, AnchorOrder, PcOrder, Format}
 use Rattle.format.specs.declared.header.Warning.the-variants.{NonStandardFormat, TrailingBytes}
 use Rattle.format.specs.Limits.{ceilings}
 use Rattle.format.specs.ReadChunk.{body, function, read}
+use Rattle.format_strict.specs.ReadStrict.{strictBody, strictFunction, strictRead}
 use Rattle.format.proofs.Distinct.{distinct}
 use Rattle.format_spelling.specs.ReadSpelling.{spelling}
 use Rattle.format_spelling.specs.ReadSpelling as spelt
@@ -81,6 +83,11 @@ summary-holds = refl
 summary-read : ofSummary (shownSummary (spelling ceilings distinct) (read ceilings distinct)) ≡ done (0x54 ∷ 3 ∷ 4 ∷ 8 ∷ 8 ∷ 8 ∷ 0x4077280000000000 ∷ 9 ∷ 308 ∷ 3 ∷ 1 ∷ 5 ∷ 2 ∷ 308 ∷ 0 ∷ [])
 unfolding distinct read body function spelling spelt.body spelt.function
 summary-read = refl
+
+-- the same bytes in the stricter reading: their format byte is 3, so 31, at its place
+strict-read : ofSummary (shownSummary (spelling ceilings distinct) (strictRead ceilings distinct)) ≡ refuses (Format 5)
+unfolding distinct strictRead strictBody strictFunction spelling spelt.body spelt.function
+strict-read = refl
 
 -- a warning, its code and its place
 warnings : List (OptionWarning × (ℕ × ℕ))
