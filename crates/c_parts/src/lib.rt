@@ -57,7 +57,7 @@ pub fn head_at(chunk: &[u8], limits: &[u64; 9], place: usize, out: &mut [u64; 16
     if 0 < refusal {
         return refusal;
     }
-    let mut unused = [0usize; 3];
+    let mut unused = [0usize; 4];
     let answer = read_head(
         chunk,
         limits_of(limits),
@@ -100,7 +100,7 @@ pub fn tail_at(chunk: &[u8], limits: &[u64; 9], place: usize, out: &mut [u64; 9]
         return refusal;
     }
     let l = limits_of(limits);
-    let mut unused = [0usize; 3];
+    let mut unused = [0usize; 4];
     let answer = read_tail(chunk, l.max_string_bytes, Cursor { at: place }, &mut unused);
     match answer {
         TailResult::Err(q) => refused(q),

@@ -1,11 +1,12 @@
 -- A chunk of which no place is spelt otherwise, in the code's terms: by what judging it showed.
 --     judged-refused   a refusal is the answer
 --     plain-put        the front and the rest, put one behind the other
+--     by-plain-..      of a copy, archive or full, that is the chunk with another front
 --     plain-answer     the chunk's length is the length of its copy
 --     plain-short      so there is no room where less is lent
 --     plain-whole      where there is room, its front anew and its rest as it is are its copy
 -- Assumes nothing.
-use mathlib.Core.Path.{_≡_, refl, sym, subst, _∙_, ap}
+use mathlib.Core.Path.{_≡_, sym, subst, _∙_, ap}
 use mathlib.Core.Bool.{true}
 use mathlib.Core.List.{_++_, append-assoc}
 use Prim.Native.Nat.{ℕ, _-_, _≤_, _<_}
@@ -25,10 +26,10 @@ use Rattle.format.specs.GrammarChunk.{Chunk}
 use Rattle.format.specs.ReadChunk.{Outcome, shown, read}
 use Rattle.format.specs.Copy.{fieldBytes, headerBytes, upvaluesOfMain, copy}
 use Rattle.format.proofs.ReadChunkLaws.{read-sound, read-within}
-use Rattle.format_spelling.specs.Spelling.{respelt, respeltIn}
+use Rattle.format_spelling.specs.Spelling.{respelt, spellingOf}
 use Rattle.format_spelling.specs.ReadSpelling.{spelling}
 use Rattle.format_spelling.proofs.SpellingLaws.{spelling-is}
-use Rattle.format_copy.proofs.PlainCopy.{plain-copy, plain-length}
+use Rattle.format_copy.proofs.PlainCopy.{front-length, plain-copy}
 use Rattle.slice.specs.Inner.Splice.{splice}
 use Rattle.read_chunk.specs.declared.summary.Summary.{Summary}
 use Rattle.read_chunk.specs.declared.summary.SpeltResult.the-variants as spelt
@@ -39,9 +40,9 @@ use Rattle.copy_put.specs.Inner.Put.{Put}
 use Rattle.copy_put.proofs.Writes.{put-then}
 use Rattle.copy_parts.proofs.PutParts.{put-as}
 use Rattle.copy.specs.declared.whole.CopyAnswer.the-variants as answer
-use Rattle.copy.specs.Copied.{shownLength, shownCopy, copyWritten}
-use Rattle.copy.specs.Inner.Answers.{Copies}
-use Rattle.copy.proofs.Outcomes.{copy-short, copy-whole}
+use Rattle.copy.specs.Copied.{lengthBy, shownBy, writtenBy, shownLength, shownCopy, copyWritten}
+use Rattle.copy.specs.Inner.Answers.{CopiesBy}
+use Rattle.copy.proofs.Outcomes.{by-short, by-whole}
 
 pub judged-refused : (k : Spelling) (o : Outcome) (q : Refusal) → spelt.Err q ≡ speltResult k o → answer.Err q ≡ shownLength o
 judged-refused k o q e = sym (ap shownLength (not-spelt k o q e))
@@ -53,7 +54,9 @@ plain-put s u n size p q =
     let there = length-drop 32 s in
     put-as (append-assoc (headerBytes 0) (fieldBytes 1 u) (drop 32 s)) (put-then p (put-as (take-all n (drop 32 s) (omega (arith, size))) (q (omega (arith, size, there)))))
 
-module _ (s : Bytes) (L : ResourceLimits) (bytes : Below 256 s) (y : Summary) (k : Spelling) (e : spelt.Ok y k ≡ speltResult (spelling L s) (read L s)) (plain : eqb (respelt k) 0 ≡ true) where
+-- a copy of the chunk's reading, archive or full, that is the chunk with another front
+module _ (copied : Reading → Bytes) (s : Bytes) (L : ResourceLimits) (y : Summary) (k : Spelling) (e : spelt.Ok y k ≡ speltResult (spelling L s) (read L s))
+    (plain : (x : Reading) (c : Chunk L s x) → spellingOf c ≡ k → copied x ≡ headerBytes 0 ++ (fieldBytes 1 (upvaluesOfMain (x .functions)) ++ drop 32 s)) where
   was : WasSpelt (spelling L s) (read L s) y k
   was = was-spelt (spelling L s) (read L s) y k e
 
@@ -63,30 +66,49 @@ module _ (s : Bytes) (L : ResourceLimits) (bytes : Below 256 s) (y : Summary) (k
   chunk : Chunk L s reading
   chunk = read-sound L s reading (was .is)
 
-  none : respeltIn chunk ≡ 0
-  none = ap respelt (sym (spelling-is chunk)) ∙ ap respelt (sym (was .spelt)) ∙ eqb-true (respelt k) 0 plain
+  is-so : copied reading ≡ headerBytes 0 ++ (fieldBytes 1 (upvaluesOfMain (reading .functions)) ++ drop 32 s)
+  is-so = plain reading chunk (sym (spelling-is chunk) ∙ sym (was .spelt))
 
-  pub plain-answer : answer.Ok (length s) ≡ shownLength (read L s)
-  plain-answer = rw (was .is) (ap answer.Ok (sym (plain-length chunk bytes none)))
+  size : length (copied reading) ≡ length s
+  size = ap length is-so ∙ front-length chunk (upvaluesOfMain (reading .functions))
 
-  copied : (u : ℕ) → ((x : Reading) → read L s ≡ shown x → u ≡ upvaluesOfMain (x .functions)) → {l l′ : Bytes} {len : ℕ} → Put (headerBytes 0 ++ (fieldBytes 1 u ++ drop 32 s)) 0 l len l′ → Copies (read L s) l (answer.Ok (length s)) l′
-  copied u counted {l} {l′} {len} put =
+  pub by-plain-answer : answer.Ok (length s) ≡ lengthBy copied (read L s)
+  by-plain-answer = rw (was .is) (ap answer.Ok (sym size))
+
+  put-so : (u : ℕ) → ((x : Reading) → read L s ≡ shown x → u ≡ upvaluesOfMain (x .functions)) → {l l′ : Bytes} {len : ℕ} → Put (headerBytes 0 ++ (fieldBytes 1 u ++ drop 32 s)) 0 l len l′ → CopiesBy copied (read L s) l (answer.Ok (length s)) l′
+  put-so u counted {l} {l′} {len} put =
       let within = read-within L s reading (was .is) in
       let small = input-ceiling L (within .0) in
-      let size = plain-length chunk bytes none in
-      let is : headerBytes 0 ++ (fieldBytes 1 u ++ drop 32 s) ≡ copy reading = ap (λ n. headerBytes 0 ++ (fieldBytes 1 n ++ drop 32 s)) (counted reading (was .is)) ∙ sym (plain-copy chunk bytes none) in
-      let all : Put (copy reading) 0 l len l′ = put-as is put in
+      let is : headerBytes 0 ++ (fieldBytes 1 u ++ drop 32 s) ≡ copied reading = ap (λ n. headerBytes 0 ++ (fieldBytes 1 n ++ drop 32 s)) (counted reading (was .is)) ∙ sym is-so in
+      let all : Put (copied reading) 0 l len l′ = put-as is put in
+      let long = size in
       record {
-        is = plain-answer;
+        is = by-plain-answer;
         wrote = λ x f fits.
             let same : reading ≡ x = (let both = sym (was .is) ∙ f in cc) in
-            subst (λ x. length (copy x) ≤ length l → l′ ≡ splice 0 (copy x) l) same (λ fits. all .wrote (rw zero-add (omega (arith, small, within .1, size))) (rw zero-add fits)) fits;
+            subst (λ x. length (copied x) ≤ length l → l′ ≡ splice 0 (copied x) l) same (λ fits. all .wrote (rw zero-add (omega (arith, small, within .1, long))) (rw zero-add fits)) fits;
       }
 
   module _ (old : Bytes) where
+    pub by-plain-short : length old < length s → (answer.Err LentSpace ≡ shownBy copied (length old) (read L s)) × (old ≡ writtenBy copied old (read L s))
+    by-plain-short = by-short copied old (read L s) (length s) by-plain-answer
+
+    pub by-plain-whole : length s ≤ length old → (u : ℕ) → ((x : Reading) → read L s ≡ shown x → u ≡ upvaluesOfMain (x .functions)) → {new : Bytes} {len : ℕ} → Put (headerBytes 0 ++ (fieldBytes 1 u ++ drop 32 s)) 0 old len new
+        → (answer.Ok (length s) ≡ shownBy copied (length old) (read L s)) × (new ≡ writtenBy copied old (read L s))
+    by-plain-whole room u counted put = by-whole copied old (read L s) (length s) by-plain-answer room (put-so u counted put)
+
+-- ## The archive copy
+module _ (s : Bytes) (L : ResourceLimits) (bytes : Below 256 s) (y : Summary) (k : Spelling) (e : spelt.Ok y k ≡ speltResult (spelling L s) (read L s)) (plain : eqb (respelt k) 0 ≡ true) where
+  so : (x : Reading) (c : Chunk L s x) → spellingOf c ≡ k → copy x ≡ headerBytes 0 ++ (fieldBytes 1 (upvaluesOfMain (x .functions)) ++ drop 32 s)
+  so x c is = plain-copy c bytes (ap respelt is ∙ eqb-true (respelt k) 0 plain)
+
+  pub plain-answer : answer.Ok (length s) ≡ shownLength (read L s)
+  plain-answer = by-plain-answer copy s L y k e so
+
+  module _ (old : Bytes) where
     pub plain-short : length old < length s → (answer.Err LentSpace ≡ shownCopy (length old) (read L s)) × (old ≡ copyWritten old (read L s))
-    plain-short = copy-short old (read L s) (length s) plain-answer
+    plain-short = by-plain-short copy s L y k e so old
 
     pub plain-whole : length s ≤ length old → (u : ℕ) → ((x : Reading) → read L s ≡ shown x → u ≡ upvaluesOfMain (x .functions)) → {new : Bytes} {len : ℕ} → Put (headerBytes 0 ++ (fieldBytes 1 u ++ drop 32 s)) 0 old len new
         → (answer.Ok (length s) ≡ shownCopy (length old) (read L s)) × (new ≡ copyWritten old (read L s))
-    plain-whole room u counted put = copy-whole old (read L s) (length s) plain-answer room (copied u counted put)
+    plain-whole = by-plain-whole copy s L y k e so old

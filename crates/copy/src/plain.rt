@@ -46,7 +46,7 @@ pub fn begins_padded(s: &[u8]) -> bool
 pub fn main_upvalues(s: &[u8], limits: ResourceLimits) -> usize
     ensures { λ r. ⌜ ((x : Reading) → format.read limits (now (s .entry)) ≡ format.shown x → r ≡ upvaluesOfMain (x .functions)) ⌝ }
 {
-    let mut unused = [0usize; 3];
+    let mut unused = [0usize; 4];
     let begins = pass_head(s, limits, 0, Cursor { at: MAIN_AT }, &mut unused);
     match begins {
         HeadCountsResult::Err(_) => 0,

@@ -38,7 +38,7 @@ pub fn copy_constants_list(
     ensures { λ r. ⌜ r .list ≡ listResult (spec.countedUpTo «max_constants» Constants (spec.constant «max_string_bytes») (cursor .at) (drop (cursor .at) (now (s .entry)))) ⌝ }
     ensures { λ r. ⌜ (Below 256 (now (s .entry)) → PutsListed (spec.constant «max_string_bytes») constantBytes (now (s .entry)) (r .list) at (now (out .entry)) (r .behind) (now (out .exit))) ⌝ }
 {
-    let mut unused = [0usize; 3];
+    let mut unused = [0usize; 4];
     let read = count_up_to(
         s,
         cursor,

@@ -1,4 +1,4 @@
--- A chunk of which no place is spelt otherwise, in the code's terms: its two copies are one (crates/format_copy/proofs/FullPlain.antt), so what is answered and written of the archive copy is so of the full copy.
+-- A chunk of which the full copy spells no place otherwise, in the code's terms: behind its first 32 bytes it is that copy (crates/format_copy/proofs/FullPlain.antt), so it is answered and written as a plain chunk's archive copy is (crates/copy/proofs/PlainChunks.antt).
 --     full-refused     a refusal is the answer
 --     full-answer      the chunk's length is the length of its full copy
 --     full-short       so there is no room where less is lent
@@ -19,46 +19,34 @@ use Rattle.format.specs.Form.{Bytes, Below}
 use Rattle.format.specs.Reading.{Reading}
 use Rattle.format.specs.GrammarChunk.{Chunk}
 use Rattle.format.specs.ReadChunk.{Outcome, shown, read}
-use Rattle.format.specs.Copy.{fieldBytes, headerBytes, upvaluesOfMain, copy}
+use Rattle.format.specs.Copy.{fieldBytes, headerBytes, upvaluesOfMain}
 use Rattle.format.specs.FullCopy.{fullCopy}
-use Rattle.format.proofs.ReadChunkLaws.{read-sound}
-use Rattle.format_spelling.specs.Spelling.{respelt, respeltIn}
+use Rattle.format_spelling.specs.Spelling.{respeltFull, spellingOf}
 use Rattle.format_spelling.specs.ReadSpelling.{spelling}
-use Rattle.format_spelling.proofs.SpellingLaws.{spelling-is}
-use Rattle.format_copy.proofs.FullPlain.{plain-both}
+use Rattle.format_copy.proofs.FullPlain.{plain-full}
 use Rattle.read_chunk.specs.declared.summary.Summary.{Summary}
 use Rattle.read_chunk.specs.declared.summary.SpeltResult.the-variants as spelt
 use Rattle.read_chunk.specs.Inner.Decoded.{speltResult}
-use Rattle.read_chunk.proofs.Spelt.{WasSpelt, was-spelt, not-spelt}
+use Rattle.read_chunk.proofs.Spelt.{not-spelt}
 use Rattle.copy_put.specs.Inner.Put.{Put}
-use Rattle.copy.specs.declared.whole.CopyAnswer.{CopyAnswer}
 use Rattle.copy.specs.declared.whole.CopyAnswer.the-variants as answer
-use Rattle.copy.specs.Copied.{lengthBy, shownBy, writtenBy, shownLength, shownCopy, copyWritten}
-use Rattle.copy.proofs.PlainChunks.{plain-answer, plain-short, plain-whole}
+use Rattle.copy.proofs.PlainChunks.{by-plain-answer, by-plain-short, by-plain-whole}
 use Rattle.copy_full.specs.InFull.{shownFullLength, shownFull, fullWritten}
 
 pub full-refused : (k : Spelling) (o : Outcome) (q : Refusal) → spelt.Err q ≡ speltResult k o → answer.Err q ≡ shownFullLength o
 full-refused k o q e = sym (ap shownFullLength (not-spelt k o q e))
 
-module _ (s : Bytes) (L : ResourceLimits) (bytes : Below 256 s) (y : Summary) (k : Spelling) (e : spelt.Ok y k ≡ speltResult (spelling L s) (read L s)) (plain : eqb (respelt k) 0 ≡ true) where
-  -- the two copies are one, so whatever is made of the one is made of the other
-  both : {A : Type 0} (f : (Reading → Bytes) → Outcome → A) → ((x : Reading) → fullCopy x ≡ copy x → f copy (shown x) ≡ f fullCopy (shown x)) → f copy (read L s) ≡ f fullCopy (read L s)
-  both f alike =
-      let was : WasSpelt (spelling L s) (read L s) y k = was-spelt (spelling L s) (read L s) y k e in
-      let chunk : Chunk L s (was .value) = read-sound L s (was .value) (was .is) in
-      let none : respeltIn chunk ≡ 0 = ap respelt (sym (spelling-is chunk)) ∙ ap respelt (sym (was .spelt)) ∙ eqb-true (respelt k) 0 plain in
-      rw (was .is) (alike (was .value) (plain-both chunk bytes none))
+module _ (s : Bytes) (L : ResourceLimits) (bytes : Below 256 s) (y : Summary) (k : Spelling) (e : spelt.Ok y k ≡ speltResult (spelling L s) (read L s)) (plain : eqb (respeltFull k) 0 ≡ true) where
+  so : (x : Reading) (c : Chunk L s x) → spellingOf c ≡ k → fullCopy x ≡ headerBytes 0 ++ (fieldBytes 1 (upvaluesOfMain (x .functions)) ++ drop 32 s)
+  so x c is = plain-full c bytes (ap respeltFull is ∙ eqb-true (respeltFull k) 0 plain)
 
   pub full-answer : answer.Ok (length s) ≡ shownFullLength (read L s)
-  full-answer = plain-answer s L bytes y k e plain ∙ both lengthBy (λ x same. rw same)
+  full-answer = by-plain-answer fullCopy s L y k e so
 
   module _ (old : Bytes) where
-    in-full : {r : CopyAnswer} {new : Bytes} → (r ≡ shownCopy (length old) (read L s)) × (new ≡ copyWritten old (read L s)) → (r ≡ shownFull (length old) (read L s)) × (new ≡ fullWritten old (read L s))
-    in-full a = (a .0 ∙ both (λ f. shownBy f (length old)) (λ x same. rw same), a .1 ∙ both (λ f. writtenBy f old) (λ x same. rw same))
-
     pub full-short : length old < length s → (answer.Err LentSpace ≡ shownFull (length old) (read L s)) × (old ≡ fullWritten old (read L s))
-    full-short few = in-full (plain-short s L bytes y k e plain old few)
+    full-short = by-plain-short fullCopy s L y k e so old
 
     pub full-whole : length s ≤ length old → (u : ℕ) → ((x : Reading) → read L s ≡ shown x → u ≡ upvaluesOfMain (x .functions)) → {new : Bytes} {len : ℕ} → Put (headerBytes 0 ++ (fieldBytes 1 u ++ drop 32 s)) 0 old len new
         → (answer.Ok (length s) ≡ shownFull (length old) (read L s)) × (new ≡ fullWritten old (read L s))
-    full-whole room u counted put = in-full (plain-whole s L bytes y k e plain old room u counted put)
+    full-whole = by-plain-whole fullCopy s L y k e so old

@@ -1,14 +1,15 @@
 // The full copy of a chunk (02, item 6), written into lent memory: the archive copy, with each nested source that is not its parent's. ldump.c keeps these.
-// A chunk that is spelt as its archive copy is its own full copy too, and goes the same way as there (crates/copy/src/lib.rt); of any other, the walk of copy_full_walk measures and writes (whole.rt).
+// A chunk that is spelt as its full copy is copied as it is, but for its front, as a chunk that is spelt as its archive copy is there (crates/copy/src/lib.rt); of any other, the walk of copy_full_walk measures and writes (whole.rt).
+mod plain;
 mod whole;
 
 ghost use mathlib.Core.Path.{_≡_};
 ghost use lib.ListN.{length};
 ghost use Rattle.format.specs.ReadChunk as format;
 ghost use Rattle.copy_full.specs.InFull.{shownFullLength, shownFull, fullWritten};
+use crate::plain::is_plain_in_full;
 use crate::whole::full_chunk;
 use copy::plain::begins_padded;
-use copy::plain::is_plain;
 use copy::plain::main_upvalues;
 use copy::plain::put_plain;
 use copy::whole::CopyAnswer;
@@ -57,7 +58,7 @@ pub fn full_copy_length(s: &[u8], limits: ResourceLimits) -> CopyAnswer
             summary: _,
             spelling,
         } => {
-            if !is_plain(spelling) {
+            if !is_plain_in_full(spelling) {
                 return measure(s, limits);
             }
             CopyAnswer::Ok(s.len())
@@ -80,7 +81,7 @@ pub fn full_copy(s: &[u8], limits: ResourceLimits, out: &mut [u8]) -> CopyAnswer
             summary: _,
             spelling,
         } => {
-            if !is_plain(spelling) {
+            if !is_plain_in_full(spelling) {
                 return respell(s, limits, out);
             }
             if out.len() < s.len() {

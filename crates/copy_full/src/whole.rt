@@ -16,13 +16,12 @@ use copy_walk::walk::within;
 use format::limits::ResourceLimits;
 use read_chunk::OpeningResult;
 use read_chunk::open_chunk;
-use read_field::string::OptionString;
 use read_walk::walk::SkimResult;
 use read_walk::walk::Skimmed;
 use slice::cursor::Cursor;
 use slice::cursor::remaining;
 
-// Main, which begins at the cursor and has no function around it, with all that nest in it, then the header, of which one byte depends on main, then the trailing bytes.
+// Main, which begins at the cursor and has no function around it (no source is spelt at the end of the slice), with all that nest in it, then the header, of which one byte depends on main, then the trailing bytes.
 fn full_functions(s: &[u8], limits: ResourceLimits, cursor: Cursor, out: &mut [u8]) -> CopyAnswer
     requires { ⌜ (limits .«max_nesting_depth» ≤ DEEPEST) × Walkable limits ⌝ }
     ensures { λ r. ⌜ (Below 256 (now (s .entry)) → length (now (s .entry)) ≤ MOST → Answers (chunkBy fullFunctions) (format.function limits (limits .«max_nesting_depth») outermost (cursor .at) (drop (cursor .at) (now (s .entry)))) (now (out .entry)) r (now (out .exit))) ⌝ }
@@ -34,7 +33,7 @@ fn full_functions(s: &[u8], limits: ResourceLimits, cursor: Cursor, out: &mut [u
         instructions: 0,
     };
     let start = within(32, out.len());
-    let main = copy_in_full(s, limits, OptionString::None, left, from, &mut out[start..]);
+    let main = copy_in_full(s, limits, s.len(), left, from, &mut out[start..]);
     let walk = main.walk;
     match walk {
         SkimResult::Err(refusal) => CopyAnswer::Err(refusal),

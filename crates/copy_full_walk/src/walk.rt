@@ -6,10 +6,9 @@ ghost use Rattle.format.specs.Limits.{MOST, Walkable};
 ghost use Rattle.format.specs.Form.{Below};
 ghost use Rattle.format.specs.GrammarChunk as grammar;
 ghost use Rattle.format.specs.ReadChunk.{function};
-ghost use Rattle.read_field.specs.Shown.{optionString};
 ghost use Rattle.read_walk.specs.Inner.Skim.{skimResult};
 ghost use Rattle.copy_walk.specs.Inner.Walk.{PutsFunction};
-ghost use Rattle.copy_full_walk.specs.Inner.Source.{Stands};
+ghost use Rattle.read_walk.specs.Inner.Source.{sourceAt};
 ghost use Rattle.copy_full_walk.specs.Inner.Walk.{fullBytes};
 use crate::source::source_of;
 use copy_parts::ends::Copied;
@@ -21,25 +20,24 @@ use copy_put::raw::plus;
 use copy_walk::walk::within;
 use format::limits::ResourceLimits;
 use format::refusal::Refusal;
-use read_field::string::OptionString;
 use read_walk::walk::SkimResult;
 use read_walk::walk::Skimmed;
 
-// Reads a function and all that nest in it, as the judge does (read_walk), and puts their full copy at the start of the lent memory, by the source of the function around it; main has none around it.
+// Reads a function and all that nest in it, as the judge does (read_walk), and puts their full copy at the start of the lent memory, by the place at which the source is spelt of the function around it; main has none around it.
 // Ruled out: a nested function told another's source than its parent's, a source written that is its parent's, one left out that is not.
 pub fn copy_in_full(
     s: &[u8],
     limits: ResourceLimits,
-    parent: OptionString,
+    parent: usize,
     left: usize,
     from: Skimmed,
     out: &mut [u8],
 ) -> Copied
     requires { ⌜ Walkable limits × (from .number ≤ MOST) ⌝ }
     ensures { λ r. ⌜ ((w : grammar.Where) → from .number ≡ w .number → from .instructions ≡ w .instructions → r .walk ≡ skimResult w (function limits left w (from .next .at) (drop (from .next .at) (now (s .entry))))) ⌝ }
-    ensures { λ r. ⌜ ((w : grammar.Where) → from .number ≡ w .number → from .instructions ≡ w .instructions → parent ≡ optionString (w .source) → Stands (now (s .entry)) (w .source) → Below 256 (now (s .entry)) → PutsFunction (fullBytes (w .source)) (function limits left w (from .next .at) (drop (from .next .at) (now (s .entry)))) (now (out .entry)) (r .upvalues) (r .len) (now (out .exit))) ⌝ }
+    ensures { λ r. ⌜ ((w : grammar.Where) → from .number ≡ w .number → from .instructions ≡ w .instructions → w .source ≡ sourceAt (limits .«max_string_bytes») (now (s .entry)) parent → Below 256 (now (s .entry)) → PutsFunction (fullBytes (w .source)) (function limits left w (from .next .at) (drop (from .next .at) (now (s .entry)))) (now (out .entry)) (r .upvalues) (r .len) (now (out .exit))) ⌝ }
 {
-    let source = source_of(s, limits.max_string_bytes, parent, from.next);
+    let source = source_of(s, limits.max_string_bytes, parent, from.next.at);
     let own = source.own;
     let begun = copy_head(s, limits, source.written, from.instructions, from.next, out);
     let begins = begun.begins;

@@ -53,7 +53,7 @@ fn copy_tail(s: &[u8], max_string_bytes: usize, cursor: Cursor, out: &mut [u8], 
     ensures { λ r. ⌜ r .read ≡ cursorResult (parts.tail «max_string_bytes» (cursor .at) (drop (cursor .at) (now (s .entry)))) ⌝ }
     ensures { λ r. ⌜ PutsTail (parts.tail «max_string_bytes» (cursor .at) (drop (cursor .at) (now (s .entry)))) at (now (out .entry)) (r .behind) (now (out .exit)) ⌝ }
 {
-    let mut unused = [0usize; 3];
+    let mut unused = [0usize; 4];
     let deltas = line_info_list(s, cursor, &mut unused);
     match deltas {
         ListResult::Err(refusal) => refused(refusal, at),

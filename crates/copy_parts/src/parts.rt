@@ -46,7 +46,7 @@ fn copy_lists(
     ensures { λ r. ⌜ r .lists ≡ listsCounted (headListsResult (parts.headLists limits before (cursor .at) (drop (cursor .at) (now (s .entry))))) ⌝ }
     ensures { λ r. ⌜ PutsLists limits (now (s .entry)) (headListsResult (parts.headLists limits before (cursor .at) (drop (cursor .at) (now (s .entry))))) at (now (out .entry)) (r .behind) (now (out .exit)) ⌝ }
 {
-    let mut unused = [0usize; 3];
+    let mut unused = [0usize; 4];
     let code = instructions_list(
         s,
         cursor,
@@ -85,7 +85,7 @@ fn copy_lists(
                     place: _,
                     next: next2,
                 } => {
-                    let mut unused = [0usize; 3];
+                    let mut unused = [0usize; 4];
                     let u = upvalues_list(s, next2, limits.max_upvalues_per_proto, &mut unused);
                     match u {
                         ListResult::Err(refusal) => ListsCopied {
@@ -160,7 +160,7 @@ pub fn copy_head(
                     upvalues: upvalues,
                     next: further,
                 } => {
-                    let mut unused = [0usize; 3];
+                    let mut unused = [0usize; 4];
                     let nested = protos_count(s, further, limits.max_total_prototypes, &mut unused);
                     match nested {
                         ListResult::Err(refusal) => HeadCopied {

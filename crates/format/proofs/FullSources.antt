@@ -1,5 +1,6 @@
 -- The test of two sources, and what a full copy writes of a function's (specs/FullCopy.antt).
 --     same-source, same-kept   it holds exactly where the two are the same, places aside
+--     alike-sources            it does not go by places
 --     absent-exactly           02's sentence: a nested source is absent exactly where its bytes are the parent's, or both are missing
 --     inherited                a source that is spelt as absent reads as the parent's, and is absent
 --     main-source              main's is written as it is
@@ -37,6 +38,14 @@ same-kept (some t) none e = absurd (let z : _≡_ {A = ℕ} 0 1 = cc in omega ar
 same-kept (some t) (some u) e =
     let kept : keptString t ≡ keptString u = cc in
     ap (λ (x : LuaString). sameBytes (x .bytes) (u .bytes)) kept ∙ T-true _ (same-refl (u .bytes))
+
+pub alike-sources : (t t′ u u′ : Option LuaString) → Option·map keptString t ≡ Option·map keptString t′ → Option·map keptString u ≡ Option·map keptString u′ → equalSources t u ≡ equalSources t′ u′
+alike-sources t t′ u u′ e f = by (equalSources t u) (equalSources t′ u′) refl refl
+  where
+    by : (b b′ : Bool) → equalSources t u ≡ b → equalSources t′ u′ ≡ b′ → b ≡ b′
+    by true b′ h k = sym (sym k ∙ same-kept t′ u′ (sym e ∙ same-source t u h ∙ f))
+    by false true h k = sym h ∙ same-kept t u (e ∙ same-source t′ u′ k ∙ sym f)
+    by false false h k = refl
 
 -- what is read as missing has a parent that misses one too: an absent source reads as the parent's (`inherit`)
 pub absent-exactly : (parent own : Option LuaString) → (own ≡ none → parent ≡ none) → nestedSource parent own ≡ none ↔ Option·map keptString own ≡ Option·map keptString parent

@@ -86,7 +86,7 @@ module _ {A B : Type 0} {m : Measure} {F F′ : Form A} {G G′ : A → Form B} 
 -- a number's shortest spelling is not padded
 pub shortest-tidy : (v at : ℕ) (h : v < 2 ^ 64 - 128) → tally.number .of at (shortest v) v (shortest-spells v at h) ≡ same
 unfolding tally.number
-shortest-tidy v at h = ap (λ b. record { padded = cond b 1 0; filled = 0; sources = 0 }) (le-ltb (length (shortest v)) (length (shortest v)) (omega arith))
+shortest-tidy v at h = ap (λ b. record { padded = cond b 1 0; filled = 0; sources = 0; repeated = 0 }) (le-ltb (length (shortest v)) (length (shortest v)) (omega arith))
 
 module _ {B : Type 0} {m : Measure} {S : B → B → Bytes → Type 0} where
   pub is-copies : {y y′ : B} → S y y′ [] → Copies m (Is y) (Is y′) tally.none S

@@ -10,7 +10,7 @@
 -- Assumes nothing.
 use mathlib.Core.Path.{_≡_, refl, sym, _∙_, ap}
 use mathlib.Core.Logic.{_↔_}
-use Prim.Native.Nat.{_≤_}
+use Prim.Native.Nat.{_+_, _≤_}
 use native.Mathlib.Omega.{arith}
 use Rattle.format.specs.declared.limits.ResourceLimits.{ResourceLimits}
 use Rattle.format.specs.declared.spelling.Spelling.{Spelling}
@@ -25,9 +25,9 @@ use Rattle.format_copy.proofs.Copies.{Measure, weaken}
 use Rattle.format_copy.proofs.CopyFunctions.{function-whole}
 use Rattle.format_copy.proofs.CopyBy.{Written, by-belongs, by-tidy, by-kept, by-keeps, by-same, by-back, by-below}
 
--- every place that is spelt otherwise is counted
+-- every place that is spelt otherwise is counted, in either copy
 abbrev everywhere : Measure
-everywhere = record { of = respelt; nothing = refl; adds = λ a b h k. omega (arith, h, k) }
+everywhere = record { of = λ a. respelt a + a .repeated; nothing = refl; adds = λ a b h k. omega (arith, h, k) }
 
 archive : Written everywhere functionsBytes keptFunctions
 archive = record {
@@ -39,8 +39,8 @@ pub copy-belongs : (L : ResourceLimits) (s : Bytes) (r : Reading) → Chunk L s 
 unfolding copy kept
 copy-belongs = by-belongs archive
 
-none-respelt : (a : Spelling) → respelt a ≡ 0 → a ≡ same
-none-respelt a e = spelling-path a same (omega arith) (omega arith) (omega arith)
+none-respelt : (a : Spelling) → respelt a + a .repeated ≡ 0 → a ≡ same
+none-respelt a e = spelling-path a same (omega arith) (omega arith) (omega arith) (omega arith)
 
 pub copy-tidy : (L : ResourceLimits) (s : Bytes) (r : Reading) → Chunk L s r → Below 256 s → 1 ≤ L .«max_string_bytes» → (q : Reading) (d : Chunk L (copy r) q) → spellingOf d ≡ same
 unfolding copy

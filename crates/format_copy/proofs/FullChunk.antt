@@ -1,6 +1,6 @@
 -- The full copy of a chunk that belongs to the grammar under some limits (CopyBy.antt). A chunk is bytes: numbers below 256.
 --     full-belongs     the full copy belongs under the same limits, if they allow a string of one byte, and it is read as the chunk was, every source name with it, but for format byte, warnings and places
---     full-tidy        none of its numbers is padded, and no string that shows is spelt as absent
+--     full-tidy        it is spelt as a full copy is, however it is read: none of its numbers is padded, no string that shows is spelt as absent, and no nested source is spelt that is the parent's
 --     full-keeps       under whichever limits it is read: as the chunk was
 --     full-same        and a full copy of the full copy is the full copy
 --     equal-full       full copies are equal exactly where readings are, in what is kept of them; under any limits, for each chunk its own
@@ -23,9 +23,9 @@ use Rattle.format.proofs.KeptFull.{sourced-kept, upvalues-sourced, full-keeps-m
 use Rattle.format_copy.proofs.Copies.{weaken}
 use Rattle.format_copy.proofs.CopyBy.{Written, by-belongs, by-tidy, by-kept, by-keeps, by-same, by-back, by-below}
 use Rattle.format_copy.proofs.CopyChunk.{kept-copy}
-use Rattle.format_copy.proofs.FullFunctions.{numbers-and-strings, full-whole}
+use Rattle.format_copy.proofs.FullFunctions.{in-full, full-whole}
 
-full : Written numbers-and-strings fullFunctions (map keptSourced)
+full : Written in-full fullFunctions (map keptSourced)
 full = record {
   whole = λ L l left. weaken (λ ps ps′ b w. (w .alike, w .joined)) (full-whole L l left);
   same = λ ps qs e. (sym (sourced-kept ps) ∙ ap fullFunctions e ∙ sourced-kept qs, sym (upvalues-sourced ps) ∙ ap upvaluesOfMain e ∙ upvalues-sourced qs);
@@ -35,9 +35,9 @@ pub full-belongs : (L : ResourceLimits) (s : Bytes) (r : Reading) → Chunk L s 
 unfolding fullCopy keptFull
 full-belongs = by-belongs full
 
-pub full-tidy : (L : ResourceLimits) (s : Bytes) (r : Reading) → Chunk L s r → Below 256 s → 1 ≤ L .«max_string_bytes» → (q : Reading) (d : Chunk L (fullCopy r) q) → (spellingOf d .padded ≡ 0) × (spellingOf d .filled ≡ 0)
+pub full-tidy : (L : ResourceLimits) (s : Bytes) (r : Reading) → Chunk L s r → Below 256 s → 1 ≤ L .«max_string_bytes» → (q : Reading) (d : Chunk L (fullCopy r) q) → (spellingOf d .padded ≡ 0) × (spellingOf d .filled ≡ 0) × (spellingOf d .repeated ≡ 0)
 unfolding fullCopy
-full-tidy L s r c h l q d = let none = by-tidy full L s r c h l q d in (omega (arith, none), omega (arith, none))
+full-tidy L s r c h l q d = let none = by-tidy full L s r c h l q d in (omega (arith, none), omega (arith, none), omega (arith, none))
 
 pub full-keeps : (L M : ResourceLimits) (s : Bytes) (r q : Reading) → Chunk L s r → Below 256 s → Chunk M (fullCopy r) q → keptFull q ≡ keptFull r
 unfolding fullCopy keptFull

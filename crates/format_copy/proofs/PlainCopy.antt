@@ -1,6 +1,7 @@
 -- A chunk of which no place is spelt otherwise is, behind its first 32 bytes, its own archive copy.
 --     header-length    a header has 31 bytes
 --     spelling-behind  a chunk is spelt as the function is that begins at its byte 32
+--     plain-by         where main, with all that nest in it, is what a copy writes of it, that copy is the chunk behind its first 32 bytes
 --     plain-copy       where no place is spelt otherwise, the copy is the chunk behind its first 32 bytes
 --     plain-length     so it is as long
 --     copy-plain       and only there, if the limits allow a string of one byte
@@ -18,7 +19,7 @@ use Rattle.format.specs.Form.{Bytes, Below, Form, Then, Spelt}
 use Rattle.format.specs.GrammarFields.{Byte}
 use Rattle.format.specs.GrammarHeader.{Headed, BeforeFormat, BehindFormat, Header}
 use Rattle.format.specs.Reading.{Prototype, Reading}
-use Rattle.format.specs.GrammarChunk.{outermost, Chunk}
+use Rattle.format.specs.GrammarChunk.{outermost, Function, Chunk}
 use Rattle.format.specs.declared.spelling.Spelling.{Spelling}
 use Rattle.format_spelling.specs.Spelling.{same, _⊕_, respelt, spellingOf, respeltIn}
 use Rattle.format_spelling.specs.Spelling as tally
@@ -28,7 +29,8 @@ use Rattle.format.proofs.Below.{below-split, parts}
 use Rattle.format_spelling.proofs.Sums.{join-same, same-join}
 use Rattle.format_copy.proofs.CopyChunk.{copy-belongs, copy-tidy}
 use Rattle.format_spelling.proofs.SpellingLaws.{tells-function}
-use Rattle.format_copy.proofs.OwnChunk.{function-main}
+use Rattle.format_copy.proofs.OwnChunk.{dropped, function-main}
+use Rattle.format_copy.proofs.Own.{Sort, places, Own, weaken}
 
 -- ## The header's length
 joined : {A B : Type 0} {F : Form A} {G : A → Form B} {at : ℕ} {b : Bytes} {y : B} {n m : ℕ} (d : Then F G at b y) → length (d .front) ≡ n → length (d .back) ≡ m → length b ≡ n + m
@@ -94,24 +96,36 @@ module _ {L : ResourceLimits} {chunk : Bytes} {r : Reading} (c : Chunk L chunk r
       ∙ sym (tells-function L (L .«max_nesting_depth») outermost .same _ (f .front) (f .value) (c .trailing) (f .one))
       ∙ ap₂ (count.function L (L .«max_nesting_depth») outermost) (ap (λ n. n + length (c .main .two .front)) (zero-add (length (c .main .front))) ∙ where-it-is) (sym behind-is)
 
+  -- another front, of as many bytes
+  pub front-length : (u : ℕ) → length (headerBytes 0 ++ (fieldBytes 1 u ++ drop 32 chunk)) ≡ length chunk
+  front-length u =
+      let size : length chunk ≡ 32 + length (drop 32 chunk) = ap length whole ∙ length-append first (inside ++ c .trailing) ∙ ap₂ _+_ (length-append (c .main .front) (c .main .two .front) ∙ where-it-is) (ap length (sym behind-is)) in
+      length-append (headerBytes 0) (fieldBytes 1 u ++ drop 32 chunk) ∙ ap (λ n. 31 + n) (length-append (fieldBytes 1 u) (drop 32 chunk)) ∙ omega (arith, size)
+
 module _ {L : ResourceLimits} {chunk : Bytes} {r : Reading} (c : Chunk L chunk r) (h : Below 256 chunk) where
-  -- WHERE NO PLACE IS SPELT OTHERWISE, THE COPY IS THE CHUNK
-  pub plain-copy : respeltIn c ≡ 0 → copy r ≡ headerBytes 0 ++ (fieldBytes 1 (upvaluesOfMain (r .functions)) ++ drop 32 chunk)
-  unfolding copy spellingOf tally.main tally.both tally.none
-  plain-copy none =
+  -- where main and all that nest in it are what a copy writes of them, the copy is the chunk
+  pub plain-by : (m : Sort) (enc : List Prototype → Bytes) → Own m (Function L (L .«max_nesting_depth») outermost) (tally.function L (L .«max_nesting_depth») outermost) (λ ps b. b ≡ enc ps) → places m (spellingOf c) ≡ 0
+      → headerBytes 0 ++ (fieldBytes 1 (upvaluesOfMain (r .functions)) ++ (enc (r .functions) ++ r .trailing)) ≡ headerBytes 0 ++ (fieldBytes 1 (upvaluesOfMain (r .functions)) ++ drop 32 chunk)
+  unfolding spellingOf tally.main tally.both tally.none
+  plain-by m enc one none =
       let d = c .main in
       let f = d .two .two in
       let k = below-split 256 (c .front) (c .trailing) (rw (c .whole) at h) in
       let below = parts f (parts (d .two) (parts d (k .0) .1) .1) .0 in
-      let is : f .front ≡ functionsBytes (f .value) = function-main L (L .«max_nesting_depth») .own _ (f .front) (f .value) below (f .one) (omega (arith, none)) .joined in
+      let spelt = tally.function L (L .«max_nesting_depth») outermost .of (0 + length (d .front) + length (d .two .front)) (f .front) (f .value) (f .one) in
+      let alone : same ⊕ (same ⊕ (spelt ⊕ same)) ≡ spelt = same-join _ ∙ same-join _ ∙ join-same _ in
+      let is : f .front ≡ enc (f .value) = one .own _ (f .front) (f .value) below (f .one) (ap (places m) (sym alone) ∙ none) in
       let ps : c .value .functions ≡ f .value = ap (λ m. m .functions) (sym (f .two .1)) in
       rw (← c .shows, ps, behind-is c, is)
 
+  -- WHERE NO PLACE IS SPELT OTHERWISE, THE COPY IS THE CHUNK
+  pub plain-copy : respeltIn c ≡ 0 → copy r ≡ headerBytes 0 ++ (fieldBytes 1 (upvaluesOfMain (r .functions)) ++ drop 32 chunk)
+  unfolding copy
+  plain-copy none = plain-by dropped functionsBytes (weaken (λ ps b w. w .joined) (function-main L (L .«max_nesting_depth»))) none
+
   -- it is as long
   pub plain-length : respeltIn c ≡ 0 → length (copy r) ≡ length chunk
-  plain-length none =
-      let size : length chunk ≡ 32 + length (drop 32 chunk) = ap length (whole c) ∙ length-append (first c) (inside c ++ c .trailing) ∙ ap₂ _+_ (length-append (c .main .front) (c .main .two .front) ∙ where-it-is c) (ap length (sym (behind-is c))) in
-      ap length (plain-copy none) ∙ length-append (headerBytes 0) (fieldBytes 1 (upvaluesOfMain (r .functions)) ++ drop 32 chunk) ∙ ap (λ n. 31 + n) (length-append (fieldBytes 1 (upvaluesOfMain (r .functions))) (drop 32 chunk)) ∙ omega (arith, size)
+  plain-length none = ap length (plain-copy none) ∙ front-length c (upvaluesOfMain (r .functions))
 
   -- AND ONLY THERE, if the limits allow a string of one byte
   pub copy-plain : 1 ≤ L .«max_string_bytes» → copy r ≡ headerBytes 0 ++ (fieldBytes 1 (upvaluesOfMain (r .functions)) ++ drop 32 chunk) → respeltIn c ≡ 0

@@ -17,7 +17,7 @@ use Rattle.format_spelling.proofs.SpellingLaws.{Tells, tells-none, tell
 use Rattle.format_spelling.proofs.Few.{Few, few-none, few-both, few-number, bounded}
 
 pub between-join : {a b : Spelling} {at mid to : ℕ} → Between a at mid → Between b mid to → Between (a ⊕ b) at to
-between-join x y = record { padded = omega (arith, x .padded, y .padded); filled = omega (arith, x .filled, y .filled); sources = omega (arith, x .sources, y .sources) }
+between-join x y = record { padded = omega (arith, x .padded, y .padded); filled = omega (arith, x .filled, y .filled); sources = omega (arith, x .sources, y .sources); repeated = omega (arith, x .repeated, y .repeated) }
 
 pub record Covers {A : Type 0} (r : Reader A) (c : Count) : Type 0 where
   pub covers : (at : ℕ) (s : Bytes) {x : A} {to : ℕ} {rest : Bytes} → r at s ≡ ok x to rest → Between (c at s) at to
@@ -27,7 +27,7 @@ covers-few exact tells few = record {
   covers = λ at s e.
       let b = bounded exact tells few {at = at} {s = s} e in
       let k = b .2 in
-      record { padded = omega (arith, b .1, k .padded); filled = omega (arith, b .1, k .filled); sources = omega (arith, b .1, k .sources) };
+      record { padded = omega (arith, b .1, k .padded); filled = omega (arith, b .1, k .filled); sources = omega (arith, b .1, k .sources); repeated = omega (arith, b .1, k .repeated) };
 }
 
 -- nothing is counted
@@ -56,5 +56,5 @@ module _ {A B : Type 0} {r : Reader A} {c : Count} {f : A → Reader B} (one : C
       by at s (ok x mid t) is e =
           let a = one .covers at s is in
           let b = two x .covers mid t e in
-          record { padded = omega (arith, a .padded, b .padded); filled = omega (arith, a .filled, b .filled); sources = omega (arith, a .sources, b .sources) }
+          record { padded = omega (arith, a .padded, b .padded); filled = omega (arith, a .filled, b .filled); sources = omega (arith, a .sources, b .sources); repeated = omega (arith, a .repeated, b .repeated) }
       by at s (refused q) is e = absurd (never e)

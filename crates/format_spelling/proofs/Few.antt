@@ -18,6 +18,7 @@ use Rattle.format.specs.GrammarFields.{LuaString}
 use Rattle.format.specs.Reading.{Prototype, Reading}
 use Rattle.format.specs.GrammarChunk.{inherit, Where, after, within, outermost, Body, Function, Chunk}
 use Rattle.format.specs.Shortest.{shortest}
+use Rattle.format.specs.FullCopy.{equalSources}
 use Rattle.format.specs.Read.{ok, Reader}
 use Rattle.format.specs.declared.spelling.Spelling.{Spelling}
 use Rattle.format_spelling.specs.Spelling.{same, filling, dropping, Tally}
@@ -30,13 +31,14 @@ pub record Within (a : Spelling) (n : ℕ) : Type 0 where
   pub padded : a .padded ≤ n
   pub filled : a .filled ≤ n
   pub sources : a .sources ≤ n
+  pub repeated : a .repeated ≤ n
 
 pub record Few {A : Type 0} {F : Form A} (p : Tally F) : Type 0 where
   pub few : (at : ℕ) (bytes : Bytes) (x : A) (d : F at bytes x) → Within (p .of at bytes x d) (length bytes)
 
 pub few-none : {A : Type 0} {F : Form A} → Few (tally.none {F = F})
 unfolding tally.none
-few-none = record { few = λ at bytes x d. record { padded = omega arith; filled = omega arith; sources = omega arith } }
+few-none = record { few = λ at bytes x d. record { padded = omega arith; filled = omega arith; sources = omega arith; repeated = omega arith } }
 
 either-one : (b : Bool) {m n : ℕ} → m ≤ 1 → n ≤ 1 → cond b m n ≤ 1
 either-one true h k = h
@@ -50,7 +52,7 @@ unfolding tally.number
 few-number = record {
   few = λ at bytes v d.
       let size : length bytes ≡ length (d .more) + 1 = ap length (d .whole) ∙ length-append (d .more) (d .last ∷ []) in
-      record { padded = omega (arith, size, at-most-one (ltb (length (shortest v)) (length bytes))); filled = omega arith; sources = omega arith };
+      record { padded = omega (arith, size, at-most-one (ltb (length (shortest v)) (length bytes))); filled = omega arith; sources = omega arith; repeated = omega arith };
 }
 
 pub few-both : {A B : Type 0} {F : Form A} {G : A → Form B} {p : Tally F} {q : (x : A) → Tally (G x)} → Few p → ((x : A) → Few (q x)) → Few (tally.both p q)
@@ -60,7 +62,7 @@ few-both one two = record {
       let size : length bytes ≡ length (d .front) + length (d .back) = ap length (d .whole) ∙ length-append (d .front) (d .back) in
       let a = one .few at (d .front) (d .value) (d .one) in
       let b = two (d .value) .few (at + length (d .front)) (d .back) y (d .two) in
-      record { padded = omega (arith, size, a .padded, b .padded); filled = omega (arith, size, a .filled, b .filled); sources = omega (arith, size, a .sources, b .sources) };
+      record { padded = omega (arith, size, a .padded, b .padded); filled = omega (arith, size, a .filled, b .filled); sources = omega (arith, size, a .sources, b .sources); repeated = omega (arith, size, a .repeated, b .repeated) };
 }
 
 -- so a count does not exceed the bytes passed over
@@ -89,14 +91,15 @@ record Small (a : Spelling) : Type 0 where
   padded : a .padded ≡ 0
   filled : a .filled ≤ 1
   sources : a .sources ≤ 1
+  repeated : a .repeated ≤ 1
 
 filling-small : (t : Option LuaString) → Small (filling t)
-filling-small option.none = record { padded = refl; filled = omega arith; sources = omega arith }
-filling-small (option.some t) = record { padded = refl; filled = omega arith; sources = omega arith }
+filling-small option.none = record { padded = refl; filled = omega arith; sources = omega arith; repeated = omega arith }
+filling-small (option.some t) = record { padded = refl; filled = omega arith; sources = omega arith; repeated = omega arith }
 
 dropping-small : (w : Where) (t : Option LuaString) → Small (dropping w t)
-dropping-small w option.none = record { padded = refl; filled = omega arith; sources = omega arith }
-dropping-small w (option.some t) = record { padded = refl; filled = omega arith; sources = either-one (eqb (w .number) 0) (omega arith) (omega arith) }
+dropping-small w option.none = record { padded = refl; filled = omega arith; sources = omega arith; repeated = omega arith }
+dropping-small w (option.some t) = record { padded = refl; filled = omega arith; sources = either-one (eqb (w .number) 0) (omega arith) (omega arith); repeated = at-most-one (equalSources (option.some t) (w .source)) }
 
 few-besides : (limit : ℕ) (f : Option LuaString → Spelling) → ((t : Option LuaString) → Small (f t)) → Few (tally.besides (tally.string limit) f)
 unfolding tally.besides tally.string tally.both tally.none tally.number
@@ -107,7 +110,7 @@ few-besides limit f small = record {
       let size : length bytes ≡ length (d .front) + length (d .back) = ap length (d .whole) ∙ length-append (d .front) (d .back) in
       let one : length (d .front) ≡ length (n .more) + 1 = ap length (n .whole) ∙ length-append (n .more) (n .last ∷ []) in
       let long = at-most-one (ltb (length (shortest (d .value))) (length (d .front))) in
-      record { padded = omega (arith, size, one, long, k .padded); filled = omega (arith, size, one, k .filled); sources = omega (arith, size, one, k .sources) };
+      record { padded = omega (arith, size, one, long, k .padded); filled = omega (arith, size, one, k .filled); sources = omega (arith, size, one, k .sources); repeated = omega (arith, size, one, k .repeated) };
 }
 
 pub few-counted : {A : Type 0} {F : Form A} {p : Tally F} → Few p → Few (tally.counted p)
@@ -199,4 +202,4 @@ unfolding tally.spellingOf
 spelling-few {L} {chunk} c =
     let k = few-main L .few 0 (c .front) (c .value) (c .main) in
     let size : length chunk ≡ length (c .front) + length (c .trailing) = ap length (c .whole) ∙ length-append (c .front) (c .trailing) in
-    record { padded = omega (arith, size, k .padded); filled = omega (arith, size, k .filled); sources = omega (arith, size, k .sources) }
+    record { padded = omega (arith, size, k .padded); filled = omega (arith, size, k .filled); sources = omega (arith, size, k .sources); repeated = omega (arith, size, k .repeated) }

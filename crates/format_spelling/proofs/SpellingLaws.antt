@@ -40,7 +40,7 @@ tells-none = record { same = λ at bytes x rest d. refl }
 
 pub tells-number : Tells count.number tally.number
 unfolding tally.number
-tells-number = record { same = λ at bytes v rest d. ap (λ n. record { padded = n; filled = 0; sources = 0 }) (padded-first at bytes v rest d) }
+tells-number = record { same = λ at bytes v rest d. ap (λ n. record { padded = n; filled = 0; sources = 0; repeated = 0 }) (padded-first at bytes v rest d) }
 
 module _ {A B : Type 0} {r : Reader A} {F : Form A} {G : A → Form B} {c : Count} {p : Tally F} {f : A → Count} {q : (x : A) → Tally (G x)} where
   pub tells-both : Exact r F → Tells c p → ((x : A) → Tells (f x) (q x)) → Tells (plus r c f) (tally.both p q)

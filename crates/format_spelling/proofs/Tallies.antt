@@ -20,16 +20,16 @@ use Rattle.format_spelling.proofs.Sums.{join-same, join-assoc}
 use Rattle.format_spelling.proofs.Covers.{Covers, between-join}
 
 -- ## Room
--- who does not count lends three numbers that nobody reads
-pub room-unused : (at : ℕ) → Room (0 ∷ 0 ∷ 0 ∷ []) at
-room-unused at = record { room = record { padded = omega arith; filled = omega arith; sources = omega arith } }
+-- who does not count lends four numbers that nobody reads
+pub room-unused : (at : ℕ) → Room (0 ∷ 0 ∷ 0 ∷ 0 ∷ []) at
+room-unused at = record { room = record { padded = omega arith; filled = omega arith; sources = omega arith; repeated = omega arith } }
 
 pub room-more : {t : List ℕ} {at to : ℕ} → Room t at → at ≤ to → Room t to
-room-more r h = let b = r .room in record { room = record { padded = omega (arith, b .padded); filled = omega (arith, b .filled); sources = omega (arith, b .sources) } }
+room-more r h = let b = r .room in record { room = record { padded = omega (arith, b .padded); filled = omega (arith, b .filled); sources = omega (arith, b .sources); repeated = omega (arith, b .repeated) } }
 
 -- what `add` asks
 pub room-fits : {t : List ℕ} {n : Spelling} {at to : ℕ} → Room t at → Between n at to → to < 2 ^ 64 → Fits (counts t) n
-room-fits r b l = let a = r .room in record { padded = omega (arith, a .padded, b .padded); filled = omega (arith, a .filled, b .filled); sources = omega (arith, a .sources, b .sources) }
+room-fits r b l = let a = r .room in record { padded = omega (arith, a .padded, b .padded); filled = omega (arith, a .filled, b .filled); sources = omega (arith, a .sources, b .sources); repeated = omega (arith, a .repeated, b .repeated) }
 
 -- behind what was read
 pub room-on : {A : Type 0} {r : Reader A} {c : Count} → Covers r c → {t t′ : List ℕ} (at : ℕ) (s : Bytes) {x : A} {to : ℕ} {rest : Bytes} → Room t at → r at s ≡ ok x to rest → Adds (r at s) (c at s) t t′ → Room t′ to

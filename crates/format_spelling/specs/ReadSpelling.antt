@@ -44,7 +44,7 @@ isPadded [] = false
 isPadded (x ∷ s) = eqb x 0
 
 abbrev pub number : Count
-number at s = record { padded = cond (isPadded s) 1 0; filled = 0; sources = 0 }
+number at s = record { padded = cond (isPadded s) 1 0; filled = 0; sources = 0; repeated = 0 }
 
 -- a string's size
 abbrev pub string : Count

@@ -1,7 +1,7 @@
--- How a chunk is spelt (02, item 1): how many of its numbers are padded, and in how many other places its archive copy (crates/format/specs/Copy.antt) spells the same reading otherwise.
+-- How a chunk is spelt (02, item 1): how many of its numbers are padded, and in how many other places its archive copy (crates/format/specs/Copy.antt) or its full copy (FullCopy.antt) spells the same reading otherwise.
 -- Counted along the grammar (crates/format/specs/GrammarChunk.antt), with no reader: a tally of a form goes by how bytes are of the form, and has a line for each of its lines. `Spelling` is what the code carries.
 -- Where they come from: lundump.c's `loadUnsigned` takes leading zero groups, and ldump.c's `dumpSize` writes none (padded); `loadStringN` takes size 0 where 01 shows a string (filled); `dumpFunction` writes the
--- source of a nested function as absent where it is its parent's, and 01's copy always (sources).
+-- source of a nested function as absent where it is its parent's (repeated), and 01's copy always (sources).
 -- Not counted: header (the copy writes format 0) and byte 31, which have no number; an absent upvalue name, which the copy writes as absent; trailing bytes.
 use mathlib.Core.Bool.{Bool, true, false, cond}
 use mathlib.Core.List.{List, [], _∷_}
@@ -17,18 +17,22 @@ use Rattle.format.specs.GrammarFields.{LuaString, Number, String}
 use Rattle.format.specs.Reading.{Prototype, Reading}
 use Rattle.format.specs.GrammarChunk.{Counted, CountedUpTo, Always, Tagged, Constant, Anchor, Local, inherit, Where, after, within, outermost, Forest, Body, Function, Main, Chunk}
 use Rattle.format.specs.Shortest.{shortest}
+use Rattle.format.specs.FullCopy.{equalSources}
 
 infixl 6 _⊕_
 -- no place is otherwise
 abbrev pub same : Spelling
-same = record { padded = 0; filled = 0; sources = 0 }
+same = record { padded = 0; filled = 0; sources = 0; repeated = 0 }
 
 abbrev pub _⊕_ : Spelling → Spelling → Spelling
-_⊕_ a b = record { padded = a .padded + b .padded; filled = a .filled + b .filled; sources = a .sources + b .sources }
+_⊕_ a b = record { padded = a .padded + b .padded; filled = a .filled + b .filled; sources = a .sources + b .sources; repeated = a .repeated + b .repeated }
 
--- in how many places
+-- in how many places: in the archive copy, and in the full copy
 abbrev pub respelt : Spelling → ℕ
 respelt a = a .padded + a .filled + a .sources
+
+abbrev pub respeltFull : Spelling → ℕ
+respeltFull a = a .padded + a .filled + a .repeated
 
 -- of bytes that are of the form F: how they are spelt
 pub record Tally {A : Type 0} (F : Form A) : Type 0 where
@@ -58,7 +62,7 @@ each (suc n) p = both p λ x. both (each n p) λ xs. none
 -- ## Numbers and strings
 -- padded: spelt longer than the shortest spelling. (02: "whether it was in its shortest form")
 unfoldable pub number : Tally Number
-number = record { of = λ at bytes v d. record { padded = cond (ltb (length (shortest v)) (length bytes)) 1 0; filled = 0; sources = 0 } }
+number = record { of = λ at bytes v d. record { padded = cond (ltb (length (shortest v)) (length bytes)) 1 0; filled = 0; sources = 0; repeated = 0 } }
 
 -- a string's size is a number, absent or not. (02: "string sizes included")
 unfoldable pub string : (limit : ℕ) → Tally (String limit)
@@ -74,7 +78,7 @@ countedUpTo limit p = both number λ n. both none λ _. both none λ place. both
 -- ## Entries
 -- a string constant or a local name of size 0: the copy writes what it reads as, empty or `?`
 abbrev pub filling : Option LuaString → Spelling
-filling option.none = record { padded = 0; filled = 1; sources = 0 }
+filling option.none = record { padded = 0; filled = 1; sources = 0; repeated = 0 }
 filling (option.some t) = same
 
 unfoldable pub always : (limit : ℕ) (instead : Bytes) → Tally (Always limit instead)
@@ -101,10 +105,10 @@ unfoldable pub local : (limit : ℕ) → Tally (Local limit)
 local limit = both (always limit (63 ∷ [])) λ name. both number λ startpc. both number λ endpc. none
 
 -- ## Functions
--- the source of a function that stands at w, where it is spelt: the copy drops it but for main's, and main has the number 0
+-- the source of a function that stands at w, where it is spelt: the archive copy drops it but for main's, and main has the number 0; the full copy where it is the parent's as read (`w .source`; main has no parent)
 abbrev pub dropping : Where → Option LuaString → Spelling
 dropping w option.none = same
-dropping w (option.some t) = record { padded = 0; filled = 0; sources = cond (eqb (w .number) 0) 0 1 }
+dropping w (option.some t) = record { padded = 0; filled = 0; sources = cond (eqb (w .number) 0) 0 1; repeated = cond (equalSources (option.some t) (w .source)) 1 0 }
 
 unfoldable pub source : (limit : ℕ) → Where → Tally (String limit)
 source limit w = besides (string limit) (dropping w)
@@ -162,3 +166,7 @@ paddedIn c = spellingOf c .padded
 -- IN HOW MANY PLACES ITS ARCHIVE COPY SPELLS OTHERWISE
 abbrev pub respeltIn : {L : ResourceLimits} {chunk : Bytes} {r : Reading} → Chunk L chunk r → ℕ
 respeltIn c = respelt (spellingOf c)
+
+-- IN HOW MANY PLACES ITS FULL COPY SPELLS OTHERWISE
+abbrev pub respeltFullIn : {L : ResourceLimits} {chunk : Bytes} {r : Reading} → Chunk L chunk r → ℕ
+respeltFullIn c = respeltFull (spellingOf c)

@@ -4,8 +4,8 @@ ghost use Rattle.format_spelling.specs.Spelling as spec;
 ghost use Rattle.format_spelling.specs.Inner.Tally.{ofNumber, counts, Fits};
 use format::spelling::Spelling;
 
-// Padded numbers, strings that the copy fills, sources that it drops.
-pub type Tally = [usize; 3];
+// Padded numbers, strings that the copy fills, sources that it drops, and those of them that are the parent's.
+pub type Tally = [usize; 4];
 
 // Counts further places. No count exceeds the bytes passed over, so the sums fit. Ruled out: two counts exchanged, a count set in place of added to.
 pub fn add(tally: &mut Tally, more: Spelling)
@@ -16,6 +16,7 @@ pub fn add(tally: &mut Tally, more: Spelling)
         tally[0] + more.padded,
         tally[1] + more.filled,
         tally[2] + more.sources,
+        tally[3] + more.repeated,
     ];
 }
 
@@ -31,6 +32,7 @@ pub fn add_number(tally: &mut Tally, padded: bool)
                 padded: 1,
                 filled: 0,
                 sources: 0,
+                repeated: 0,
             },
         );
     }
@@ -44,5 +46,6 @@ pub fn spelling_of(tally: &Tally) -> Spelling
         padded: tally[0],
         filled: tally[1],
         sources: tally[2],
+        repeated: tally[3],
     }
 }

@@ -38,7 +38,7 @@ pub fn function_index(s: &[u8], limits: ResourceLimits, rows: &mut [u32]) -> Ind
                 number: 0,
                 instructions: 0,
             };
-            let mut unused = [0usize; 3];
+            let mut unused = [0usize; 4];
             write_function(
                 s,
                 limits,

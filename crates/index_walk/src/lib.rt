@@ -35,7 +35,7 @@ pub fn write_function(
     ensures { λ r. ⌜ ((w : grammar.Where) → from .number ≡ w .number → from .instructions ≡ w .instructions → r ≡ skimResult w (function limits left w (from .next .at) (drop (from .next .at) (now (s .entry))))) ⌝ }
     ensures { λ _. ⌜ ((w : grammar.Where) → from .number ≡ w .number → from .instructions ≡ w .instructions → depth ≡ w .depth → parent ≡ w .parent → Wrote w (function limits left w (from .next .at) (drop (from .next .at) (now (s .entry)))) (now (rows .entry)) (now (rows .exit))) ⌝ }
 {
-    *unused = [0usize; 3];
+    *unused = [0usize; 4];
     let begins = pass_head(s, limits, from.instructions, from.next, unused);
     match begins {
         HeadCountsResult::Err(refusal) => SkimResult::Err(refusal),
@@ -76,7 +76,7 @@ pub fn write_function(
                 }
                 more -= 1;
             }
-            *unused = [0usize; 3];
+            *unused = [0usize; 4];
             let ends = pass_tail(s, limits.max_string_bytes, nested.next, unused);
             match ends {
                 TailCountsResult::Err(refusal) => SkimResult::Err(refusal),

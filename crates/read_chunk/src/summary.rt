@@ -145,7 +145,7 @@ pub fn judge_spelling(s: &[u8], limits: ResourceLimits) -> SpeltResult
                 number: 0,
                 instructions: 0,
             };
-            let mut tally = [0usize; 3];
+            let mut tally = [0usize; 4];
             let functions = skim_main(s, limits, limits.max_nesting_depth, from, &mut tally);
             match functions {
                 SkimResult::Err(refusal) => SpeltResult::Err(refusal),

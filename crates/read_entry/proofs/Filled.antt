@@ -63,7 +63,7 @@ module _ (limit at : ℕ) (s : Bytes) {shown : OptionString} {to : ℕ} (w : Sho
   pub filled-fits : Room t at → to < 2 ^ 64 → Fits (counts t₁) (ofString shown)
   filled-fits room small =
       let b = subst (λ a. Between a 0 to) (sym both) (between-join (room .room) (covers-filled limit .covers at s (w .was .is))) in
-      record { padded = omega (arith, b .padded); filled = omega (arith, b .filled); sources = omega (arith, b .sources) }
+      record { padded = omega (arith, b .padded); filled = omega (arith, b .filled); sources = omega (arith, b .sources); repeated = omega (arith, b .repeated) }
 
   pub filled-adds : {t₂ : List ℕ} → counts t₂ ≡ counts t₁ ⊕ ofString shown → Adds (string limit at s) (count.always limit at s) t t₂
   filled-adds e = adds-all (e ∙ both)

@@ -76,6 +76,7 @@ fn add_absent(tally: &mut Tally, string: OptionString)
                     padded: 0,
                     filled: 1,
                     sources: 0,
+                    repeated: 0,
                 },
             );
         }

@@ -1,16 +1,13 @@
 -- The spot of a function: what is read there, and what a walk leaves of it.
---     no-source, source-there          what is read at the place of a source
 --     no-head, no-tail, row-there      what is read at a spot
---     spelt-there, below-stands        what nested functions inherit, from the place of a source
+--     below-stands                     what nested functions inherit, from the place of a source
 --     main-stands, no-row-left         at the end of the file no function stands: where main stands, and a spot that was not found
 --     this-row                         the row at the spot that a walk leaves of a function is the function's
 -- Assumes nothing.
 use mathlib.Core.Path.{_≡_, refl, sym, _∙_, ap}
-use mathlib.Core.Bool.{cond}
 use mathlib.Core.List.{List, [], append-nil}
 use mathlib.Core.Option.{Option, none, some}
 use Prim.Native.Nat.{ℕ, _+_}
-use native.Mathlib.Omega.{arith}
 use lib.ListN.{length, drop, getD, replicate}
 use lib.Seq.{drop-append-seam}
 use Rattle.format.specs.GrammarFields.{LuaString}
@@ -19,91 +16,29 @@ use Rattle.format.specs.declared.refusal.Refusal.{Refusal}
 use Rattle.format.specs.Form.{Bytes}
 use Rattle.format.specs.GrammarChunk as grammar
 use Rattle.format.specs.GrammarChunk.{inherit, outermost}
-use Rattle.format.specs.Read.{Read, ok, refused, Reader, next, give}
-use Rattle.format.specs.ReadFields as fields
-use Rattle.format.proofs.Exact.{never}
-use Rattle.read_entry.specs.Readers.{Count, protosCount}
+use Rattle.format.specs.Read.{Read, ok, next}
 use Rattle.slice.specs.declared.cursor.Cursor.{Cursor}
 use Rattle.slice.specs.Shown.{cursorAt}
-use Rattle.read_field.specs.Shown.{optionString, stringResult}
+use Rattle.read_field.specs.Shown.{optionString}
 use Rattle.read_field.specs.declared.string.OptionString.{OptionString}
 use Rattle.read_field.specs.declared.string.OptionString.the-variants as string
-use Rattle.read_field.specs.declared.string.StringResult.the-variants as string-answer
 use Rattle.read_prototype.specs.declared.parts.Head as declared-head
 use Rattle.read_prototype.specs.declared.parts.HeadResult.the-variants as head-answer
 use Rattle.read_prototype.specs.declared.parts.Tail as declared-tail
 use Rattle.read_prototype.specs.declared.parts.TailResult.the-variants as tail-answer
 use Rattle.read_prototype.specs.declared.row.OptionRow.the-variants as option
-use Rattle.read_prototype.specs.declared.front.Lines.{Lines}
-use Rattle.read_prototype.specs.declared.front.Sizes.{Sizes}
-use Rattle.read_prototype.specs.Front.{Front, front, lines, sizes}
+use Rattle.read_prototype.specs.Front.{front, lines, sizes}
 use Rattle.read_prototype.specs.Parts as parts
-use Rattle.read_prototype.specs.Parts.{Head, HeadLists, headLists, Tail}
+use Rattle.read_prototype.specs.Parts.{Head, Tail}
 use Rattle.read_prototype.specs.PartsShown.{headOf, tailOf, headResult, tailResult}
-use Rattle.read_prototype.specs.Inner.Counts.{isSpelt, headCounts}
+use Rattle.read_prototype.specs.Inner.Counts.{headCounts}
 use Rattle.read_prototype.specs.Inner.Row.{rowOf}
 use Rattle.read_prototype.specs.Inner.Whole.{prototypeOf, inside}
 use Rattle.read_walk.specs.declared.walk.Skimmed.{Skimmed}
+use Rattle.read_walk.specs.Inner.Source.{sourceAt}
+use Rattle.read_walk.proofs.Sources.{spelt-at, inherits-at, none-at-end}
 use Rattle.read_find.specs.declared.spot.Above.{Above}
-use Rattle.read_find.specs.Inner.Spot.{spotOf, belowShown, spelt, sourceAt, standing, inheritShown, rowShown, rowFrom, rowAt}
-
--- ## The source at a place
-module _ (limit : ℕ) (s : Bytes) (at : ℕ) where
-  pub no-source : (q : Refusal) → string-answer.Err q ≡ stringResult (fields.string limit at (drop at s)) → string.None ≡ optionString (sourceAt limit s at)
-  no-source q e = by (fields.string limit at (drop at s)) e
-    where
-      by : (o : Read (Option LuaString)) → string-answer.Err q ≡ stringResult o → string.None ≡ optionString (spelt o)
-      by (ok t to rest) e = absurd (let z : _≡_ {A = ℕ} 0 1 = cc in omega arith)
-      by (refused p) e = refl
-
-  pub source-there : (t : OptionString) (c : Cursor) → string-answer.Ok t c ≡ stringResult (fields.string limit at (drop at s)) → t ≡ optionString (sourceAt limit s at)
-  source-there t c e = by (fields.string limit at (drop at s)) e
-    where
-      by : (o : Read (Option LuaString)) → string-answer.Ok t c ≡ stringResult o → t ≡ optionString (spelt o)
-      by (ok x to rest) e = let same : t ≡ optionString x = cc in same
-      by (refused p) e = absurd (let z : _≡_ {A = ℕ} 0 1 = cc in omega arith)
-
-  -- it is the front's first field
-  front-source : {f : Front} {to : ℕ} {rest : Bytes} → front limit at (drop at s) ≡ ok f to rest → sourceAt limit s at ≡ f .source
-  front-source {f} {to} {rest} e = one (fields.string limit at (drop at s)) e
-    where
-      whole : Option LuaString → Lines → Sizes → Reader Front
-      whole t l z = give (record { source = t; lines = l; sizes = z })
-
-      three : (t : Option LuaString) (l : Lines) (o : Read Sizes) → next o (whole t l) ≡ ok f to rest → t ≡ f .source
-      three t l (refused q) e = absurd (never e)
-      three t l (ok z a b) e = let same : record { source = t; lines = l; sizes = z } ≡ f = cc in ap (λ f. f .source) same
-
-      two : (t : Option LuaString) (o : Read Lines) → next o (λ l a b. next (sizes a b) (whole t l)) ≡ ok f to rest → t ≡ f .source
-      two t (refused q) e = absurd (never e)
-      two t (ok l a b) e = three t l (sizes a b) e
-
-      one : (o : Read (Option LuaString)) → next o (λ t a b. next (lines a b) (λ l c d. next (sizes c d) (whole t l))) ≡ ok f to rest → spelt o ≡ f .source
-      one (refused q) e = absurd (never e)
-      one (ok t a b) e = two t (lines a b) e
-
--- of the function that was read there
-pub spelt-there : (L : ResourceLimits) (before at : ℕ) (s : Bytes) {h : Head} {to : ℕ} {rest : Bytes} → parts.head L before at (drop at s) ≡ ok h to rest → sourceAt (L .«max_string_bytes») s at ≡ h .front .source
-spelt-there L before at s {h} {to} {rest} e = one (front (L .«max_string_bytes») at (drop at s)) refl e
-  where
-    whole : Front → HeadLists → Count → Reader Head
-    whole f l p = give (record { front = f; lists = l; protos = p })
-
-    three : (f : Front) (l : HeadLists) (o : Read Count) → next o (whole f l) ≡ ok h to rest → f .source ≡ h .front .source
-    three f l (refused q) e = absurd (never e)
-    three f l (ok p a b) e = let same : record { front = f; lists = l; protos = p } ≡ h = cc in ap (λ h. h .front .source) same
-
-    two : (f : Front) (o : Read HeadLists) → next o (λ l a b. next (protosCount (L .«max_total_prototypes») a b) (whole f l)) ≡ ok h to rest → f .source ≡ h .front .source
-    two f (refused q) e = absurd (never e)
-    two f (ok l a b) e = three f l (protosCount (L .«max_total_prototypes») a b) e
-
-    one : (o : Read Front) → front (L .«max_string_bytes») at (drop at s) ≡ o → next o (λ f a b. next (headLists L before a b) (λ l c d. next (protosCount (L .«max_total_prototypes») c d) (whole f l))) ≡ ok h to rest → sourceAt (L .«max_string_bytes») s at ≡ h .front .source
-    one (refused q) is e = absurd (never e)
-    one (ok f a b) is e = front-source (L .«max_string_bytes») s at is ∙ two f (headLists L before a b) e
-
-pick-source : (at above : ℕ) (limit : ℕ) (s : Bytes) (own : Option LuaString) → sourceAt limit s at ≡ own → sourceAt limit s (cond (isSpelt (optionString own)) at above) ≡ inherit own (sourceAt limit s above)
-pick-source at above limit s none e = refl
-pick-source at above limit s (some t) e = e
+use Rattle.read_find.specs.Inner.Spot.{spotOf, belowShown, standing, inheritShown, rowShown, rowFrom, rowAt}
 
 -- where the first function stands that nests in one
 pub below-stands : (L : ResourceLimits) (s : Bytes) (a : Above) (k : Skimmed) {h : Head} {to : ℕ} {rest : Bytes} → parts.head L (k .instructions) (k .next .at) (drop (k .next .at) s) ≡ ok h to rest → (behind : Cursor)
@@ -113,19 +48,16 @@ below-stands L s a k {h} e behind = λ i. record {
   instructions = k .instructions + length (h .lists .instructions .items);
   depth = a .depth + 1;
   parent = k .number;
-  source = pick-source (k .next .at) (a .source) (L .«max_string_bytes») s (h .front .source) (spelt-there L (k .instructions) (k .next .at) s e) i;
+  source = sym (inherits-at (L .«max_string_bytes») s (k .next .at) (a .source) (h .front .source) (sourceAt (L .«max_string_bytes») s (a .source)) (spelt-at L (k .instructions) s (k .next .at) e) refl) i;
 }
 
 -- ## The end of the file: no function stands there
 nothing-left : (s : Bytes) → drop (length s) s ≡ []
 nothing-left s = ap (drop (length s)) (sym (append-nil s)) ∙ drop-append-seam s []
 
-no-source-left : (limit : ℕ) (s : Bytes) → sourceAt limit s (length s) ≡ none
-no-source-left limit s = ap (λ rest. spelt (fields.string limit (length s) rest)) (nothing-left s)
-
 -- where main stands
 pub main-stands : (L : ResourceLimits) (s : Bytes) (at : Cursor) → standing L s (record { depth = 0; parent = 0; source = length s }) (record { next = at; number = 0; instructions = 0 }) ≡ outermost
-main-stands L s at = λ i. record { number = 0; instructions = 0; depth = 0; parent = 0; source = no-source-left (L .«max_string_bytes») s i }
+main-stands L s at = λ i. record { number = 0; instructions = 0; depth = 0; parent = 0; source = none-at-end (L .«max_string_bytes») s i }
 
 -- ## The row at a spot
 module _ (L : ResourceLimits) (s : Bytes) (l : List ℕ) where

@@ -1,13 +1,10 @@
 // The row of one function, read where a walk has found it.
 ghost use mathlib.Core.Path.{_≡_};
-ghost use Rattle.read_field.specs.Shown.{optionString};
-ghost use Rattle.read_find.specs.Inner.Spot.{sourceAt, inheritShown, rowShown, rowAt};
+ghost use Rattle.read_find.specs.Inner.Spot.{inheritShown, rowShown, rowAt};
 use crate::spot::Above;
 use crate::spot::Spot;
 use format::limits::ResourceLimits;
 use read_field::string::OptionString;
-use read_field::string::StringResult;
-use read_field::string::read_string_lua54;
 use read_prototype::parts::Head;
 use read_prototype::parts::HeadResult;
 use read_prototype::parts::Tail;
@@ -17,6 +14,7 @@ use read_prototype::parts::read_tail;
 use read_prototype::row::FunctionRow;
 use read_prototype::row::Lists;
 use read_prototype::row::OptionRow;
+use read_walk::source::source_at;
 use slice::cursor::Cursor;
 
 // An absent source is the parent's.
@@ -26,18 +24,6 @@ fn inherited(spelt: OptionString, parent: OptionString) -> OptionString
     match spelt {
         OptionString::Some(_) => spelt,
         OptionString::None => parent,
-    }
-}
-
-// The source that the function at a place spells; none, where it spells none, or where no function stands. It is a function's first field, and read alone: read_front is to have
-// one caller, so that the compiler keeps it in the judge's walk.
-fn source_at(s: &[u8], max_string_bytes: usize, place: usize) -> OptionString
-    ensures { λ r. ⌜ r ≡ optionString (sourceAt «max_string_bytes» (now (s .entry)) place) ⌝ }
-{
-    let begins = read_string_lua54(s, Cursor { at: place }, max_string_bytes);
-    match begins {
-        StringResult::Err(_) => OptionString::None,
-        StringResult::Ok { string, next: _ } => string,
     }
 }
 
@@ -91,12 +77,12 @@ pub fn row_at(s: &[u8], limits: ResourceLimits, spot: &Spot) -> OptionRow
     ensures { λ r. ⌜ r ≡ rowAt limits (now (s .entry)) (now (spot .entry)) ⌝ }
 {
     let start = spot[0];
-    let mut unused = [0usize; 3];
+    let mut unused = [0usize; 4];
     let begins = read_head(s, limits, spot[2], Cursor { at: start }, &mut unused);
     match begins {
         HeadResult::Err(_) => OptionRow::None,
         HeadResult::Ok { head, next: _ } => {
-            let mut unused = [0usize; 3];
+            let mut unused = [0usize; 4];
             let ends = read_tail(
                 s,
                 limits.max_string_bytes,

@@ -6,6 +6,7 @@ ghost use Prim.Native.Nat.{_+_, _≤_};
 ghost use lib.Dec.{eqb};
 ghost use Rattle.format.specs.Limits.{DEEPEST, MOST, Walkable};
 ghost use Rattle.read_walk.specs.Inner.Skim.{skimResult};
+ghost use Rattle.read_walk.specs.Inner.Source.{handed};
 ghost use Rattle.read_find.specs.Inner.Spot.{spotOf, belowShown, standing, functionAt, functionsAt, rowAt, Found};
 use format::limits::ResourceLimits;
 use format::refusal::Refusal;
@@ -28,7 +29,7 @@ pub struct Above {
 
 // Where the function begins whose source the functions inherit that nest in one: there, where its own is spelt.
 fn source_below(named: bool, start: usize, above: usize) -> usize
-    ensures { λ r. ⌜ r ≡ cond named start above ⌝ }
+    ensures { λ r. ⌜ r ≡ handed named start above ⌝ }
 {
     if named { start } else { above }
 }
@@ -76,7 +77,7 @@ pub fn find_function(
     ensures { λ r. ⌜ r ≡ skimResult (standing limits (now (s .entry)) above from) (functionAt limits (now (s .entry)) left above from) ⌝ }
     ensures { λ _. ⌜ Found wanted (from .number) (functionAt limits (now (s .entry)) left above from) (rowAt limits (now (s .entry)) (now (spot .entry))) (rowAt limits (now (s .entry)) (now (spot .exit))) ⌝ }
 {
-    let mut unused = [0usize; 3];
+    let mut unused = [0usize; 4];
     let begins = pass_head(s, limits, from.instructions, from.next, &mut unused);
     match begins {
         HeadCountsResult::Err(refusal) => SkimResult::Err(refusal),
@@ -84,57 +85,48 @@ pub fn find_function(
             counts,
             next: behind,
         } => {
-            let first = Skimmed {
+            let mut nested = Skimmed {
                 next: behind,
                 number: from.number + 1,
                 instructions: from.instructions + counts.instructions,
             };
-            let nest = below(above, from, counts.named);
-            let inner = find_nested(s, limits, counts.protos, left, nest, wanted, first, spot);
-            match inner {
-                SkimResult::Err(refusal) => SkimResult::Err(refusal),
-                SkimResult::Ok(nested) => {
-                    unused = [0usize; 3];
-                    let ends = pass_tail(s, limits.max_string_bytes, nested.next, &mut unused);
-                    match ends {
-                        TailCountsResult::Err(refusal) => SkimResult::Err(refusal),
-                        TailCountsResult::Ok { counts: _, next } => {
-                            put_spot(spot, wanted, above, from, nested.next.at);
-                            SkimResult::Ok(Skimmed {
-                                next: next,
-                                number: nested.number,
-                                instructions: nested.instructions,
-                            })
-                        }
+            if counts.protos > 0 {
+                let nest = below(above, from, counts.named);
+                let inner = find_functions(
+                    s,
+                    limits,
+                    counts.protos,
+                    left,
+                    nest,
+                    wanted,
+                    nested,
+                    spot,
+                );
+                match inner {
+                    SkimResult::Err(refusal) => return SkimResult::Err(refusal),
+                    SkimResult::Ok(later) => {
+                        nested = later;
                     }
+                }
+            }
+            unused = [0usize; 4];
+            let ends = pass_tail(s, limits.max_string_bytes, nested.next, &mut unused);
+            match ends {
+                TailCountsResult::Err(refusal) => SkimResult::Err(refusal),
+                TailCountsResult::Ok { counts: _, next } => {
+                    put_spot(spot, wanted, above, from, nested.next.at);
+                    SkimResult::Ok(Skimmed {
+                        next: next,
+                        number: nested.number,
+                        instructions: nested.instructions,
+                    })
                 }
             }
         }
     }
 }
 
-// The same of n functions one after the other, each nested in a function below which functions nest at most `left` deep. Most functions have none: these call nothing.
-fn find_nested(
-    s: &[u8],
-    limits: ResourceLimits,
-    n: usize,
-    left: usize,
-    above: Above,
-    wanted: usize,
-    from: Skimmed,
-    spot: &mut Spot,
-) -> SkimResult
-    requires { ⌜ Walkable limits × (above .depth + left ≤ DEEPEST + 1) ⌝ }
-    ensures { λ r. ⌜ r ≡ skimResult (standing limits (now (s .entry)) above from) (functionsAt limits (now (s .entry)) n left above from) ⌝ }
-    ensures { λ _. ⌜ Found wanted (from .number) (functionsAt limits (now (s .entry)) n left above from) (rowAt limits (now (s .entry)) (now (spot .entry))) (rowAt limits (now (s .entry)) (now (spot .exit))) ⌝ }
-{
-    if n == 0 {
-        return SkimResult::Ok(from);
-    }
-    find_functions(s, limits, n, left, above, wanted, from, spot)
-}
-
-// The same, where there are some.
+// The same of n functions one after the other, each nested in a function below which functions nest at most `left` deep.
 fn find_functions(
     s: &[u8],
     limits: ResourceLimits,

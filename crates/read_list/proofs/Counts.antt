@@ -55,7 +55,7 @@ abbrev countOf : U64Result → ListResult
 countOf (u64.Ok v c) = list.Ok v (c .at) c
 countOf (u64.Err q) = list.Err q
 
-abbrev placed : ℕ → Reader Count
+abbrev pub placed : ℕ → Reader Count
 placed n = here >>= λ place. give (record { count = n; place = place })
 
 count-shown : (o : Read ℕ) → countOf (u64Result o) ≡ countResult (next o placed)

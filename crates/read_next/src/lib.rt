@@ -91,7 +91,7 @@ fn go_up(s: &[u8], limits: ResourceLimits, left: &Levels, depth: usize, cursor: 
         if d == 0 {
             return Up::End;
         }
-        let mut unused = [0usize; 3];
+        let mut unused = [0usize; 4];
         let TailResult::Ok { tail: _, next } = read_tail(s, limits.max_string_bytes, i, &mut unused)
         else {
             return Up::End;
@@ -121,7 +121,7 @@ pub fn next_function(
     let Up::At(d, place) = go_up(s, limits, left, depth, cursor) else {
         return Met::End;
     };
-    let mut unused = [0usize; 3];
+    let mut unused = [0usize; 4];
     let HeadResult::Ok { head, next } = read_head(s, limits, 0, place, &mut unused) else {
         return Met::End;
     };
@@ -143,7 +143,7 @@ pub fn any_function(
     let Up::At(_, place) = go_up(s, limits, left, depth, cursor) else {
         return false;
     };
-    let mut unused = [0usize; 3];
+    let mut unused = [0usize; 4];
     match read_head(s, limits, 0, place, &mut unused) {
         HeadResult::Ok { head: _, next: _ } => true,
         HeadResult::Err(_) => false,

@@ -46,7 +46,7 @@ pub fn nth_constant(
 ) -> ConstantResult
     ensures { λ r. ⌜ r ≡ constantResult (entryAt entry (spec.constant «max_string_bytes») (cursor .at) (drop (cursor .at) (now (s .entry)))) ⌝ }
 {
-    let mut unused = [0usize; 3];
+    let mut unused = [0usize; 4];
     let passed = pass_constants(s, cursor, entry, max_string_bytes, &mut unused);
     match passed {
         CursorResult::Err(refusal) => ConstantResult::Err(refusal),

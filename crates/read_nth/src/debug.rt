@@ -36,7 +36,7 @@ pub fn nth_delta(s: &[u8], cursor: Cursor, entry: usize) -> U8Result
 pub fn nth_anchor(s: &[u8], cursor: Cursor, entry: usize) -> AnchorResult
     ensures { λ r. ⌜ r ≡ anchorResult (entryAt entry spec.anchor (cursor .at) (drop (cursor .at) (now (s .entry)))) ⌝ }
 {
-    let mut unused = [0usize; 3];
+    let mut unused = [0usize; 4];
     let passed = pass_anchors(s, cursor, entry, &mut unused);
     match passed {
         CursorResult::Err(refusal) => AnchorResult::Err(refusal),
@@ -48,7 +48,7 @@ pub fn nth_anchor(s: &[u8], cursor: Cursor, entry: usize) -> AnchorResult
 pub fn nth_local(s: &[u8], cursor: Cursor, entry: usize, max_string_bytes: usize) -> LocalResult
     ensures { λ r. ⌜ r ≡ localResult (localAt entry «max_string_bytes» (cursor .at) (drop (cursor .at) (now (s .entry)))) ⌝ }
 {
-    let mut unused = [0usize; 3];
+    let mut unused = [0usize; 4];
     let passed = pass_locals(s, cursor, entry, max_string_bytes, &mut unused);
     match passed {
         CursorResult::Err(refusal) => LocalResult::Err(refusal),
@@ -60,7 +60,7 @@ pub fn nth_local(s: &[u8], cursor: Cursor, entry: usize, max_string_bytes: usize
 pub fn nth_name(s: &[u8], cursor: Cursor, entry: usize, max_string_bytes: usize) -> StringResult
     ensures { λ r. ⌜ r ≡ stringResult (entryAt entry (string «max_string_bytes») (cursor .at) (drop (cursor .at) (now (s .entry)))) ⌝ }
 {
-    let mut unused = [0usize; 3];
+    let mut unused = [0usize; 4];
     let passed = pass_strings(s, cursor, entry, max_string_bytes, &mut unused);
     match passed {
         CursorResult::Err(refusal) => StringResult::Err(refusal),

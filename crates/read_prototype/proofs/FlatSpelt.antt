@@ -65,7 +65,7 @@ protos-ran limit at s {c} {to} {rest} e =
 -- ## The parts, before what stands behind them
 module _ (limit : ℕ) (w : Where) (at : ℕ) (s : Bytes) {f : Front} {to : ℕ} {rest : Bytes} (e : front limit at s ≡ ok f to rest) (later : Option LuaString → Count) where
   front-sum : (a b c d e : Spelling) → (a ⊕ b) ⊕ (c ⊕ (d ⊕ (same ⊕ (same ⊕ (same ⊕ e))))) ≡ (a ⊕ (c ⊕ d)) ⊕ b ⊕ e
-  front-sum a b c d e = spelling-path _ _ (omega arith) (omega arith) (omega arith)
+  front-sum a b c d e = spelling-path _ _ (omega arith) (omega arith) (omega arith) (omega arith)
 
   front-spelt : (
       plus (string limit) (count.source limit w) λ spelt.
@@ -92,7 +92,7 @@ module _ (L : ResourceLimits) (before at : ℕ) (s : Bytes) {l : HeadLists} {to 
   spelt-constants = count.counted (reader.constant (L .«max_string_bytes»)) (count.constant (L .«max_string_bytes»))
 
   lists-sum : (a b c d : Spelling) → a ⊕ (same ⊕ (b ⊕ (c ⊕ d))) ≡ (a ⊕ (b ⊕ c)) ⊕ d
-  lists-sum a b c d = spelling-path _ _ (omega arith) (omega arith) (omega arith)
+  lists-sum a b c d = spelling-path _ _ (omega arith) (omega arith) (omega arith) (omega arith)
 
   abbrev from-code : Count
   from-code =
@@ -138,7 +138,7 @@ module _ (limit : ℕ) (at : ℕ) (s : Bytes) (later : Count) where
 
 -- ## A function
 body-sum : (a b c d e f : Spelling) → a ⊕ b ⊕ (c ⊕ (d ⊕ (e ⊕ f))) ≡ a ⊕ (c ⊕ d) ⊕ b ⊕ (e ⊕ f)
-body-sum a b c d e f = spelling-path _ _ (omega arith) (omega arith) (omega arith)
+body-sum a b c d e f = spelling-path _ _ (omega arith) (omega arith) (omega arith) (omega arith)
 
 module _ (L : ResourceLimits) (r : Where → Reader (List Prototype)) (c : Where → Count) (w : Where) where
   abbrev counts : Reader entry.Count

@@ -89,10 +89,10 @@ LinesForm = Then Number λ a. Then Number λ b. Is (record { «line_defined» = 
 exact-lines : Exact lines LinesForm
 exact-lines = exact-then exact-number λ _. exact-then exact-number λ _. exact-give _
 
-abbrev SizesForm : Form Sizes
+abbrev pub SizesForm : Form Sizes
 SizesForm = Then (Field 1) λ a. Then (Field 1) λ b. Then (Field 1) λ c. Is (record { numparams = a; «is_vararg» = b; maxstacksize = c })
 
-exact-sizes : Exact sizes SizesForm
+pub exact-sizes : Exact sizes SizesForm
 exact-sizes = exact-then (exact-field 1) λ _. exact-then (exact-field 1) λ _. exact-then (exact-field 1) λ _. exact-give _
 
 abbrev pub FrontForm : ℕ → Form Front

@@ -1,4 +1,6 @@
--- A function's head with its own source, which the head's readers leave to who knows the function's number: together, too, they have no more than bytes.
+-- A function's own source.
+--     its-source       it is what is read at the function's place
+--     own-between      a head with its own source, which the head's readers leave to who knows the function's number and its parent's source: together, too, they have no more than bytes
 -- Assumes nothing.
 use mathlib.Core.Path.{_≡_, sym, _∙_, ap, ap₂, subst}
 use Prim.Native.Nat.{ℕ}
@@ -28,7 +30,7 @@ use Rattle.read_prototype.specs.PartsSpelt as spelt
 use Rattle.read_prototype.proofs.CoversParts.{covers-lines, covers-sizes, covers-lists}
 
 sum-own : (a b c : Spelling) → a ⊕ b ⊕ c ≡ a ⊕ c ⊕ b
-sum-own a b c = spelling-path _ _ (omega arith) (omega arith) (omega arith)
+sum-own a b c = spelling-path _ _ (omega arith) (omega arith) (omega arith) (omega arith)
 
 -- the function stands at w
 module _ (L : ResourceLimits) (before : ℕ) (w : Where) where
@@ -69,3 +71,22 @@ module _ (L : ResourceLimits) (before : ℕ) (w : Where) where
 
     pub own-between : {h : Head} {to : ℕ} {rest : Bytes} → head L before at s ≡ ok h to rest → Between (spelt.head L before at s ⊕ dropping w (h .front .source)) at to
     own-between {to} e = subst (λ a. Between a at to) (head-own e) (covers-own-head .covers at s e)
+
+-- the source that is spelt
+pub record Spelt (limit at : ℕ) (s : Bytes) (h : Head) : Type 0 where
+  pub to : ℕ
+  pub rest : Bytes
+  pub is : string limit at s ≡ ok (h .front .source) to rest
+
+pub its-source : (L : ResourceLimits) (before at : ℕ) (s : Bytes) {h : Head} {to : ℕ} {rest : Bytes} → head L before at s ≡ ok h to rest → Spelt (L .«max_string_bytes») at s h
+its-source L before at s {h} {to} {rest} e =
+    let limit = L .«max_string_bytes» in
+    let counts = protosCount (L .«max_total_prototypes») in
+    let a : Ran (front limit) (λ f. headLists L before >>= λ l. counts >>= λ p. give (record { front = f; lists = l; protos = p })) at s h to rest = ran e in
+    let b : Ran (headLists L before) (λ l. counts >>= λ p. give (record { front = a .value; lists = l; protos = p })) (a .mid) (a .left) h to rest = ran (a .two) in
+    let c : Gave counts (λ p. record { front = a .value; lists = b .value; protos = p }) (b .mid) (b .left) h to rest = gave (b .two) in
+    let x : Ran (string limit) (λ source. lines >>= λ between. sizes >>= λ three. give (record { source = source; lines = between; sizes = three })) at s (a .value) (a .mid) (a .left) = ran (a .one) in
+    let y : Ran lines (λ between. sizes >>= λ three. give (record { source = x .value; lines = between; sizes = three })) (x .mid) (x .left) (a .value) (a .mid) (a .left) = ran (x .two) in
+    let z : Gave sizes (λ three. record { source = x .value; lines = y .value; sizes = three }) (y .mid) (y .left) (a .value) (a .mid) (a .left) = gave (y .two) in
+    let same : x .value ≡ h .front .source = ap (λ (f : Front). f .source) (z .is) ∙ ap (λ (h : Head). h .front .source) (c .is) in
+    record { to = x .mid; rest = x .left; is = x .one ∙ ap (λ t. ok t (x .mid) (x .left)) same }

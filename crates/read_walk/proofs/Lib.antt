@@ -4,5 +4,7 @@ pub mod OneFunction
 pub mod Passes
 pub mod SoFar
 pub mod Main
+pub mod Sources
 pub mod Spelt
+pub mod Unpadded
 mod Tally

@@ -1,5 +1,6 @@
 -- Functions one after the other, as a loop walks over them: those passed so far, and those that are left.
 --     SoFar            n functions from w on are those passed and the `more` that are left from k on
+--     level            the test that a walk makes before it goes deeper
 --     starts, ended    before the first; where none is left
 --     deep, many, stops, goes-on       what the next one gives
 -- Assumes nothing.
@@ -25,6 +26,10 @@ use Rattle.read_walk.specs.declared.walk.SkimResult.the-variants as skim
 use Rattle.read_walk.specs.Inner.Skim.{enteredBy, entered, on, skimmedOf, skimResult}
 use Rattle.read_walk.proofs.Entering.{too-deep, too-many, enters-by}
 use Rattle.read_walk.proofs.OneFunction.{skim-err, Skims, skim-read}
+
+-- a level is left where the number of levels is not 0
+pub level : (left : ℕ) → (left ≡ 0 → ⊥) → 0 < left
+level left h = omega arith
 
 pub record SoFar (r : Where → Reader (List Prototype)) (s : Bytes) (w : Where) (n from : ℕ) (k : Skimmed) (more : ℕ) (passed : List Prototype) : Type 0 where
   pub number : k .number ≡ w .number + length passed

@@ -31,6 +31,7 @@ use Rattle.read_prototype.specs.Inner.Whole.{inside}
 use Rattle.read_prototype.specs.Inner.Counts.{isSpelt}
 use Rattle.read_prototype.proofs.FlatSpelt.{body-spelt}
 use Rattle.read_walk.specs.Inner.Skim.{entered}
+use Rattle.read_walk.specs.Inner.Source.{repeats}
 use Rattle.read_walk.specs.Inner.Spelt.{nestedSpelt, ownSource}
 
 -- ## One function
@@ -40,7 +41,7 @@ unfolding count.function
 body-of L zero w at s = refl
 body-of L (suc left) w at s = refl
 
-pub own-dropped : (w : Where) (t : Option LuaString) → ownSource (isSpelt (optionString t)) (w .number) ≡ dropping w t
+pub own-dropped : (w : Where) (t : Option LuaString) → ownSource (isSpelt (optionString t)) (w .number) (repeats t (w .source)) ≡ dropping w t
 own-dropped w none = refl
 own-dropped w (some t) = refl
 

@@ -6,6 +6,7 @@
 -- Assumes nothing.
 use mathlib.Core.Path.{_≡_, sym, subst, _∙_, ap, ap₂}
 use mathlib.Core.List.{List, [], _++_}
+use mathlib.Core.Option.{Option}
 use Prim.Native.Nat.{ℕ, zero, suc, _-_, _^_, _<_, _≤_}
 use native.Mathlib.Omega.{arith}
 use lib.Dec.{leb}
@@ -15,6 +16,7 @@ use Rattle.format.specs.declared.refusal.Refusal.{Refusal}
 use Rattle.format.specs.declared.refusal.Refusal.the-variants.{TotalPrototypes}
 use Rattle.format.specs.declared.spelling.Spelling.{Spelling}
 use Rattle.format.specs.Form.{Bytes}
+use Rattle.format.specs.GrammarFields.{LuaString}
 use Rattle.format.specs.Reading.{Prototype}
 use Rattle.format.specs.GrammarChunk.{Where, after}
 use Rattle.format.specs.Read.{Read, ok}
@@ -29,28 +31,32 @@ use Rattle.format_spelling.proofs.Covers.{Covers, covers-none, covers-then, cov
 use Rattle.format_spelling.proofs.Passing.{past}
 use Rattle.format_spelling.proofs.Tallies.{room-on, adds-not, adds-all}
 use Rattle.slice.specs.declared.cursor.Cursor.{Cursor}
+use Rattle.read_field.specs.Shown.{optionString}
 use Rattle.read_prototype.specs.declared.pass.HeadCounts.{HeadCounts}
 use Rattle.read_prototype.specs.declared.pass.HeadCountsResult.the-variants as head-answer
 use Rattle.read_prototype.specs.declared.pass.TailCounts.{TailCounts}
 use Rattle.read_prototype.specs.declared.pass.TailCountsResult.the-variants as tail-answer
 use Rattle.read_prototype.specs.Parts as parts
 use Rattle.read_prototype.specs.PartsSpelt as spelt
-use Rattle.read_prototype.specs.Inner.Counts.{headCountsResult, tailCountsResult}
+use Rattle.read_prototype.specs.Inner.Counts.{isSpelt, headCountsResult, tailCountsResult}
 use Rattle.read_prototype.proofs.OwnSource.{own-between}
 use Rattle.read_walk.specs.declared.walk.Skimmed.{Skimmed}
 use Rattle.read_walk.specs.declared.walk.SkimResult.the-variants as skim
 use Rattle.read_walk.specs.Inner.Skim.{entered, on, skimResult}
+use Rattle.read_walk.specs.Inner.Source.{sourceAt, repeats, repeatsAt, unpaddedAt, handed}
 use Rattle.read_walk.specs.Inner.Spelt.{nestedSpelt, ownSource}
 use Rattle.read_walk.proofs.OneFunction.{skim-err, Skims, skim-read}
 use Rattle.read_walk.proofs.Entering.{enters}
 use Rattle.read_walk.proofs.Passes as passes
+use Rattle.read_walk.proofs.Sources.{spelt-at, inherits-at}
+use Rattle.read_walk.proofs.Unpadded.{unpadded-source}
 use Rattle.read_walk.proofs.Spelt.{own-dropped, function-spelt, covers-function, turned, no-more}
 
 -- from the number and the instructions so far on
-pub refuses : {number instructions : ℕ} {q : Refusal} {o : Where → Read (List Prototype)} {a : Where → Spelling} {t t′ : List ℕ}
+pub refuses : {number instructions : ℕ} {source : Option LuaString} {q : Refusal} {o : Where → Read (List Prototype)} {a : Where → Spelling} {t t′ : List ℕ}
     → ((w : Where) → number ≡ w .number → instructions ≡ w .instructions → skim.Err q ≡ skimResult w (o w))
-    → ((w : Where) → number ≡ w .number → instructions ≡ w .instructions → skim.Err q ≡ skimResult w (o w)) × ((w : Where) → number ≡ w .number → instructions ≡ w .instructions → Adds (o w) (a w) t t′)
-refuses {q = q} {o = o} e = (e, λ w n i. adds-not (skim-err w (o w) q (e w n i)))
+    → ((w : Where) → number ≡ w .number → instructions ≡ w .instructions → skim.Err q ≡ skimResult w (o w)) × ((w : Where) → number ≡ w .number → instructions ≡ w .instructions → w .source ≡ source → Adds (o w) (a w) t t′)
+refuses {q = q} {o = o} e = (e, λ w n i _. adds-not (skim-err w (o w) q (e w n i)))
 
 -- ## No function has more than bytes
 covers-entered : (L : ResourceLimits) (left : ℕ) (w : Where) → Covers (entered L left w) (nestedSpelt L left w)
@@ -63,14 +69,15 @@ covers-forest L left (suc n) w = covers-then (covers-entered L left w) λ ps. co
 
 -- ## One function
 total-fits : {a b : Spelling} {to : ℕ} → Between (a ⊕ b) 0 to → to < 2 ^ 64 → Fits a b
-total-fits x l = record { padded = omega (arith, x .padded, l); filled = omega (arith, x .filled, l); sources = omega (arith, x .sources, l) }
+total-fits x l = record { padded = omega (arith, x .padded, l); filled = omega (arith, x .filled, l); sources = omega (arith, x .sources, l); repeated = omega (arith, x .repeated, l) }
 
 sum-of : (a b c d : Spelling) → a ⊕ b ⊕ c ⊕ d ≡ a ⊕ (b ⊕ (c ⊕ d))
-sum-of a b c d = spelling-path _ _ (omega arith) (omega arith) (omega arith)
+sum-of a b c d = spelling-path _ _ (omega arith) (omega arith) (omega arith) (omega arith)
 
 -- its head
 module _ (s : Bytes) (L : ResourceLimits) (left : ℕ) (w : Where) (at : ℕ) {before : ℕ} (so-far : before ≡ w .instructions) (n : HeadCounts) (c₁ : Cursor) (e₁ : head-answer.Ok n c₁ ≡ headCountsResult (parts.head L before at (drop at s)))
-    {t t₁ : List ℕ} (room : Room t at) (g₁ : Adds (parts.head L before at (drop at s)) (spelt.head L before at (drop at s)) t t₁) where
+    {t t₁ : List ℕ} (room : Room t at) (g₁ : Adds (parts.head L before at (drop at s)) (spelt.head L before at (drop at s)) t t₁)
+    (source : ℕ) (outer : w .source ≡ sourceAt (L .«max_string_bytes») s source) where
   abbrev its-head : parts.Head
   its-head = passes.its-head s L left w at so-far n c₁ e₁
 
@@ -85,13 +92,24 @@ module _ (s : Bytes) (L : ResourceLimits) (left : ℕ) (w : Where) (at : ℕ) {b
 
   -- with its own source, which may be dropped
   abbrev own : Spelling
-  own = ownSource (n .named) (w .number)
+  own = ownSource (n .named) (w .number) (repeatsAt (L .«max_string_bytes») s at source)
+
+  spells : sourceAt (L .«max_string_bytes») s at ≡ its-head .front .source
+  spells = spelt-at L (w .instructions) s at head-on
+
+  -- those that nest in it inherit what is spelt at the place that is handed to them
+  pub inherits : first .source ≡ sourceAt (L .«max_string_bytes») s (handed (n .named) (unpaddedAt s at) source)
+  inherits =
+      inherits-at (L .«max_string_bytes») s (unpaddedAt s at) source (its-head .front .source) (w .source) (unpadded-source (L .«max_string_bytes») s at ∙ spells) outer
+      ∙ ap (λ n. sourceAt (L .«max_string_bytes») s (handed (n .named) (unpaddedAt s at) source)) (sym (passes.head-counts s L left w at so-far n c₁ e₁))
 
   headed : counts t₁ ⊕ own ≡ counts t ⊕ head-count
   headed =
       ap₂ _⊕_
       (g₁ .adds (passes.headed s L left w at so-far n c₁ e₁ .is) ∙ ap (λ m. counts t ⊕ spelt.head L m at (drop at s)) so-far)
-      (ap (λ n. ownSource (n .named) (w .number)) (passes.head-counts s L left w at so-far n c₁ e₁) ∙ own-dropped w (its-head .front .source))
+      (ap (λ n. ownSource (n .named) (w .number) (repeatsAt (L .«max_string_bytes») s at source)) (passes.head-counts s L left w at so-far n c₁ e₁)
+      ∙ ap₂ (λ t p. ownSource (isSpelt (optionString (its-head .front .source))) (w .number) (repeats t p)) spells (sym outer)
+      ∙ own-dropped w (its-head .front .source))
       ∙ join-assoc (counts t) (spelt.head L (w .instructions) at (drop at s)) (dropping w (its-head .front .source))
 
   first-lies : Between (counts t₁ ⊕ own) 0 (c₁ .at)

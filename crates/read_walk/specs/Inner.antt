@@ -1,2 +1,3 @@
 pub mod Skim
+pub mod Source
 pub mod Spelt

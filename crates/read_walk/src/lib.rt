@@ -1,2 +1,3 @@
-// The walk that judges a chunk's functions: it counts them, and keeps no row.
+// The walk that judges a chunk's functions: it counts them, and keeps no row; and a function's source, by the place at which it is spelt.
+pub mod source;
 pub mod walk;

@@ -26,7 +26,7 @@ returns-4 c =
     let b = j .before .before .before .before in
     let a = b .before .args in
     full-short (a .s .now) (a .limits) (all-bytes (a .s .now) (λ i h. b .shared-slice-known .given i .fits)) (m .judged2 .given .0 .0) (m .judged2 .given .0 .1 .0) (sym (m .judged2 .given .1) ∙ j .judge-spelling .ensures)
-    (sym (p .is-plain .ensures) ∙ not-false _ (c .before .if2 .left))
+    (sym (p .is-plain-in-full .ensures) ∙ not-false _ (c .before .if2 .left))
     (a .out .now) (c .if3 .taken)
 
 -- copied
@@ -41,7 +41,7 @@ returns-5 c =
     let b = j .before .before .before .before in
     let a = b .before .args in
     full-whole (a .s .now) (a .limits) (all-bytes (a .s .now) (λ i h. b .shared-slice-known .given i .fits)) (m .judged2 .given .0 .0) (m .judged2 .given .0 .1 .0) (sym (m .judged2 .given .1) ∙ j .judge-spelling .ensures)
-    (sym (p .is-plain .ensures) ∙ not-false _ (e .before .if2 .left))
+    (sym (p .is-plain-in-full .ensures) ∙ not-false _ (e .before .if2 .left))
     (a .out .now) (e .if3 .left) _ (u .main-upvalues .ensures) (put .put-plain .ensures)
 
 pub full-copy-spec : {M : Type 1} → statement M

@@ -21,7 +21,7 @@ returns-4 c =
     let b = j .before .before .before in
     let a = b .before .args in
     full-answer (a .s .now) (a .limits) (all-bytes (a .s .now) (λ i h. b .shared-slice-known .given i .fits)) (m .judged2 .given .0 .0) (m .judged2 .given .0 .1 .0) (sym (m .judged2 .given .1) ∙ j .judge-spelling .ensures)
-    (sym (c .before .is-plain .ensures) ∙ not-false _ (c .if2 .left))
+    (sym (c .before .is-plain-in-full .ensures) ∙ not-false _ (c .if2 .left))
 
 pub full-copy-length-spec : {M : Type 1} → statement M
 full-copy-length-spec =

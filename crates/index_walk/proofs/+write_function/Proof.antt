@@ -23,6 +23,7 @@ use Rattle.read_walk.specs.Inner.Skim.{on, skimResult}
 use Rattle.read_walk.proofs.HeadTail.{counts-total}
 use Rattle.read_walk.proofs.Passes as passes
 use Rattle.read_walk.proofs.SoFar as so-far
+use Rattle.read_walk.proofs.SoFar.{level}
 use Rattle.index_walk.proofs.Rows.{refuses, function-wrote, Behind, starts-behind, ends-behind, on-behind}
 use Rattle.index_walk.proofs.write_function.Reads as write-function
 use Rattle.index_walk.proofs.write_function.Kinds as write-function-kinds
@@ -33,10 +34,6 @@ use Rattle.index_row.proofs.put_head.Reads as put-head-reads
 use Rattle.index_row.proofs.put_tail.Reads as put-tail-reads
 use Rattle.index_walk.proofs.+write_function.{statement}
 use Rattle.index_walk.proofs.+write_function.Tie.{close}
-
--- a level is left where the number of levels is not 0
-level : (left : ℕ) → (left ≡ 0 → ⊥) → 0 < left
-level left h = omega arith
 
 abbrev μ : Measures 3 write-function-kinds.ps ℕ
 μ κs a = a .1 .1 .0

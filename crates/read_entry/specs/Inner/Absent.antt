@@ -5,5 +5,5 @@ use Rattle.read_field.specs.declared.string.OptionString.{OptionString}
 use Rattle.read_field.specs.declared.string.OptionString.the-variants as string
 
 abbrev pub ofString : OptionString → Spelling
-ofString string.None = record { padded = 0; filled = 1; sources = 0 }
+ofString string.None = record { padded = 0; filled = 1; sources = 0; repeated = 0 }
 ofString (string.Some t) = same

@@ -1,12 +1,11 @@
 -- What the walk that finds one function leaves of it, its spot, and the row that is read there.
 --     spotOf a k tail      the six numbers of a spot
---     sourceAt limit s k   the source that the function at k spells; none where no function stands, as at the end of the file
 --     standing L s a k     where the function stands that inherits a, behind the walk k
 --     functionAt, functionsAt      what is read there: a function, or n of them
 --     rowAt L s l          the row that is read at a spot, where both parts of a function are read there
 --     Found n k o r r′     where o was read, numbered from k on, the row r′ is that of the function n, if it is among them, else still r
 use mathlib.Core.Path.{_≡_}
-use mathlib.Core.Bool.{Bool, cond}
+use mathlib.Core.Bool.{Bool}
 use mathlib.Core.List.{List, [], _∷_}
 use mathlib.Core.Option.{Option, none, some}
 use Prim.Native.Nat.{ℕ, _+_}
@@ -14,10 +13,8 @@ use lib.ListN.{drop, getD}
 use Rattle.format.specs.declared.limits.ResourceLimits.{ResourceLimits}
 use Rattle.format.specs.Form.{Bytes}
 use Rattle.format.specs.Reading.{Prototype}
-use Rattle.format.specs.GrammarFields.{LuaString}
 use Rattle.format.specs.GrammarChunk as grammar
-use Rattle.format.specs.Read.{Read, ok, refused}
-use Rattle.format.specs.ReadFields as fields
+use Rattle.format.specs.Read.{Read, ok}
 use Rattle.format.specs.ReadChunk.{forest, function}
 use Rattle.read_field.specs.Shown.{optionString}
 use Rattle.read_field.specs.declared.string.OptionString.{OptionString}
@@ -31,12 +28,12 @@ use Rattle.read_prototype.specs.declared.parts.TailResult.the-variants as tail-
 use Rattle.read_prototype.specs.declared.row.FunctionRow.{FunctionRow}
 use Rattle.read_prototype.specs.declared.row.OptionRow.{OptionRow}
 use Rattle.read_prototype.specs.declared.row.OptionRow.the-variants as option
-use Rattle.read_prototype.specs.Front.{Front, front}
 use Rattle.read_prototype.specs.Parts as parts
 use Rattle.read_prototype.specs.PartsShown.{headResult, tailResult}
 use Rattle.read_prototype.specs.Inner.Row.{rowOf, lookup}
 use Rattle.read_walk.specs.declared.walk.Skimmed.{Skimmed}
 use Rattle.read_walk.specs.Inner.Skim.{entered}
+use Rattle.read_walk.specs.Inner.Source.{sourceAt, handed}
 use Rattle.read_find.specs.declared.spot.Above.{Above}
 
 abbrev pub spotOf : Above → Skimmed → ℕ → List ℕ
@@ -44,14 +41,7 @@ spotOf a k tail = k .next .at ∷ tail ∷ k .instructions ∷ a .depth ∷ a .p
 
 -- what the functions inherit that nest in one
 abbrev pub belowShown : Above → Skimmed → Bool → Above
-belowShown a k named = record { depth = a .depth + 1; parent = k .number; source = cond named (k .next .at) (a .source) }
-
-abbrev pub spelt : Read (Option LuaString) → Option LuaString
-spelt (ok t to rest) = t
-spelt (refused q) = none
-
-abbrev pub sourceAt : ℕ → Bytes → ℕ → Option LuaString
-sourceAt limit s k = spelt (fields.string limit k (drop k s))
+belowShown a k named = record { depth = a .depth + 1; parent = k .number; source = handed named (k .next .at) (a .source) }
 
 abbrev pub standing : ResourceLimits → Bytes → Above → Skimmed → grammar.Where
 standing L s a k = record { number = k .number; instructions = k .instructions; depth = a .depth; parent = a .parent; source = sourceAt (L .«max_string_bytes») s (a .source) }

@@ -6,6 +6,7 @@ use mathlib.Core.Option.{none}
 use lib.ListN.{length, drop}
 use Rattle.format.specs.GrammarChunk.{outermost}
 use Rattle.format.specs.ReadChunk.{function}
+use Rattle.read_walk.proofs.Sources.{none-at-end}
 use Rattle.copy_walk.proofs.Tails.{tail-inside, put-part}
 use Rattle.copy.proofs.Chunks.{functions-stops}
 use Rattle.copy_full_walk.specs.Inner.Walk.{fullBytes}
@@ -30,8 +31,8 @@ returns-2 c =
     let r = c .before .before .before .before .before .before .before .before .before .before .before .before .before .before .before .before .copy-in-full in
     let part = c .before .before .before .before .before .before .before .before .before .before .before .before .before .before .before .before .before .before .within .ensures in
     λ bytes short. full-main-put (a .s .now) bytes short (a .limits) (a .cursor .at) (k .given .0 .0) _ _ (sym (k .given .1) ∙ r .ensures .0 outermost refl refl) (c .before .before .before .before .remaining .ensures)
-    (r .ensures .1 outermost refl refl refl tt bytes .counts)
-    (λ ps to rest e. put-part (fullBytes none ps) 32 _ (a .out .now) _ _ _ part (r .ensures .1 outermost refl refl refl tt bytes .put ps to rest e) (c .before .before .before .before .before .plus .ensures))
+    (r .ensures .1 outermost refl refl (sym (none-at-end (a .limits .«max_string_bytes») (a .s .now))) bytes .counts)
+    (λ ps to rest e. put-part (fullBytes none ps) 32 _ (a .out .now) _ _ _ part (r .ensures .1 outermost refl refl (sym (none-at-end (a .limits .«max_string_bytes») (a .s .now))) bytes .put ps to rest e) (c .before .before .before .before .before .plus .ensures))
     (c .before .before .before .before .before .before .before .before .put-front .ensures) (c .before .before .put-bytes .ensures)
 
 pub full-functions-spec : {M : Type 1} → statement M

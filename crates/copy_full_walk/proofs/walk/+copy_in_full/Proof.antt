@@ -11,6 +11,7 @@ use lib.ListN.{length, drop}
 use borrow.Author.Needs.{needs}
 use borrow.Fn.Kinds.{In}
 use borrow.Fn.PlainCycle.{Measures, is, falls, and}
+use Rattle.format.specs.declared.limits.ResourceLimits.{ResourceLimits}
 use Rattle.format.specs.Form.{Bytes, Below}
 use Rattle.format.specs.Reading.{Prototype}
 use Rattle.format.specs.GrammarFields.{LuaString}
@@ -28,17 +29,17 @@ use Rattle.read_walk.specs.declared.walk.SkimResult.{SkimResult}
 use Rattle.read_walk.specs.declared.walk.SkimResult.the-variants as skim
 use Rattle.read_walk.specs.Inner.Skim.{entered, on, skimResult}
 use Rattle.read_walk.proofs.SoFar as so-far
+use Rattle.read_walk.proofs.SoFar.{level}
 use Rattle.copy_parts.specs.declared.parts.Counts.{Counts}
 use Rattle.copy_parts.specs.declared.parts.CountsResult.the-variants as counts-answer
 use Rattle.copy_parts.specs.Inner.Heads.{headCounted}
-use Rattle.read_field.specs.declared.string.OptionString.{OptionString}
-use Rattle.read_field.specs.Shown.{optionString}
 use Rattle.copy_walk.specs.Inner.Walk.{PutsFunction}
 use Rattle.copy_full_walk.specs.declared.source.Source.{Source}
-use Rattle.copy_full_walk.specs.Inner.Source.{Stands}
+use Rattle.read_walk.specs.Inner.Source.{sourceAt}
 use Rattle.copy_full_walk.specs.Inner.Walk.{fullBytes}
 use Rattle.copy_walk.proofs.Tails.{tail-inside, part-kept, put-part}
-use Rattle.copy_full_walk.proofs.Full.{full, single, made, handed-down, stands-down, its-written}
+use Rattle.copy_full_walk.proofs.Sources.{handed-down, its-written}
+use Rattle.copy_full_walk.proofs.Full.{full, single, made}
 use Rattle.copy_walk.proofs.Loops.{Copies, copies-none, copies-one, copies-all}
 use Rattle.copy_walk.proofs.Functions as copied
 use Rattle.copy_walk.proofs.Functions.{not-read, counted-total}
@@ -54,20 +55,16 @@ use Rattle.copy_put.proofs.raw.plus.Reads as plus-reads
 use Rattle.copy_full_walk.proofs.walk.+copy_in_full.{statement}
 use Rattle.copy_full_walk.proofs.walk.+copy_in_full.Tie.{close}
 
--- a level is left where the number of levels is not 0
-level : (left : ℕ) → (left ≡ 0 → ⊥) → 0 < left
-level left h = omega arith
-
 -- whatever is asked, nothing is said of the memory
-unread : (parent : OptionString) (from : Skimmed) (s : Bytes) (o : Where → Read (List Prototype)) (r : SkimResult) (l : Bytes) (upvalues len : ℕ) (l′ : Bytes) (q : Refusal) → r ≡ skim.Err q
+unread : (L : ResourceLimits) (parent : ℕ) (from : Skimmed) (s : Bytes) (o : Where → Read (List Prototype)) (r : SkimResult) (l : Bytes) (upvalues len : ℕ) (l′ : Bytes) (q : Refusal) → r ≡ skim.Err q
     → ((w : Where) → from .number ≡ w .number → from .instructions ≡ w .instructions → skim.Err q ≡ skimResult w (o w))
     → ((w : Where) → from .number ≡ w .number → from .instructions ≡ w .instructions → r ≡ skimResult w (o w))
-    × ((w : Where) → from .number ≡ w .number → from .instructions ≡ w .instructions → parent ≡ optionString (w .source) → Stands s (w .source) → Below 256 s → PutsFunction (fullBytes (w .source)) (o w) l upvalues len l′)
-unread parent from s o r l upvalues len l′ q is shows = let (a, b) = not-read (λ w. fullBytes (w .source)) from o r l upvalues len l′ q is shows in (a, λ w n i _ _ _. b w n i)
+    × ((w : Where) → from .number ≡ w .number → from .instructions ≡ w .instructions → w .source ≡ sourceAt (L .«max_string_bytes») s parent → Below 256 s → PutsFunction (fullBytes (w .source)) (o w) l upvalues len l′)
+unread L parent from s o r l upvalues len l′ q is shows = let (a, b) = not-read (λ w. fullBytes (w .source)) from o r l upvalues len l′ q is shows in (a, λ w n i _ _. b w n i)
 
--- what is asked of a function for its copy: its parent's source is handed to it, and stands in the chunk, which is bytes
-abbrev Asks : Bytes → OptionString → Where → Type 0
-Asks s parent w = (parent ≡ optionString (w .source)) × Stands s (w .source) × Below 256 s
+-- what is asked of a function for its copy: the place at which its parent's source is spelt is handed to it, and the chunk is bytes
+abbrev Asks : ResourceLimits → Bytes → ℕ → Where → Type 0
+Asks L s parent w = (w .source ≡ sourceAt (L .«max_string_bytes») s parent) × Below 256 s
 
 abbrev μ : Measures 2 copy-in-full-kinds.ps ℕ
 μ κs a = a .1 .1 .1 .0
@@ -99,11 +96,11 @@ calls t = (
 )
 
 abbrev Inv : copy-in-full-lts.InvT-loop
-Inv s limits left out₀ own head len₀ nested₀ more₀ out len nested more =
-    (length out ≡ length out₀) × ((w : Where) → nested₀ .number ≡ w .number → nested₀ .instructions ≡ w .instructions → Copies full (Asks s own w) s limits left w more₀ (nested₀ .next .at) len₀ out₀ nested more len out)
+Inv s limits parent left out₀ own head len₀ nested₀ more₀ out len nested more =
+    (length out ≡ length out₀) × ((w : Where) → nested₀ .number ≡ w .number → nested₀ .instructions ≡ w .instructions → Copies full (Asks limits s own w) s limits left w more₀ (nested₀ .next .at) len₀ out₀ nested more len out)
 
 abbrev μ-loop : copy-in-full-lts.MeasureT-loop
-μ-loop s limits left out₀ own head len₀ nested₀ more₀ out len nested more = more
+μ-loop s limits parent left out₀ own head len₀ nested₀ more₀ out len nested more = more
 
 -- behind the head: what it gave, and where the nested functions stand
 module _ (t : ℕ) (f : copy-in-full-lts.After-begins2 (calls t) (at t) copy-in-full.Post Inv μ-loop) where
@@ -125,25 +122,24 @@ module _ (t : ℕ) (f : copy-in-full-lts.After-begins2 (calls t) (at t) copy-in-
   abbrev source : Source
   source = f .before .before .before .before .before .before .source-of .result
 
-  abbrev own : OptionString
+  abbrev own : ℕ
   own = source .own
 
-  module _ (w : Where) (i : a .from .instructions ≡ w .instructions) (parent : a .parent ≡ optionString (w .source)) (stand : Stands (a .s .now) (w .source)) where
+  module _ (w : Where) (i : a .from .instructions ≡ w .instructions) (parent : w .source ≡ sourceAt (a .limits .«max_string_bytes») (a .s .now) (a .parent)) where
     abbrev spelt : Option LuaString
     spelt = copied.its-head (a .s .now) (a .limits) (a .left) w (a .from .next .at) i head behind begun .front .source
 
     read : parts.head (a .limits) (a .from .instructions) (a .from .next .at) (drop (a .from .next .at) (a .s .now)) ≡ ok (copied.its-head (a .s .now) (a .limits) (a .left) w (a .from .next .at) i head behind begun) (behind .at) (drop (behind .at) (a .s .now))
     read = copied.headed (a .s .now) (a .limits) (a .left) w (a .from .next .at) i head behind begun .is
 
-    down : Below 256 (a .s .now) → Asks (a .s .now) own (copied.first (a .s .now) (a .limits) (a .left) w (a .from .next .at) i head behind begun)
+    down : Below 256 (a .s .now) → Asks (a .limits) (a .s .now) own (copied.first (a .s .now) (a .limits) (a .left) w (a .from .next .at) i head behind begun)
     down bytes = (
-      handed-down (a .limits) (a .from .instructions) (a .from .next .at) (a .s .now) read (f .before .before .before .before .before .before .source-of .ensures) (w .source) parent,
-      stands-down (a .limits) (a .from .instructions) (a .from .next .at) (a .s .now) read (f .before .before .before .before .before .before .source-of .ensures) (w .source) parent stand,
+      handed-down (a .limits) (a .from .instructions) (a .from .next .at) (a .s .now) read (a .parent) (f .before .before .before .before .before .before .source-of .ensures) (w .source) parent,
       bytes,
     )
 
     writes : optionBytes (cond (source .written) spelt none) ≡ optionBytes (nestedSource (w .source) (inherit spelt (w .source)))
-    writes = its-written (a .limits) (a .from .instructions) (a .from .next .at) (a .s .now) read (f .before .before .before .before .before .before .source-of .ensures) (w .source) parent stand
+    writes = its-written (a .limits) (a .from .instructions) (a .from .next .at) (a .s .now) read (a .parent) (f .before .before .before .before .before .before .source-of .ensures) (w .source) parent
 
   module _ (w : Where) (n : a .from .number ≡ w .number) (i : a .from .instructions ≡ w .instructions) where
     abbrev first : Where
@@ -173,20 +169,20 @@ number t c = let few = c .before .before .before .before .before .before .before
 loop-holds : (t : ℕ) → copy-in-full-lts.Need-loop-holds (calls t) (at t) copy-in-full.Post Inv μ-loop
 loop-holds t c =
     let f = c .before .before .before .before in
-    (refl, λ w n i. copies-none full (Asks (a t f .s .now) (own t f) w) (a t f .s .now) (a t f .limits) (a t f .left) w (head t f .protos) (inside t f) _ _ n i)
+    (refl, λ w n i. copies-none full (Asks (a t f .limits) (a t f .s .now) (own t f) w) (a t f .s .now) (a t f .limits) (a t f .left) w (head t f .protos) (inside t f) _ _ n i)
 
 returns : (t : ℕ) → copy-in-full-lts.Need-returns (calls t) (at t) copy-in-full.Post Inv μ-loop
 returns t c =
     let l = c .before .before .before in
     let f = c .before .before .before .before .before .before .before .before in
-    unread (a t f .parent) (a t f .from) (a t f .s .now) (λ w. function (a t f .limits) (a t f .left) w (a t f .from .next .at) (drop (a t f .from .next .at) (a t f .s .now))) _ _ _ _ _ _ (c .stopped2 .ensures) λ w n i.
+    unread (a t f .limits) (a t f .parent) (a t f .from) (a t f .s .now) (λ w. function (a t f .limits) (a t f .left) w (a t f .from .next .at) (drop (a t f .from .next .at) (a t f .s .now))) _ _ _ _ _ _ (c .stopped2 .ensures) λ w n i.
     refused-inside t f w n i _ (so-far.deep _ _ (l .loop .inv .1 (first t f w n i) (first-number t f w n i) (first-instructions t f w n i) .so-far) (c .before .before .loop-test .taken) (c .before .if1 .taken))
 
 returns-2 : (t : ℕ) → copy-in-full-lts.Need-returns-2 (calls t) (at t) copy-in-full.Post Inv μ-loop
 returns-2 t c =
     let l = c .before .before .before .before .before .before in
     let f = c .before .before .before .before .before .before .before .before .before .before .before in
-    unread (a t f .parent) (a t f .from) (a t f .s .now) (λ w. function (a t f .limits) (a t f .left) w (a t f .from .next .at) (drop (a t f .from .next .at) (a t f .s .now))) _ _ _ _ _ _ (c .stopped3 .ensures) λ w n i.
+    unread (a t f .limits) (a t f .parent) (a t f .from) (a t f .s .now) (λ w. function (a t f .limits) (a t f .left) w (a t f .from .next .at) (drop (a t f .from .next .at) (a t f .s .now))) _ _ _ _ _ _ (c .stopped3 .ensures) λ w n i.
     refused-inside t f w n i _ (so-far.many _ _ (l .loop .inv .1 (first t f w n i) (first-number t f w n i) (first-instructions t f w n i) .so-far) (c .before .before .before .before .before .loop-test .taken) (level (a t f .left) (c .before .before .before .before .if1 .left)) (c .before .if2 .taken))
 
 copy-in-full-requires : (t : ℕ) → copy-in-full-lts.Need-copy-in-full-requires (calls t) (at t) copy-in-full.Post Inv μ-loop
@@ -202,7 +198,7 @@ returns-3 t c =
     let l = c .before .before .before .before .before .before .before .before .before .before .before .before .before .before in
     let f = c .before .before .before .before .before .before .before .before .before .before .before .before .before .before .before .before .before .before .before in
     let r = c .before .before .before .before .before .before in
-    unread (a t f .parent) (a t f .from) (a t f .s .now) (λ w. function (a t f .limits) (a t f .left) w (a t f .from .next .at) (drop (a t f .from .next .at) (a t f .s .now))) _ _ _ _ _ _ (c .stopped4 .ensures) λ w n i.
+    unread (a t f .limits) (a t f .parent) (a t f .from) (a t f .s .now) (λ w. function (a t f .limits) (a t f .left) w (a t f .from .next .at) (drop (a t f .from .next .at) (a t f .s .now))) _ _ _ _ _ _ (c .stopped4 .ensures) λ w n i.
     refused-inside t f w n i _ (so-far.stops _ _ (l .loop .inv .1 (first t f w n i) (first-number t f w n i) (first-instructions t f w n i) .so-far) (c .before .before .before .before .before .before .before .before .before .before .before .before .before .loop-test .taken) (level (a t f .left) (c .before .before .before .before .before .before .before .before .before .before .before .before .if1 .left)) (c .before .before .before .before .before .before .before .before .before .if2 .left) _ (sym (c .before .before .walk .given .1) ∙ r .copy-in-full .ensures .0 (on (first t f w n i) (l .loop .nested)) refl refl))
 
 loop-again : (t : ℕ) → copy-in-full-lts.Need-loop-again (calls t) (at t) copy-in-full.Post Inv μ-loop
@@ -215,14 +211,14 @@ loop-again t c =
     let few = c .before .before .before .before .before .before .before .before .before .if2 .left in
     let part = c .before .before .before .before .before .before .before .before .within .ensures in (
       part-kept (l .loop .len) _ (l .loop .out) (r .copy-in-full .last .1 .1 .1 .1 .1 .0) part (r .copy-in-full .kept .1 .1 .1 .1 .1 .0) ∙ l .loop .inv .0,
-      λ w n i. copies-one (a t f .limits) (a t f .left) (l .loop .inv .1 w n i) single (λ h. h .2) some levels few _ (sym (c .before .before .walk2 .given .1) ∙ r .copy-in-full .ensures .0 (on w (l .loop .nested)) refl refl)
-          (λ h ps to rest e. put-part (fullBytes (w .source) ps) _ _ (l .loop .out) _ _ _ part (r .copy-in-full .ensures .1 (on w (l .loop .nested)) refl refl (h .0) (h .1) (h .2) .put ps to rest e) (c .plus .ensures)),
+      λ w n i. copies-one (a t f .limits) (a t f .left) (l .loop .inv .1 w n i) single (λ h. h .1) some levels few _ (sym (c .before .before .walk2 .given .1) ∙ r .copy-in-full .ensures .0 (on w (l .loop .nested)) refl refl)
+          (λ h ps to rest e. put-part (fullBytes (w .source) ps) _ _ (l .loop .out) _ _ _ part (r .copy-in-full .ensures .1 (on w (l .loop .nested)) refl refl (h .0) (h .1) .put ps to rest e) (c .plus .ensures)),
     )
 
 returns-4 : (t : ℕ) → copy-in-full-lts.Need-returns-4 (calls t) (at t) copy-in-full.Post Inv μ-loop
 returns-4 t c =
     let a = c .before .before .before .before .before .before .before .before .before .before .before .args in
-    unread (a .parent) (a .from) (a .s .now) (λ w. function (a .limits) (a .left) w (a .from .next .at) (drop (a .from .next .at) (a .s .now))) _ _ _ _ _ _ (c .stopped .ensures) λ w n i.
+    unread (a .limits) (a .parent) (a .from) (a .s .now) (λ w. function (a .limits) (a .left) w (a .from .next .at) (drop (a .from .next .at) (a .s .now))) _ _ _ _ _ _ (c .stopped .ensures) λ w n i.
     copied.head-refused (a .s .now) (a .limits) (a .left) w (a .from .next .at) i _ (sym (c .before .before .begins .given .1) ∙ c .before .before .before .before .before .before .copy-head .ensures .0)
 
 returns-5 : (t : ℕ) → copy-in-full-lts.Need-returns-5 (calls t) (at t) copy-in-full.Post Inv μ-loop
@@ -234,12 +230,12 @@ returns-5 t c =
       λ w n i.
           let those = l .loop .inv .1 (first t f w n i) (first-number t f w n i) (first-instructions t f w n i) in
           copied.end-shows (a t f .s .now) (a t f .limits) (a t f .left) w (a t f .from .next .at) i (head t f) (behind t f) (begun t f) (l .loop .nested) (so-far.those (those .so-far) over) _ (z .1 .0),
-      λ w n i parent stands bytes.
+      λ w n i parent bytes.
           let those = l .loop .inv .1 (first t f w n i) (first-number t f w n i) (first-instructions t f w n i) in
           copied.whole-put (a t f .s .now) (a t f .limits) (a t f .left) w (a t f .from .next .at) i (head t f) (behind t f) (begun t f) (l .loop .nested) (so-far.those (those .so-far) over)
-          (fullBytes (w .source)) (source t f .written) _ (λ x end. made (source t f .written) w (a t f .from .next .at) _ x end (those .passed) (writes t f w i parent stands)) (z .0)
+          (fullBytes (w .source)) (source t f .written) _ (λ x end. made (source t f .written) w (a t f .from .next .at) _ x end (those .passed) (writes t f w i parent)) (z .0)
           (c .before .before .before .before .before .before .before .before .before .before .before .before .before .before .copy-head .ensures .1 bytes)
-          (copies-all (a t f .limits) (a t f .left) those (down t f w i parent stands bytes))
+          (copies-all (a t f .limits) (a t f .left) those (down t f w i parent bytes))
           (z .1 .1),
     )
 

@@ -25,6 +25,7 @@ use Rattle.read_walk.specs.declared.walk.SkimResult.{SkimResult}
 use Rattle.read_walk.specs.declared.walk.SkimResult.the-variants as skim
 use Rattle.read_walk.specs.Inner.Skim.{entered, on, skimResult}
 use Rattle.read_walk.proofs.SoFar as so-far
+use Rattle.read_walk.proofs.SoFar.{level}
 use Rattle.copy_parts.specs.declared.parts.Counts.{Counts}
 use Rattle.copy_parts.specs.declared.parts.CountsResult.the-variants as counts-answer
 use Rattle.copy_parts.specs.Inner.Parts.{functionBytes}
@@ -45,10 +46,6 @@ use Rattle.copy_walk.proofs.walk.within.Reads as within-reads
 use Rattle.copy_put.proofs.raw.plus.Reads as plus-reads
 use Rattle.copy_walk.proofs.walk.+copy_function.{statement}
 use Rattle.copy_walk.proofs.walk.+copy_function.Tie.{close}
-
--- a level is left where the number of levels is not 0
-level : (left : ℕ) → (left ≡ 0 → ⊥) → 0 < left
-level left h = omega arith
 
 -- whatever is asked, nothing is said of the memory
 unread : (named : Bool) (from : Skimmed) (s : Bytes) (o : Where → Read (List Prototype)) (r : SkimResult) (l : Bytes) (upvalues len : ℕ) (l′ : Bytes) (q : Refusal) → r ≡ skim.Err q

@@ -43,7 +43,7 @@ returns-3 c =
     let a = o .before .before .args in
     (λ i. spelt.Ok (c .before .before .summarised .ensures i) (c .spelling-of .ensures i))
     ∙ spelt-read (a .limits) (a .s .now) (k .begins2 .given .0 .0) (sym (k .begins2 .given .1) ∙ o .open-chunk .ensures)
-    (n .functions2 .given .0 .0) (sym (n .functions2 .given .1) ∙ f .skim-main .ensures .0 outermost refl refl refl) _ _ refl (f .skim-main .ensures .1 outermost refl refl refl)
+    (n .functions2 .given .0 .0) (sym (n .functions2 .given .1) ∙ f .skim-main .ensures .0 outermost refl refl refl) _ _ refl (f .skim-main .ensures .1 outermost refl refl refl refl)
 
 pub judge-spelling-spec : {M : Type 1} → statement M
 judge-spelling-spec =

@@ -18,6 +18,9 @@ Inv-loop s n max-string-bytes tally₀ next₀ left₀ tally next left = Left (c
 abbrev μ-loop : tie.MeasureT-loop
 μ-loop s n max-string-bytes tally₀ next₀ left₀ tally next left = left
 
+returns-2 : tie.Need-returns-2 Inv-loop μ-loop
+returns-2 c = ends (c .before .loop .inv) (omega arith)
+
 pub pass-constants-spec : {M : Type 1} → statement M
 pass-constants-spec =
     tie.close
@@ -33,4 +36,4 @@ pass-constants-spec =
     let limit = c .before .before .before .before .before .before .before .before .args .max-string-bytes in
     let e = c .before .before .before .pass-constant .ensures in
     goes-on (c .before .before .before .before .before .before .loop .inv) (omega arith) (exact-constant limit) (covers-few (exact-constant limit) (tells-constant limit) (few-constant limit)) (sym (c .before .passed2 .given .1) ∙ e .0) (e .1))
-    (λ c. ends (c .before .loop .inv) (omega arith)))
+    returns-2)

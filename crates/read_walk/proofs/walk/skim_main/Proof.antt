@@ -1,10 +1,11 @@
 -- `read_walk::walk::skim_main` meets its contract: a list of one function (`Main.antt`, `Spelt.antt`). Assumes nothing.
-use mathlib.Core.Path.{_∙_, ap}
+use mathlib.Core.Path.{sym, _∙_, ap}
 use native.Mathlib.Omega.{arith}
 use lib.ListN.{drop}
 use Rattle.format_spelling.proofs.Tallies.{adds-as, adds-of}
 use Rattle.read_walk.specs.Inner.Skim.{skimResult}
 use Rattle.read_walk.proofs.Main.{main-alone}
+use Rattle.read_walk.proofs.Sources.{none-at-end}
 use Rattle.read_walk.proofs.Spelt.{main-spelt}
 use Rattle.read_walk.proofs.walk.skim_main.Statement.{statement}
 use Rattle.read_walk.proofs.walk.skim_main.Tie as tie
@@ -22,7 +23,7 @@ returns c =
     let s = drop at (a .s .now) in
     let ens = c .skim-functions .ensures in (
       (λ w none n i. ens .0 w n i ∙ ap (skimResult w) (main-alone (a .limits) (a .left) w at s none)),
-      λ w none n i. adds-of (main-alone (a .limits) (a .left) w at s none) (adds-as (main-spelt (a .limits) (a .left) w at s) (ens .1 w n i)),
+      λ w none missing n i. adds-of (main-alone (a .limits) (a .left) w at s none) (adds-as (main-spelt (a .limits) (a .left) w at s) (ens .1 w n i (missing ∙ sym (none-at-end (a .limits .«max_string_bytes») (a .s .now))))),
     )
 
 pub skim-main-spec : {M : Type 1} → statement M

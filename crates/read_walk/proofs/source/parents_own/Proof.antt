@@ -1,8 +1,8 @@
--- `copy_full_walk::source::parents_own` meets its contract (`Sources.antt`). Assumes nothing.
+-- `read_walk::source::parents_own` meets its contract (`Sources.antt`). Assumes nothing.
 use borrow.Author.Needs.{needs}
-use Rattle.copy_full_walk.proofs.Sources.{none-outer, some-outer}
-use Rattle.copy_full_walk.proofs.source.parents_own.Statement.{statement}
-use Rattle.copy_full_walk.proofs.source.parents_own.Tie as tie
+use Rattle.read_walk.proofs.Sources.{none-outer, some-outer}
+use Rattle.read_walk.proofs.source.parents_own.Statement.{statement}
+use Rattle.read_walk.proofs.source.parents_own.Tie as tie
 
 returns : tie.Need-returns
 returns c = let a = c .before .before .before .args in rw (c .enum-told .given .1) (none-outer (a .s .now) (a .spelt))

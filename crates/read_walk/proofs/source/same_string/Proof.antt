@@ -1,8 +1,8 @@
--- `copy_full_walk::source::same_string` meets its contract (`Sources.antt`). Assumes nothing.
+-- `read_walk::source::same_string` meets its contract (`Sources.antt`). Assumes nothing.
 use borrow.Author.Needs.{needs}
-use Rattle.copy_full_walk.proofs.Sources.{differ, no-room, compared}
-use Rattle.copy_full_walk.proofs.source.same_string.Statement.{statement}
-use Rattle.copy_full_walk.proofs.source.same_string.Tie as tie
+use Rattle.read_walk.proofs.Sources.{differ, no-room, compared}
+use Rattle.read_walk.proofs.source.same_string.Statement.{statement}
+use Rattle.read_walk.proofs.source.same_string.Tie as tie
 
 returns : tie.Need-returns
 returns c = let a = c .before .before .before .before .args in differ (a .s .now) (a .first) (a .second) (c .if1 .taken)
