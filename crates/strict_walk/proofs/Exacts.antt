@@ -7,7 +7,7 @@ use Rattle.format.specs.declared.limits.ResourceLimits.{ResourceLimits}
 use Rattle.format.specs.declared.refusal.Refusal.the-variants.{Instructions, TotalInstructions, Constants, Upvalues, Prototypes}
 use Rattle.format.specs.declared.entry.UpvalueDesc.{UpvalueDesc}
 use Rattle.format.specs.Form.{Bytes, Form, Then, Is, Here, Given, Run, Many}
-use Rattle.format.specs.GrammarFields.{Field, Byte, String}
+use Rattle.format.specs.GrammarFields.{Field, String}
 use Rattle.format.specs.Reading.{ConstantValue}
 use Rattle.format.specs.GrammarChunk.{Listed, Upvalue}
 use Rattle.format.specs.Read.{ok}
@@ -18,20 +18,14 @@ use Rattle.format.proofs.Every.{Every, any, every-then, every-is, every-given, 
 use Rattle.format_strict.specs.GrammarStrict.{Int, StrictCounted, StrictCountedUpTo, StrictConstant, StrictAnchor, StrictLocal}
 use Rattle.format_strict.proofs.ExactStrict.{exact-int, exact-strictCounted, exact-strictCountedUpTo, exact-strictConstant, exact-strictAnchor, exact-strictLocal}
 use Rattle.read_entry.specs.Readers.{Count}
-use Rattle.read_prototype.specs.declared.front.Sizes.{Sizes}
 use Rattle.read_prototype.specs.Front.{Front, sizes}
 use Rattle.read_prototype.specs.Parts.{Head, Tail}
+use Rattle.read_prototype.proofs.FrontAnswers.{SizesForm, exact-sizes}
 use Rattle.strict_walk.specs.Inner.StrictParts.{strictCode, strictProtos, strictLineInfo, strictFront, strictLists, strictHead, strictTail}
 
 -- ## The front
-abbrev SizesForm : Form Sizes
-SizesForm = Then Byte λ a. Then Byte λ b. Then Byte λ c. Is (record { numparams = a; «is_vararg» = b; maxstacksize = c })
-
 abbrev FrontForm : ℕ → Form Front
 FrontForm limit = Then (String limit) λ source. Then Int λ first. Then Int λ last. Then SizesForm λ three. Is (record { source = source; lines = record { «line_defined» = first; «last_line_defined» = last }; sizes = three })
-
-exact-sizes : Exact sizes SizesForm
-exact-sizes = exact-then (exact-field 1) λ _. exact-then (exact-field 1) λ _. exact-then (exact-field 1) λ _. exact-give _
 
 pub exact-front : (limit : ℕ) → Exact (strictFront limit) (FrontForm limit)
 exact-front limit = exact-then (exact-string limit) λ _. exact-then exact-int λ _. exact-then exact-int λ _. exact-then exact-sizes λ _. exact-give _

@@ -9,7 +9,7 @@ use Rattle.format.specs.declared.refusal.Refusal.the-variants.{Instructions, To
 use Rattle.format.specs.Form.{Bytes}
 use Rattle.format.specs.Reading.{Prototype}
 use Rattle.format.specs.GrammarChunk.{inherit, Where, within, prototype}
-use Rattle.format.specs.Read.{Read, ok, Reader, next, atMost, run, many}
+use Rattle.format.specs.Read.{ok, Reader, next, atMost, run, many}
 use Rattle.format.specs.ReadFields.{field, byte, string}
 use Rattle.format.specs.ReadChunk.{upvalue, forest}
 use Rattle.format_strict.specs.ReadStrict.{int, strictCounted, strictCountedUpTo, strictConstant, strictAnchor, strictLocal, strictBody, strictFunction}

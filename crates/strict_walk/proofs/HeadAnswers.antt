@@ -5,7 +5,7 @@
 --     HeadRead         a head that was read, of which two counts were shown
 -- Assumes nothing.
 use mathlib.Core.Path.{_≡_, refl, sym, _∙_, ap}
-use mathlib.Core.List.{List, [], _∷_}
+use mathlib.Core.List.{[], _∷_}
 use Prim.Native.Nat.{ℕ, _+_, _≤_}
 use native.Mathlib.Omega.{arith}
 use lib.Dec.{leb}
@@ -17,7 +17,7 @@ use Rattle.format.specs.declared.entry.UpvalueDesc.{UpvalueDesc}
 use Rattle.format.specs.Form.{Bytes}
 use Rattle.format.specs.Reading.{ConstantValue}
 use Rattle.format.specs.GrammarChunk.{Listed}
-use Rattle.format.specs.Read.{Read, ok, refused, Reader, next, _>>=_, give, here, many}
+use Rattle.format.specs.Read.{Read, ok, refused, next, _>>=_, give, many}
 use Rattle.format.specs.ReadFields.{byte}
 use Rattle.format.specs.ReadChunk.{upvalue}
 use Rattle.format_strict.specs.ReadStrict.{int}
@@ -30,12 +30,12 @@ use Rattle.read_field.specs.Shown.{u64Result}
 use Rattle.read_field.proofs.Shows.{Was, onward, cursor-err, cursor-ok, u64-err, u64-ok}
 use Rattle.read_entry.specs.Readers.{Count}
 use Rattle.read_list.proofs.Listing.{tested-then}
+use Rattle.read_list.proofs.Counts.{placed}
 use Rattle.read_prototype.specs.declared.front.Sizes.{Sizes}
 use Rattle.read_prototype.specs.Front.{Front, sizes}
 use Rattle.read_prototype.specs.Parts.{Head}
 use Rattle.read_prototype.proofs.On.{taken, stopped}
 use Rattle.strict_entry.proofs.Chains.{value, alike}
-use Rattle.strict_walk.specs.declared.parts.HeadPassed.{HeadPassed}
 use Rattle.strict_walk.specs.declared.parts.HeadPassed.the-variants as head
 use Rattle.strict_walk.specs.Inner.StrictParts.{intUpTo, strictProtos, strictCode, strictFront, strictLists, strictHead}
 use Rattle.strict_walk.specs.Inner.Results.{lengthResult, headPassed}
@@ -75,9 +75,6 @@ length-ok (ok l to rest) n c e =
 length-ok (refused p) n c e = absurd (let z : _≡_ {A = ℕ} 0 1 = cc in omega arith)
 
 -- ## How many functions nest in it
-abbrev placed : ℕ → Reader Count
-placed n = here >>= λ place. give (record { count = n; place = place })
-
 protos-are : (limit at : ℕ) (s : Bytes) → strictProtos limit at s ≡ next (intUpTo limit (Prototypes at) at s) placed
 protos-are limit at s = tested-then (λ n. leb n limit) (Prototypes at) placed (int at s)
 

@@ -13,7 +13,7 @@ use Rattle.format.specs.declared.refusal.Refusal.{Refusal}
 use Rattle.format.specs.declared.refusal.Refusal.the-variants.{Instructions, TotalInstructions}
 use Rattle.format.specs.Form.{Bytes, Form}
 use Rattle.format.specs.GrammarChunk.{Listed}
-use Rattle.format.specs.Read.{Read, ok, refused, Reader, next, _>>=_, _>>_, give, here, atMost, many}
+use Rattle.format.specs.Read.{Read, ok, refused, Reader, next, _>>=_, _>>_, atMost, many}
 use Rattle.format.specs.ReadFields.{field}
 use Rattle.format.proofs.Exact.{Exact}
 use Rattle.format_spelling.proofs.Tallies.{adds-none}

@@ -29,42 +29,34 @@ fn pass_function(s: &[u8], limits: ResourceLimits, left: usize, from: Skimmed) -
             protos: protos,
             next: behind,
         } => {
-            let first = Skimmed {
+            let mut nested = Skimmed {
                 next: behind,
                 number: from.number + 1,
                 instructions: from.instructions + instructions,
             };
-            let inner = pass_nested(s, limits, protos, left, first);
-            match inner {
-                SkimResult::Err(refusal) => SkimResult::Err(refusal),
-                SkimResult::Ok(nested) => {
-                    let ends = pass_tail(s, limits.max_string_bytes, nested.next);
-                    match ends {
-                        CursorResult::Err(refusal) => SkimResult::Err(refusal),
-                        CursorResult::Ok(next) => SkimResult::Ok(Skimmed {
-                            next: next,
-                            number: nested.number,
-                            instructions: nested.instructions,
-                        }),
+            if protos > 0 {
+                let inner = pass_functions(s, limits, protos, left, nested);
+                match inner {
+                    SkimResult::Err(refusal) => return SkimResult::Err(refusal),
+                    SkimResult::Ok(later) => {
+                        nested = later;
                     }
                 }
+            }
+            let ends = pass_tail(s, limits.max_string_bytes, nested.next);
+            match ends {
+                CursorResult::Err(refusal) => SkimResult::Err(refusal),
+                CursorResult::Ok(next) => SkimResult::Ok(Skimmed {
+                    next: next,
+                    number: nested.number,
+                    instructions: nested.instructions,
+                }),
             }
         }
     }
 }
 
-// Passes over n functions one after the other, each nested in a function below which functions nest at most `left` deep. Most functions have none: these call nothing.
-fn pass_nested(s: &[u8], limits: ResourceLimits, n: usize, left: usize, from: Skimmed) -> SkimResult
-    requires { ⌜ Walkable limits ⌝ }
-    ensures { λ r. ⌜ ((w : grammar.Where) → from .number ≡ w .number → from .instructions ≡ w .instructions → r ≡ skimResult w (forest n (enteredBy (strictFunction limits) limits left) w (from .next .at) (drop (from .next .at) (now (s .entry))))) ⌝ }
-{
-    if n == 0 {
-        return SkimResult::Ok(from);
-    }
-    pass_functions(s, limits, n, left, from)
-}
-
-// The same, where there are some.
+// Passes over n functions one after the other, each nested in a function below which functions nest at most `left` deep.
 fn pass_functions(
     s: &[u8],
     limits: ResourceLimits,
