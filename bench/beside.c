@@ -17,6 +17,7 @@
     __typeof__(lafzimdo_index) prefix##index;                                                                                               \
     __typeof__(lafzimdo_copy_length) prefix##copy_length;                                                                                   \
     __typeof__(lafzimdo_copy) prefix##copy;                                                                                                 \
+    __typeof__(lafzimdo_full_copy) prefix##full_copy;                                                                                       \
     __typeof__(lafzimdo_findings) prefix##findings
 
 DECLARED(old_lafzimdo_);
@@ -30,6 +31,7 @@ CALLED(function);
 CALLED(line);
 CALLED(index);
 CALLED(copy_length);
+CALLED(full_copy);
 CALLED(findings);
 static __typeof__(lafzimdo_copy) *const copies[ARCHIVES] = {lafzimdo_copy, old_lafzimdo_copy, again_lafzimdo_copy};
 
@@ -47,12 +49,13 @@ TIMES(late, line[a](ON(c), c->late, 0, out))
 TIMES(index, index[a](ON(c), rows, rows_len, out) || out[0] != c->functions)
 TIMES(copy_length, copy_length[a](ON(c), out))
 TIMES(copy, copies[a](ON(c), copy, copy_len, out))
+TIMES(full, full_copy[a](ON(c), copy, copy_len, out))
 TIMES(findings, findings[a](ON(c), list, LIST_LEN, out))
 
-enum { SUMMARY, VERDICT, MAIN, MIDDLE, LAST, LINE, LATE, INDEX, COPY_LENGTH, COPY, FINDINGS, CALLS };
-static const char *const names[CALLS] = {"summary", "verdict", "fields of main", "fields, middle", "fields, last", "line", "line, last", "index", "copy_length", "copy", "findings"};
+enum { SUMMARY, VERDICT, MAIN, MIDDLE, LAST, LINE, LATE, INDEX, COPY_LENGTH, COPY, FULL, FINDINGS, CALLS };
+static const char *const names[CALLS] = {"summary", "verdict", "fields of main", "fields, middle", "fields, last", "line", "line, last", "index", "copy_length", "copy", "full copy", "findings"};
 static double (*const runs[CALLS])(const struct set *, enum archive) = {run_summary, run_verdict, run_main, run_middle, run_last,
-                                                                        run_line, run_late, run_index, run_copy_length, run_copy, run_findings};
+                                                                        run_line, run_late, run_index, run_copy_length, run_copy, run_full, run_findings};
 
 #define MOST_FILES 64
 static double best[MOST_FILES][CALLS][ARCHIVES];

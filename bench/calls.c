@@ -37,6 +37,8 @@ double run_copy_length(const struct set *set) { TIMED(set, must(lafzimdo_copy_le
 
 double run_copy(const struct set *set) { TIMED(set, must(lafzimdo_copy(c->bytes, c->len, limits, copy, copy_len, out) == 0, "copy")); }
 
+double run_full(const struct set *set) { TIMED(set, must(lafzimdo_full_copy(c->bytes, c->len, limits, copy, copy_len, out) == 0, "full copy")); }
+
 double run_verdict(const struct set *set) { TIMED(set, must(lafzimdo_verdict(c->bytes, c->len, limits, out) == 0, "verdict")); }
 
 double run_findings(const struct set *set) {

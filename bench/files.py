@@ -7,8 +7,11 @@
 #   large-M     main and eight functions that share the file
 #   tiny-M      as many functions of 14 or 18 bytes as there is room for: above a million in 16 MB
 #   nested-M    as many functions within each other as there may be
+#   zeros-M     half of it zero groups, before the numbers of main and of the one function in main; in that stand as many functions as there is room for, each with a source.
+#               What reads a padded number again for each function takes the product of the two halves
 #   findings-16 as large-16, with 10,001 findings spread evenly, so that validation stops at the very end
 #   padded-16   as real-16, every number behind a zero group: no number is spelt as in its copy
+#   joined-16   as real-16, every script with its source, as if luac had joined files: the archive copy drops these, the full copy keeps them
 #
 # M is the size in MB (of 1,048,576 bytes): 1, 2, 4, 8, 16. No file is longer than 16,777,216 bytes.
 import random
@@ -77,6 +80,33 @@ def padded(copies):
     data = luac(copies)
     cuts = [0, *Numbers(data).places, len(data)]
     return b"\0".join(data[start:end] for start, end in zip(cuts, cuts[1:]))
+
+
+class Scripts(Reader):
+    """Where the functions of a chunk begin that stand in main."""
+
+    def __init__(self, data):
+        super().__init__(data, 32)
+        self.depth = 0
+        self.places = []
+        self.function()
+
+    def function(self):
+        if self.depth == 1:
+            self.places.append(self.at)
+        self.depth += 1
+        super().function()
+        self.depth -= 1
+
+
+def joined(copies):
+    """What luac makes, each function in main with a source of its own. (luac5.4 itself aborts on so many files.)"""
+    data = luac(copies)
+    places = Scripts(data).places
+    assert all(data[at] == 0x80 for at in places)
+    cuts = [0, *(at + 1 for at in places), len(data)]
+    parts = [data[start:end] for start, end in zip(cuts, cuts[1:])]
+    return b"".join(part[:-1] + string(b"@script_%05d.lua" % k) for k, part in enumerate(parts[:-1])) + parts[-1]
 
 
 # ---- functions that are made up
@@ -210,6 +240,25 @@ def tiny(size):
     return chunk(main)
 
 
+HEAVY = 2
+NUMBERS = 11
+
+
+def zeros(size):
+    """Main and a function in it have zero groups before each of their eleven numbers; the functions in that have one instruction and a source, every second its parent's."""
+    zero = bytes(size // 2 // (HEAVY * NUMBERS))
+
+    def heavy(source, inner, count):
+        n = [zero + number(value) for value in (0, 0, 1, 0, 0, count, 1, 0, 0, 0)]
+        return zero + source + n[0] + n[1] + bytes([0, 1, 2]) + n[2] + word(71, 0, 0) + n[3] + n[4] + n[5] + inner + n[6] + b"\0" + n[7] + n[8] + n[9]
+
+    source = string(b"@zeros.lua")
+    rest = number(0) * 2 + bytes([0, 0, 2]) + number(1) + word(71, 0, 0) + number(0) * 7
+    groups = (size - 128 - HEAVY * NUMBERS * len(zero)) // len(source + rest + source + rest)
+    inner = (source + rest + string(b"@other.lua") + rest) * groups
+    return chunk(heavy(source, heavy(b"\x80", inner, 2 * groups), 1))
+
+
 # ---- 10,001 findings
 
 # A word of each kind: no opcode; a register, a constant, an upvalue, a table's upvalue, a nested function, a jump's target that is not there.
@@ -256,10 +305,11 @@ def main():
     for mb in SIZES:
         size = mb * MB
         write(folder, f"real-{mb}", [sized(bundled(luac), size)])
-        for make in (large, tiny, nested):
+        for make in (large, tiny, nested, zeros):
             write(folder, f"{make.__name__}-{mb}", [sized(make, size)])
     write(folder, "findings-16", [sized(lambda size: large(size, spread), 16 * MB)])
     write(folder, "padded-16", [sized(bundled(padded), 16 * MB)])
+    write(folder, "joined-16", [sized(bundled(joined), 16 * MB)])
 
 
 main()

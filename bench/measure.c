@@ -9,9 +9,9 @@
 #include <stdlib.h>
 #include <string.h>
 
-enum { MEMCPY, SKIP, TEST, SUMMARY, STRICT, INDEX, COPY_LENGTH, COPY, VERDICT, FINDINGS, LINE, LINES, LOAD, DUMP, CALLS };
-static const char *const names[CALLS] = {"memcpy", "C reader", "C verdict", "summary", "strict", "index", "copy_length", "copy", "verdict", "findings", "line", "lines", "lua_load", "lua_dump"};
-static const call runs[CALLS] = {run_memcpy, run_skip, run_test, run_summary, run_strict, run_index, run_copy_length, run_copy, run_verdict, run_findings, run_line, run_lines, run_load, run_dump};
+enum { MEMCPY, SKIP, TEST, SUMMARY, STRICT, INDEX, COPY_LENGTH, COPY, FULL, VERDICT, FINDINGS, LINE, LINES, LOAD, DUMP, CALLS };
+static const char *const names[CALLS] = {"memcpy", "C reader", "C verdict", "summary", "strict", "index", "copy_length", "copy", "full copy", "verdict", "findings", "line", "lines", "lua_load", "lua_dump"};
+static const call runs[CALLS] = {run_memcpy, run_skip, run_test, run_summary, run_strict, run_index, run_copy_length, run_copy, run_full, run_verdict, run_findings, run_line, run_lines, run_load, run_dump};
 #define FIRST_OWN SUMMARY
 #define LAST_OWN LINES
 
