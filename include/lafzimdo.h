@@ -6,7 +6,7 @@
  * A pointer must be good for the length that goes with it and must not be null, also where the length is 0; `out` and lent memory must overlap nothing else.
  * A negative number stands in `out` as its two's complement: cast it to int64_t.
  * The library has no state, takes no memory but its stack and what it is lent, and calls nothing but memcpy and memset: calls may run in many threads at once, on one chunk too, each with lent memory of its own.
- * Cost, in the first words of each comment: a pass goes over the whole chunk once, and reads each function's numbers, counts and entries, but no words and no bytes of strings.
+ * Cost, in the first words of each comment: a pass goes over the whole chunk once, and reads each function's numbers, counts and entries, but no words and no bytes of strings (of nested functions that spell a source, that source).
  * Stack: a call takes at most 496 bytes for each level of nesting (464 where it copies), of which there are at most 14, and 10 kB in all. Measured by compare/stack.py, not proved.
  */
 #ifndef LAFZIMDO_H
@@ -349,10 +349,10 @@ uint64_t lafzimdo_copy_length(const uint8_t *chunk, size_t len, const uint64_t l
 /* One pass where the chunk is spelt as its copy is, and its bytes are copied; else two or three. The same; the copy at the front of `copy`. Refusal 26 where `copy` is shorter. */
 uint64_t lafzimdo_copy(const uint8_t *chunk, size_t len, const uint64_t limits[9], uint8_t *copy, size_t copy_len, uint64_t out[1]);
 
-/* One pass where the chunk is spelt as its archive copy is, else one or two. The length of the full copy: the archive copy, with the source of every nested function that has another than the function around it */
+/* One pass where the chunk is spelt as its full copy is, as luac writes it of one file or of several, else one or two. The length of the full copy: the archive copy, with the source of every nested function that has another than the function around it */
 uint64_t lafzimdo_full_copy_length(const uint8_t *chunk, size_t len, const uint64_t limits[9], uint64_t out[1]);
 
-/* One pass where the chunk is spelt as its archive copy is, else two or three. The same; the full copy at the front of `copy`. Refusal 26 where `copy` is shorter. */
+/* One pass where the chunk is spelt as its full copy is, and its bytes are copied; else two or three. The same; the full copy at the front of `copy`. Refusal 26 where `copy` is shorter. */
 uint64_t lafzimdo_full_copy(const uint8_t *chunk, size_t len, const uint64_t limits[9], uint8_t *copy, size_t copy_len, uint64_t out[1]);
 
 /* Two passes, and each word is looked at once. The verdict: 0 valid for analysis, 1 invalid, 2 incomplete */
