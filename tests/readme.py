@@ -45,9 +45,8 @@ def in_python(folder):
 
 
 def in_rust(folder):
-    ours, rattle = blocks(readme, "rust")
+    ours, _ = blocks(readme, "rust")
     (theirs,) = blocks(rust, "rust")
-    assert rattle.strip() == (top / "crates/lua54_example/src/main.rt").read_text().strip(), "the example in Rattle"
     for name, source in (("count", ours + 'fn main() { println!("{:?}", functions(&std::fs::read(std::env::args().nth(1).unwrap()).unwrap())) }\n'), ("whole", theirs)):
         (folder / name / "src").mkdir(parents=True)
         (folder / name / "Cargo.toml").write_text(f'[package]\nname = "readme_{name}"\nversion = "0.1.0"\nedition = "2021"\n[dependencies]\nlafzimdo = {{ path = "{top}/bindings/rust" }}\n[workspace]\n')
@@ -57,6 +56,23 @@ def in_rust(folder):
     told = run("cargo", "run", "-q", "--offline", cwd=folder / "whole")
     assert told.endswith("valid-for-analysis\n") and 'ShortString("freq")' in told
     assert (folder / "whole/archive.luac").read_bytes() == (top / "samples/recentre.luac").read_bytes()
+
+
+def in_rattle(folder):
+    """README's program over crate lua54: proved beside the repository's crates, compiled, and run on the sample. What is proved already is taken over."""
+    where = folder / "rattle"
+    shutil.copytree(top / "crates", where / "crates")
+    for kept in ("rlib", "stamp"):
+        if (top / "target" / kept).exists():
+            shutil.copytree(top / "target" / kept, where / "target" / kept, symlinks=True)
+    program = where / "crates/readme"
+    (program / "src").mkdir(parents=True)
+    (program / "src/main.rt").write_text(blocks(readme, "rust")[1])
+    (program / "stdout").write_text("7")
+    shutil.copy(top / "samples/recentre.luac", program / "stdin")
+    (where / "crates.txt").write_text((top / "crates.txt").read_text() + "readme: format read_chunk show_chunk lua54 io libc\n")
+    told = run("rt", "check", "readme", cwd=where)
+    assert "readme ran" in told, told[-2000:]
 
 
 def listing():
@@ -115,10 +131,13 @@ def main():
         in_c(folder)
         in_python(folder)
         in_rust(folder)
+        kit = shutil.which("rt")
+        if kit:
+            in_rattle(folder)
         listing()
         commands(folder)
         seen = links()
-    print(f"readme: programs in C, Python, Rust, the listing, the commands, {seen} links")
+    print(f"readme: programs in C, Python, Rust, {'Rattle' if kit else 'not in Rattle (no rt)'}, the listing, the commands, {seen} links")
 
 
 if __name__ == "__main__":

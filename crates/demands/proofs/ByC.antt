@@ -3,19 +3,24 @@
 --     InC a qs             so it is of a call whose answer is a and whose conditions are qs, in 01's order
 --     law                  it is enough that the refusal in the answer is the first of the conditions
 --     findings-kept        a call that refuses leaves its list as it was. (Rows, copies and name: Demand1.antt, `index-kept`, `copy-kept`, `full-kept`, `local-kept`, of the same definitions.)
+--     coded-chunk          what stands for a refusal of a chunk is its number and 256 times the place and one, which below 2^32 is never left out (Demand1.antt, `places`)
 -- (crates/c_boundary/proofs/Numbers.antt: 0 is returned nowhere else, and number and place can be got back.)
 -- Assumes nothing.
 use mathlib.Core.Path.{_≡_, refl, sym, _∙_, ap}
 use mathlib.Core.Bool.{Bool, true, false, cond}
 use mathlib.Core.List.{List, [], _++_}
 use mathlib.Core.Option.{Option, none, some}
-use Prim.Native.Nat.{ℕ, _/_}
+use Prim.Native.Nat.{ℕ, _+_, _*_, _/_, _^_}
 use native.Mathlib.Omega.{arith}
 use lib.Dec.{leb}
 use lib.IntN.{ℤ}
 use lib.ListN.{length, drop}
+use borrow.Author.Tests.{lt-leb}
 use Rattle.format.specs.declared.limits.ResourceLimits.{ResourceLimits}
+use Rattle.format.specs.declared.refusal.Refusal.{Refusal}
 use Rattle.format.specs.declared.refusal.Refusal.the-variants.{LentSpace}
+use Rattle.format.specs.declared.refusal.Place.{Place}
+use Rattle.format.specs.declared.refusal.Place.the-variants.{At, None}
 use Rattle.format.specs.declared.refusal.Report.{Report}
 use Rattle.format.specs.Refusals.{reported}
 use Rattle.format.specs.Form.{Bytes}
@@ -68,12 +73,13 @@ use Rattle.validate_plan.specs.Validated.{shownFindings}
 use Rattle.word_fields.specs.declared.instruction.Encoded.{Encoded}
 use Rattle.word_fields.specs.declared.instruction.Encoded.the-variants as encoded-answer
 use Rattle.word_fields.specs.Word.{decoded, encoded}
-use Rattle.c_boundary.specs.Status.{limitsOf, withPlace, Answer, done, refuses, status, written}
+use Rattle.c_boundary.specs.Status.{limitsOf, withPlace, coded, Answer, done, refuses, status, written}
 use Rattle.lafzimdo.specs.Answers.{ofSummary, ofFields, ofLine, ofWord, ofConstant, ofUpvalue, ofDelta, ofAnchor, ofLocal, ofName, ofIndex, ofCopy, ofVerdict, ofCount}
 use Rattle.c_words.specs.Words.{wordNumbers, spelt, ofEncoded}
 use Rattle.c_findings.specs.FindingNumbers.{listNumbers, ofFindings, numbersWritten}
 use Rattle.demands.proofs.Refused.{first, forChunk, forSpace, forFunction, forLine, forEntry, forLocal, forWord}
 use Rattle.demands.proofs.Refused.{inSummary, inFields, inWord, inConstant, inUpvalue, inDelta, inAnchor, inName, inLocal, inLine, inIndex, inCopy, inVerdict, inCount, inFindings, inEncoded}
+use Rattle.demands.proofs.InOrder.{Inside}
 use Rattle.demands.proofs.Demand1 as calls
 use Rattle.c_findings.proofs.Numbered.{all-or-none}
 
@@ -241,3 +247,19 @@ findings-kept old (shown r) q e = sym (all-or-none old (shown r)) ∙ by (leb (l
     by true e = absurd (let z : _≡_ {A = ℕ} 0 1 = cc in omega arith)
     by false e = refl
 findings-kept old (refusal p) q e = refl
+
+-- ## Number and place in one
+abbrev pub inOne : ℕ → Place → ℕ
+inOne n None = n
+inOne n (At place) = n + 256 * (place + 1)
+
+-- a place that lies in a file, or is its end, is below 2^32
+pub coded-inside : (q : Refusal) → Inside 16777216 (reported q .place) → coded q ≡ inOne (reported q .number) (reported q .place)
+coded-inside q h = by (reported q .place) h
+  where
+    by : (p : Place) → Inside 16777216 p → withPlace (reported q .number) p ≡ inOne (reported q .number) p
+    by None h = refl
+    by (At place) h = ap (λ b. cond b (reported q .number) (reported q .number + 256 * (place + 1))) (lt-leb (2 ^ 32) place (omega arith))
+
+pub coded-chunk : (L : ResourceLimits) (s : Bytes) (q : Refusal) → read L s ≡ refusal q → coded q ≡ inOne (reported q .number) (reported q .place)
+coded-chunk L s q e = coded-inside q (calls.places L s q e .1)

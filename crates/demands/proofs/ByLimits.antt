@@ -25,6 +25,7 @@ use Rattle.format.specs.Read.{Read, ok, refused, Reader, next, _>>=_, _>>_, giv
 use Rattle.format.specs.ReadFields.{field, number, content, string}
 use Rattle.format.specs.ReadHeader.{header}
 use Rattle.format.specs.ReadChunk.{counted, countedUpTo, always, constant, upvalue, anchor, local, forest, body, function, main, shown, refusal, outcome, read}
+use Rattle.demands.proofs.Early.{never}
 use Rattle.demands.proofs.AtOneByte.{enter}
 
 -- 13 to 20
@@ -32,7 +33,7 @@ pub record ByLimit (p : Refusal) : Type 0 where
   pub from : 13 ≤ reported p .number
   pub to : reported p .number ≤ 20
 
-limit : (p : Refusal) → leb 13 (reported p .number) ≡ true → leb (reported p .number) 20 ≡ true → ByLimit p
+pub limit : (p : Refusal) → leb 13 (reported p .number) ≡ true → leb (reported p .number) 20 ≡ true → ByLimit p
 limit p f g = record { from = leb-true 13 (reported p .number) f; to = leb-true (reported p .number) 20 g }
 
 -- the same, or a limit
@@ -43,23 +44,20 @@ Agrees x to rest (refused p) = ByLimit p
 pub record Limited {A : Type 0} (r r′ : Reader A) : Type 0 where
   pub agrees : (at : ℕ) (s : Bytes) (x : A) (to : ℕ) (rest : Bytes) → r′ at s ≡ ok x to rest → Agrees x to rest (r at s)
 
-never : {A P : Type 0} {x : A} {to : ℕ} {rest : Bytes} {p : Refusal} → refused p ≡ ok x to rest → P
-never e = absurd (let z : _≡_ {A = ℕ} 0 1 = cc in omega arith)
-
 -- ## Ways to make a reader
-same : {A : Type 0} (r : Reader A) → Limited r r
+pub same : {A : Type 0} (r : Reader A) → Limited r r
 same r = record { agrees = λ at s x to rest e. rw e refl }
 
-limited-give : {A : Type 0} (x : A) → Limited (give x) (give x)
+pub limited-give : {A : Type 0} (x : A) → Limited (give x) (give x)
 limited-give x = same (give x)
 
 limited-refuse : {A : Type 0} {r′ : Reader A} (p : Refusal) → ByLimit p → Limited (refuse p) r′
 limited-refuse p is = record { agrees = λ at s x to rest e. is }
 
-limited-here : {B : Type 0} {f f′ : ℕ → Reader B} → ((place : ℕ) → Limited (f place) (f′ place)) → Limited (here >>= f) (here >>= f′)
+pub limited-here : {B : Type 0} {f f′ : ℕ → Reader B} → ((place : ℕ) → Limited (f place) (f′ place)) → Limited (here >>= f) (here >>= f′)
 limited-here two = record { agrees = λ at s x to rest e. two at .agrees at s x to rest e }
 
-limited-then : {A B : Type 0} {r r′ : Reader A} {f f′ : A → Reader B} → Limited r r′ → ((x : A) → Limited (f x) (f′ x)) → Limited (r >>= f) (r′ >>= f′)
+pub limited-then : {A B : Type 0} {r r′ : Reader A} {f f′ : A → Reader B} → Limited r r′ → ((x : A) → Limited (f x) (f′ x)) → Limited (r >>= f) (r′ >>= f′)
 limited-then {A} {B} {r} {r′} {f} {f′} one two = record { agrees = λ at s x to rest e. go at s x to rest (r′ at s) refl e }
   where
     on : (y : A) (mid : ℕ) (u : Bytes) (x : B) (to : ℕ) (rest : Bytes) → f′ y mid u ≡ ok x to rest → (o : Read A) → Agrees y mid u o → Agrees x to rest (next o f)
@@ -70,7 +68,7 @@ limited-then {A} {B} {r} {r′} {f} {f′} one two = record { agrees = λ at s x
     go at s x to rest (ok y mid u) is e = on y mid u x to rest e (r at s) (one .agrees at s y mid u is)
     go at s x to rest (refused p) is e = never e
 
-limited-pick : {A : Type 0} {r r′ s s′ : Reader A} (b : Bool) → Limited r r′ → Limited s s′ → Limited (cond b r s) (cond b r′ s′)
+pub limited-pick : {A : Type 0} {r r′ s s′ : Reader A} (b : Bool) → Limited r r′ → Limited s s′ → Limited (cond b r s) (cond b r′ s′)
 limited-pick true one two = one
 limited-pick false one two = two
 

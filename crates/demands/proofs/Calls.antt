@@ -16,7 +16,7 @@
 --     encode_chunk_lua54      answers    shownCopy space (read L s), and leaves copyWritten old (read L s)
 --     full_copy_length        answers    shownFullLength (read L s)
 --     full_copy               answers    shownFull space (read L s), and leaves fullWritten old (read L s)
--- and the theorems below say what these are: `shows` where the chunk is read, `refuses` where it is refused.
+-- and the theorems below say what these are: `shows` where the chunk is read, `refuses` where it is refused. They leave `strict_summary` out, which does not go by `read` (Request05.antt, `strict-above`, and Request07.antt).
 -- Assumes nothing.
 use mathlib.Core.Path.{_≡_, refl, _∙_, ap}
 use mathlib.Core.Bool.{Bool, true, false, cond}

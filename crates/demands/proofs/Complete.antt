@@ -1,5 +1,6 @@
--- `Shows` and `Refuses` (`Calls.antt`) leave no call out: whatever two chunks show one reading, or are refused for one reason, every call answers alike on both (the summary but for its count of padded
--- numbers, which is no part of the reading), whatever is asked of it and whatever space it is lent.
+-- `Shows` and `Refuses` (`Calls.antt`) leave no call out that goes by the reading: whatever two chunks show one reading, or are refused for one reason, every such call answers alike on both (the summary but for its
+-- count of padded numbers, which is no part of the reading), whatever is asked of it and whatever space it is lent. Left out: `strict_summary`, which goes by the stricter reading and so by more than this one
+-- (Request07.antt); `string_bytes`, which shows bytes of the chunk by place and length; words and limits, which are of no chunk.
 --     RestAlike            the calls that `AnswerAlike` (`Alike.antt`) does not name: lines, the index, verdict and findings, the copy, the full copy
 --     shown-alike          both show the same reading
 --     refused-alike        both are refused for the same reason

@@ -39,16 +39,16 @@ pub record Continues {A : Type 0} (r : Reader A) : Type 0 where
   pub on : (at : ℕ) (s : Bytes) → (t : Bytes) × Judged (r at (s ++ t))
 
 -- ## Ways to make a reader
-on-give : {A : Type 0} (x : A) → Continues (give x)
+pub on-give : {A : Type 0} (x : A) → Continues (give x)
 on-give x = record { on = λ at s. ([], tt) }
 
-on-refuse : {A : Type 0} (p : Refusal) → 2 < reported p .number → Continues {A = A} (refuse p)
+pub on-refuse : {A : Type 0} (p : Refusal) → 2 < reported p .number → Continues {A = A} (refuse p)
 on-refuse p h = record { on = λ at s. ([], h) }
 
-on-here : {B : Type 0} {f : ℕ → Reader B} → ((place : ℕ) → Continues (f place)) → Continues (here >>= f)
+pub on-here : {B : Type 0} {f : ℕ → Reader B} → ((place : ℕ) → Continues (f place)) → Continues (here >>= f)
 on-here two = record { on = λ at s. two at .on at s }
 
-on-then : {A B : Type 0} {r : Reader A} {F : Form A} {f : A → Reader B} → Exact r F → Continues r → ((x : A) → Continues (f x)) → Continues (r >>= f)
+pub on-then : {A B : Type 0} {r : Reader A} {F : Form A} {f : A → Reader B} → Exact r F → Continues r → ((x : A) → Continues (f x)) → Continues (r >>= f)
 on-then {A} {B} {r} {F} {f} exact one two = record { on = λ at s. (let more = one .on at s in by at s (more .0) (r at (s ++ more .0)) refl (more .1)) }
   where
     by : (at : ℕ) (s t : Bytes) (o : Read A) → r at (s ++ t) ≡ o → Judged o → (t : Bytes) × Judged (next (r at (s ++ t)) f)
@@ -61,15 +61,15 @@ on-then {A} {B} {r} {F} {f} exact one two = record { on = λ at s. (let more = o
         (t ++ u, subst (λ (o : Read A). Judged (next o f)) (sym same) (more .1))
     by at s t (refused p) is j = (t, subst (λ (o : Read A). Judged (next o f)) (sym is) j)
 
-on-pick : {A : Type 0} {r s : Reader A} (b : Bool) → Continues r → Continues s → Continues (cond b r s)
+pub on-pick : {A : Type 0} {r s : Reader A} (b : Bool) → Continues r → Continues s → Continues (cond b r s)
 on-pick true one two = one
 on-pick false one two = two
 
-on-test : (b : Bool) (p : Refusal) → 2 < reported p .number → Continues (test b p)
+pub on-test : (b : Bool) (p : Refusal) → 2 < reported p .number → Continues (test b p)
 on-test true p h = on-give tt
 on-test false p h = on-refuse p h
 
-on-atMost : (n m : ℕ) (p : Refusal) → 2 < reported p .number → Continues (atMost n m p)
+pub on-atMost : (n m : ℕ) (p : Refusal) → 2 < reported p .number → Continues (atMost n m p)
 on-atMost n m p h = on-test (leb n m) p h
 
 -- as many zeros are enough
@@ -86,7 +86,7 @@ on-many zero exact one = on-give []
 on-many (suc n) exact one = on-then exact one λ x. on-then (exact-many n exact) (on-many n exact one) λ xs. on-give _
 
 -- ## Fields
-on-field : (n : ℕ) → Continues (field n)
+pub on-field : (n : ℕ) → Continues (field n)
 on-field n = on-then (exact-run n) (on-run n) λ bytes. on-give _
 
 -- a number ends with a byte of 128
@@ -103,7 +103,7 @@ on-groups high at (x ∷ s) = let more = on-groups (high * 128 + x) (at + 1) s i
     go true false rest o j = tt
     go false low rest o j = omega arith
 
-on-number : Continues number
+pub on-number : Continues number
 on-number = record { on = λ at s. on-groups 0 at s }
 
 on-string : (limit : ℕ) → Continues (string limit)

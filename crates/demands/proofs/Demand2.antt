@@ -5,11 +5,12 @@
 -- Each line is an equation with a definition that mirrors the Rust, and antt holds it to be the contract's own clause, word for word. That the definitions are the Rust's was compared by running, since it cannot be
 -- proved: crates/vectors replays the kept answers of the unchanged Rust, oracle/findings asks it. What is compared there is said with each group.
 --     as-the-rust      validation as validator.rs has it, a list and a flag, on every chunk that is read. CALL-as-the-rust: so the promises of the calls that validate, said by the Rust's list and flag
---     as-lua-loads     the format against Lua's C: what Lua's own loader takes is read, and the reading is what it loads; as-read-loads: and back
+--     as-lua-loads     the format against Lua's C: what Lua's own loader takes is read, and the reading is what it loads. And back: Request07.antt, `strict-as-lua`, `strict-then-read`, `only-besides`: a chunk that is read is one
+--                      that Lua loads, or refusal 31, 32 or 33 of the stricter reading says why it is not
 --     as-lua-dumps     what the copying call writes is what Lua's own dumper writes; as-lua-strips: with strip
 -- Assumes nothing.
 use mathlib.Core.Path.{_≡_, refl, ap, sym, _∙_}
-use Prim.Native.Nat.{ℕ, suc, _<_, _≤_}
+use Prim.Native.Nat.{ℕ, _<_, _≤_}
 use mathlib.Core.Bool.{true, false}
 use mathlib.Core.List.{List, [], _∷_, _++_}
 use mathlib.Core.Option.{none}
@@ -18,7 +19,7 @@ use denote.Ref.{now}
 use Rattle.format.specs.declared.limits.ResourceLimits.{ResourceLimits}
 use Rattle.format.specs.declared.refusal.Refusal.{Refusal}
 use Rattle.format.specs.Reading.{Reading}
-use Rattle.format.specs.Form.{Bytes, All, Below}
+use Rattle.format.specs.Form.{Bytes, All}
 use Rattle.format.specs.Limits as limits
 use Rattle.format.specs.Limits.{withinCeilings}
 use Rattle.format.specs.Refusals.{reported}
@@ -28,7 +29,6 @@ use Rattle.format.specs.ReadChunk.{Outcome, shown, refusal, read}
 use Rattle.format_lua.specs.LundumpFunctions.{Undump}
 use Rattle.format_lua.specs.LdumpFunctions.{«luaU_dump»}
 use Rattle.format.proofs.ReadChunkLaws.{read-sound}
-use Rattle.format_lua.proofs.LundumpBack.{Loadable, LoadedAs, read-is-loaded}
 use Rattle.format_lua.proofs.LdumpWhole.{sourceOf, AsLua, AsStripped, copy-as-dumped, copy-as-stripped}
 use Rattle.format_lua.specs.LundumpWithin.{FunctionsWithin}
 use Rattle.format_lua.proofs.LundumpChunk.{loaded-is-read}
@@ -158,7 +158,7 @@ pub function-index : Promise function-index-call.ended function-index-call.Symbo
     ∷ [])
 function-index _ = function-index-call.Met.met
 
--- ## Lines. Compared: 906 requests on lines alone (crates/vectors), beside those of the chunks above.
+-- ## Lines. Compared: 910 requests on lines alone (crates/vectors), beside those of the chunks above.
 pub get-line-for-pc : Promise get-line-for-pc-call.ended get-line-for-pc-call.Symbol.routine (λ _ chunk limits function pc r.
     (r ≡ shownLine pc (functionOf function (read limits (now chunk))))
     ∷ [])
@@ -188,7 +188,7 @@ pub full-copy : Promise full-copy-call.ended full-copy-call.Symbol.routine (λ _
     ∷ [])
 full-copy _ = full-copy-call.Met.met
 
--- ## Validation: the verdict, the number of findings, and the findings in a lent list. Compared: 5,488 chunks and 31 requests for a verdict alone (crates/vectors); the lent list on 5,534 chunks (oracle/findings).
+-- ## Validation: the verdict, the number of findings, and the findings in a lent list. Compared: 5,528 chunks and 31 requests for a verdict alone (crates/vectors); the lent list too, on the same chunks (crates/vectors; oracle/findings).
 pub chunk-verdict : Promise chunk-verdict-call.ended chunk-verdict-call.Symbol.routine (λ _ chunk limits r.
     (r ≡ shownVerdict (read limits (now chunk)))
     ∷ [])
@@ -300,11 +300,6 @@ validate-chunk-lua54-as-the-rust = coe 0 1 (i. Promise validate-chunk-lua54-call
 pub as-lua-loads : (L : ResourceLimits) (left : ℕ) (front trailing : Bytes) (m : Loaded) → Undump left 0 front m → FunctionsWithin L outermost (m .functions)
     → withinCeilings L ≡ true → length (front ++ trailing) ≤ L .«max_input_bytes» → read L (front ++ trailing) ≡ shown (reading L m (length front) trailing)
 as-lua-loads = loaded-is-read
-
--- and back: of a chunk of format 0 that is read, what Lua can load (ints, and no empty string constant) it loads, with the functions of the reading. (A slice's numbers are bytes: Slices.antt)
-pub as-read-loads : (L : ResourceLimits) (chunk : Bytes) (r : Reading) → read L chunk ≡ shown r → Below 256 chunk → r .header .format ≡ 0 → All Loadable (r .functions)
-    → LoadedAs (suc (L .«max_nesting_depth»)) chunk r
-as-read-loads L chunk r e = read-is-loaded L chunk r (read-sound L chunk r e)
 
 -- ## Lua's own dumper (crates/format_lua/specs/LdumpFunctions.antt, after ldump.c)
 -- what `encode_chunk_lua54` writes (Written.antt) is what `luaU_dump` writes and the trailing bytes, where functions are as Lua would have them (`AsLua`), or stripped

@@ -28,11 +28,14 @@ use Rattle.format.proofs.ExactHeader.{same-refl, exact-expect, exact-before, ex
 use Rattle.format.proofs.ExactChunk.{exact-counted, exact-countedUpTo, exact-always, exact-constant, exact-upvalue, exact-anchor, exact-local, exact-forest, exact-function, exact-refuse}
 use Rattle.demands.proofs.Causes.{Which, ordinary, stricter, Cause, unlike, noTag, above, between, upTo, enters, tooLarge, missing, tooMany, causeBy, NoTag, LastNumber, TooLarge, Ends}
 
--- an acceptance is no refusal
-no : {A P : Type 0} {x : A} {to : ℕ} {rest : Bytes} {p : Refusal} → ok x to rest ≡ refused p → P
+-- a refusal is no acceptance, and two that are one have one reason
+pub never : {A P : Type 0} {x : A} {to : ℕ} {rest : Bytes} {p : Refusal} → refused p ≡ ok x to rest → P
+never e = absurd (let z : _≡_ {A = ℕ} 0 1 = cc in omega arith)
+
+pub no : {A P : Type 0} {x : A} {to : ℕ} {rest : Bytes} {p : Refusal} → ok x to rest ≡ refused p → P
 no e = absurd (let z : _≡_ {A = ℕ} 0 1 = cc in omega arith)
 
-was : {A : Type 0} {p p′ : Refusal} → _≡_ {A = Read A} (refused p) (refused p′) → p ≡ p′
+pub was : {A : Type 0} {p p′ : Refusal} → _≡_ {A = Read A} (refused p) (refused p′) → p ≡ p′
 was e = cc
 
 -- ## Behind bytes
@@ -141,7 +144,7 @@ one-byte [] l = absurd (omega arith)
 one-byte (x ∷ []) l = rw add-zero
 one-byte (x ∷ y ∷ value) l = absurd (omega arith)
 
-read-byte : (at : ℕ) (bytes : Bytes) (x : ℕ) → Field 1 at bytes x → bytes ++ [] ≡ x ∷ []
+pub read-byte : (at : ℕ) (bytes : Bytes) (x : ℕ) → Field 1 at bytes x → bytes ++ [] ≡ x ∷ []
 read-byte at bytes x d = by (d .front) (d .back) (d .value) (d .whole) (d .one) (d .two)
   where
     by : (front back value : Bytes) → bytes ≡ front ++ back → Run 1 at front value → (back ≡ []) × (little value ≡ x) → bytes ++ [] ≡ x ∷ []

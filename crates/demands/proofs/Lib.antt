@@ -49,3 +49,15 @@ pub mod StrictInOrder
 pub mod StrictEarly
 pub mod StrictOrder
 pub mod Request07
+pub mod Misnamed
+pub mod Blame
+pub mod StrictBlame
+pub mod ByCalls
+pub mod More
+pub mod Fault
+pub mod StrictFault
+pub mod Blaming
+pub mod Mends
+pub mod StrictMends
+pub mod Misfielded
+pub mod Blamed

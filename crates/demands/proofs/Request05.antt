@@ -36,6 +36,8 @@ use Rattle.chunklist_listing.specs.Listing.{listLimits}
 use Rattle.demands.proofs.Calls.{Refuses, refuses}
 use Rattle.demands.proofs.Refused.{first, ofChunk}
 use Rattle.demands.proofs.RefusedAt.{forPart}
+use Rattle.format_strict.specs.ReadStrict.{strictRead}
+use Rattle.demands.proofs.StrictOrder.{forStrict}
 use Rattle.demands.proofs.Depths.{withNesting, Shallow, never-deeper, shallow-belongs}
 
 -- ## The ceiling
@@ -92,6 +94,14 @@ module _ (L : ResourceLimits) where
 
     pub by-every-call : 14 < L .«max_nesting_depth» → Refuses L chunk LimitAboveCeiling
     by-every-call h = refuses L chunk LimitAboveCeiling (above-refused h)
+
+    -- and by the stricter reading
+    pub strict-above : 14 < L .«max_nesting_depth» → strictRead L chunk ≡ refusal LimitAboveCeiling
+    unfolding strictRead
+    strict-above h = rw (outside h)
+
+pub first-in-strict : (limits : List ℕ) (chunk : Bytes) → 14 < limitsOf limits .«max_nesting_depth» → first (forStrict (limitsOf limits) chunk) ≡ some (bare 21)
+first-in-strict limits chunk h = rw (outside (limitsOf limits) h)
 
 -- limits are an array of nine numbers
 pub first-in-c : (limits : List ℕ) (chunk : Bytes) → 14 < limitsOf limits .«max_nesting_depth» → (later : List (Option Report)) → first (ofChunk (limitsOf limits) chunk later) ≡ some (bare 21)

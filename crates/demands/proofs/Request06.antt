@@ -1,8 +1,9 @@
 -- REQUEST 6 (02, item 6): keep a nested function's own source. Each sentence of it once, about what the calls show and write.
 --     (Demand2.antt)       "A full copy is added beside the archive copy": the promises of `full_copy` and `full_copy_length`; Demand2C.antt: of the two behind C. (Demand1.antt: what they refuse, 26 by the full copy's length,
 --                          `full-copied`, and that lent memory is then as it was, `full-kept`.)
---     absent-exactly       "In it a nested source is absent exactly when its bytes equal the parent's as read, or both are missing": of every function that is read, by its parent's number
---     else-written         "and is written otherwise"
+--     full-sources         "In it a nested source is absent exactly when its bytes equal the parent's as read, or both are missing, and is written otherwise": of the bytes that `full_copy` writes. None of the nested sources that
+--                          they spell is its parent's as read, and with those that they spell every function reads with the source that it had
+--     absent-exactly, else-written     the same of the definition that the copy is made by (`nestedSource`), of every function that is read, by its parent's number
 --     full-is-read         "For full copies the reading keeps every source name": under the premises the full copy is read again, with the same reading but for format byte, warnings and places (`SameInFull`)
 --     equal-full-copies    "and two scripts have equal full copies exactly when their readings agree on those as well", each read under limits of its own
 --                          "The premises on string and input limits stay": of full-is-read; the others have none
@@ -11,7 +12,9 @@
 --     full-of-full         a full copy of the full copy is the full copy
 --     archive-of-full      the archive copy of the full copy is that of the chunk
 --     full-unpadded        none of its numbers is padded (02, item 1)
---     as-lua-dumps-in-full     it is what Lua's own dumper writes, where four things do not part the two (crates/format_lua/proofs/LdumpFull.antt); without this, a copy that writes every source would pass most of the above
+--     none-repeated        none of the nested sources that it spells is its parent's
+--     as-lua-dumps-in-full     it is what Lua's own dumper writes, where four things do not part the two (crates/format_lua/proofs/LdumpFull.antt)
+-- Refused by full-sources: a copy that writes every source (crates/format_spelling/proofs/SpellingCases.antt has such chunks, with a count of 1 and more), one that leaves out a source that differs.
 -- Of what `full_copy` writes (`FullWrites`, Written.antt): full-is-written, full-written-is-read, full-written-again, full-written-once-more, equal-full-written, archive-of-full-written.
 -- Assumes nothing.
 use mathlib.Core.Path.{_≡_, refl, sym, _∙_, ap, subst}
@@ -19,8 +22,10 @@ use mathlib.Core.Logic.{_↔_}
 use mathlib.Core.Bool.{Bool, true, false, cond}
 use mathlib.Core.List.{List, [], _∷_, _++_}
 use mathlib.Core.Option.{Option, none, Option·map}
-use Prim.Native.Nat.{_≤_}
-use lib.ListN.{length}
+use Prim.Native.Nat.{ℕ, _≤_}
+use lib.ListN.{length, take}
+use denote.Ref.{now}
+use contract.Monad.{fact}
 use Rattle.format.specs.declared.limits.ResourceLimits.{ResourceLimits}
 use Rattle.format.specs.Form.{Bytes, All, Below}
 use Rattle.format.specs.GrammarFields.{LuaString}
@@ -31,15 +36,19 @@ use Rattle.format.specs.Copy.{keptString, copy}
 use Rattle.format.specs.FullCopy.{equalSources, nestedSource, fullCopy}
 use Rattle.format.proofs.FullSources as sources
 use Rattle.format.proofs.ReadChunkLaws.{read-sound, read-complete}
-use Rattle.format_spelling.specs.Spelling.{paddedIn}
+use Rattle.format_spelling.specs.Spelling.{spellingOf, paddedIn}
 use Rattle.format_copy.proofs.FullChunk.{full-belongs, full-tidy, full-same, full-below}
 use Rattle.format_copy.proofs.FullChunk as full
 use Rattle.format_lua.specs.LdumpFunctions.{«luaU_dump»}
 use Rattle.format_lua.proofs.LdumpWhole.{sourceOf}
 use Rattle.format_lua.proofs.LdumpFull.{AsLuaInFull, full-as-dumped}
 use Rattle.copy.specs.declared.whole.CopyAnswer.{CopyAnswer}
+use Rattle.copy.specs.declared.whole.CopyAnswer.the-variants as copy-answer
+use Rattle.copy_full.proofs.full_copy as full-copy-call
+use Rattle.demands.proofs.Promise.{Promise}
+use Rattle.demands.proofs.Slices.{bytes-known}
 use Rattle.demands.proofs.Calls.{Shows}
-use Rattle.demands.proofs.Written.{FullCopying, Writes, FullWrites, by-reading, written-is-by, writes-by, written-is-copy}
+use Rattle.demands.proofs.Written.{both, FullCopying, Writes, FullWrites, by-reading, written-is-by, writes-by, written-is-copy}
 use Rattle.demands.proofs.Same.{SameOption, to-option, from-option}
 use Rattle.demands.proofs.SameInFull.{SameInFull, same-in-full}
 use Rattle.demands.proofs.Inherits.{Inherited, Nested, all-inherit, missing-above}
@@ -97,6 +106,10 @@ full-is-read L chunk b below string input =
 pub full-unpadded : (L : ResourceLimits) (chunk : Bytes) (b : Belongs L chunk) → Below 256 chunk → 1 ≤ L .«max_string_bytes» → (again : Belongs L (fullCopy (b .reading))) → paddedIn (again .is) ≡ 0
 full-unpadded L chunk b below string again = full-tidy L chunk (b .reading) (b .is) below string (again .reading) (again .is) .0
 
+-- and of its nested sources none is spelt that is its parent's as read: with `full-is-read`, which has every other back, 02's sentence of the bytes themselves
+pub none-repeated : (L : ResourceLimits) (chunk : Bytes) (b : Belongs L chunk) → Below 256 chunk → 1 ≤ L .«max_string_bytes» → (again : Belongs L (fullCopy (b .reading))) → spellingOf (again .is) .repeated ≡ 0
+none-repeated L chunk b below string again = full-tidy L chunk (b .reading) (b .is) below string (again .reading) (again .is) .2
+
 -- under whatever limits it is read
 pub full-of-full : (L M : ResourceLimits) (chunk : Bytes) (b : Belongs L chunk) → Below 256 chunk → (again : Belongs M (fullCopy (b .reading))) → fullCopy (again .reading) ≡ fullCopy (b .reading)
 full-of-full L M chunk b below again = full-same L M chunk (b .reading) (again .reading) (b .is) below (again .is)
@@ -127,6 +140,29 @@ pub full-written-is-read : (L : ResourceLimits) (chunk old written : Bytes) (b :
 full-written-is-read L chunk old written b w string input =
     let is = full-written L chunk old written b w in
     rw is (full-is-read L chunk b (w .call .below) string (rw (← is) input))
+
+-- the same, and none of the nested sources that the bytes spell is its parent's as read
+pub record WrittenInFull (L : ResourceLimits) (r : Reading) (bytes : Bytes) : Type 0 where
+  pub belongs : Belongs L bytes
+  pub same : SameInFull (belongs .reading) r
+  pub unrepeated : spellingOf (belongs .is) .repeated ≡ 0
+
+written-in-full : (L : ResourceLimits) (chunk old written : Bytes) (b : Belongs L chunk) → FullWrites L chunk old written → 1 ≤ L .«max_string_bytes» → length written ≤ L .«max_input_bytes» → WrittenInFull L (b .reading) written
+written-in-full L chunk old written b w string input =
+    let is = full-written L chunk old written b w in
+    let again = full-is-read L chunk b (w .call .below) string (rw (← is) input) in
+    let whole : WrittenInFull L (b .reading) (fullCopy (b .reading)) = record { belongs = again .belongs; same = again .same; unrepeated = none-repeated L chunk b (w .call .below) string (again .belongs) } in
+    rw is whole
+
+pub full-sources : Promise full-copy-call.ended full-copy-call.Symbol.routine (λ _ chunk limits out out′ r.
+    ((b : Belongs limits (now chunk)) (n : ℕ) → r ≡ copy-answer.Ok n → 1 ≤ limits .«max_string_bytes» → length (take n (now out′)) ≤ limits .«max_input_bytes» → WrittenInFull limits (b .reading) (take n (now out′)))
+    ∷ [])
+full-sources M 𝓤 H 𝓜 𝓖 𝓡 =
+    bytes-known 𝓤 H 𝓜 𝓖 𝓡 full-copy-call.Symbol.routine 1 [] _ _ (full-copy-call.ended .kept) (full-copy-call.clauses 𝓤 H (𝓖 .A) (𝓜 .mem) (𝓡 .run))
+    (λ κs a _ r end. fact 𝓤 ((b : Belongs (a .1 .0) (a .0 .now)) (n : ℕ) → r ≡ copy-answer.Ok n → 1 ≤ a .1 .0 .«max_string_bytes» → length (take n (end .1 .1 .0 .now)) ≤ a .1 .0 .«max_input_bytes» → WrittenInFull (a .1 .0) (b .reading) (take n (end .1 .1 .0 .now))))
+    (λ κs a _ r end below. both 𝓤 _ _ _ (λ answers leaves b n e string input.
+    written-in-full (a .1 .0) (a .0 .now) (a .1 .1 .0 .now) (take n (end .1 .1 .0 .now)) b (record { len = n; new = end .1 .1 .0 .now; call = record { below = below; answers = sym e ∙ answers; leaves = leaves }; bytes = refl }) string input))
+    (full-copy-call.Met.met 𝓤 H 𝓜 𝓖 𝓡)
 
 -- bytes that are the full copy have themselves for their full copy, and for their archive copy that of the chunk
 module _ (L M : ResourceLimits) (chunk old written : Bytes) (w : FullWrites L chunk old written) (again : Belongs M written) where

@@ -5,7 +5,8 @@
 --     only-besides         "is stricter": a chunk that is read, and not strictly, is refused by 31 to 33; strict-agrees (crates/format_strict/proofs/StrictAgrees.antt): else both refuse alike
 --     strict-exactly, call-exactly     "the chunks accepted are exactly those that belong under the limits to the stricter grammar, which is stated by itself" (crates/format_strict/specs/GrammarStrict.antt: no reader in it)
 --     strict-as-lua        "It limits every number that lundump.c reads as an int, which is all but string sizes": exactly what Lua's own loader takes, where it is within the limits (`LoadedWithin`, crates/format_lua/specs/LundumpWithin.antt)
---     checks, call-checks, lafzimdo-strict-summary     "Checks: 31 .. 32 .. 33 ..": number and place of the refusal are those of the first of 21, 22 and what the reader refuses; of the call; behind C
+--     checks, call-checks, lafzimdo-strict-summary     "Checks: 31 .. 32 .. 33 ..": number and place of the refusal are those of the first of 21, 22 and what the reader refuses; of the call; behind C. strict-coded: and
+--                                  what C gets has both
 -- And of these checks, in StrictOrder.antt:
 --     strict-decided-early, strict-in-byte-order   1 to 20 and 31 to 33 come in byte order, each for its cause
 --     thirty-one, format-first     "31, a format byte other than 0, right after that byte"
@@ -43,11 +44,11 @@ use Rattle.format_lua.proofs.StrictLoaded.{strict-as-loaded}
 use Rattle.show_chunk.specs.declared.summary.ChunkSummary.{ChunkSummary}
 use Rattle.show_chunk.specs.declared.summary.SummaryAnswer.the-variants as summary-answer
 use Rattle.show_chunk.specs.Summaries.{shownSummary}
-use Rattle.c_boundary.specs.Status.{limitsOf}
+use Rattle.c_boundary.specs.Status.{limitsOf, coded}
 use Rattle.lafzimdo.specs.Answers.{ofSummary}
 use Rattle.demands.proofs.Refused.{first, inSummary}
-use Rattle.demands.proofs.ByC.{InC, law, of-summary}
-use Rattle.demands.proofs.StrictOrder.{strict-decided-early, forStrict, strict-order}
+use Rattle.demands.proofs.ByC.{InC, law, of-summary, inOne, coded-inside}
+use Rattle.demands.proofs.StrictOrder.{strict-decided-early, strict-places, forStrict, strict-order}
 use Rattle.demands.proofs.Calls.{Shows, shows}
 
 module _ (L : ResourceLimits) (s : Bytes) where
@@ -127,3 +128,6 @@ module _ (L : ResourceLimits) (s : Bytes) where
 -- and behind C: the status says the same, and where it is a refusal the lent array is as it was
 pub lafzimdo-strict-summary : (limits : List ℕ) (s : Bytes) → InC (ofSummary (shownSummary (spelling (limitsOf limits) s) (strictRead (limitsOf limits) s))) (forStrict (limitsOf limits) s)
 lafzimdo-strict-summary limits s = law _ _ (of-summary (shownSummary (spelling (limitsOf limits) s) (strictRead (limitsOf limits) s)) ∙ call-checks (limitsOf limits) s)
+
+pub strict-coded : (L : ResourceLimits) (s : Bytes) (q : Refusal) → strictRead L s ≡ refusal q → coded q ≡ inOne (reported q .number) (reported q .place)
+strict-coded L s q e = coded-inside q (strict-places L s q e .1)

@@ -68,7 +68,7 @@ strict-continues L = record { on = λ at s. (let more = continues L .on at s in 
 
 -- neither 21 nor 22
 module _ (L : ResourceLimits) (within : withinCeilings L ≡ true) where
-  by-strictMain : (s : Bytes) → length s ≤ L .«max_input_bytes» → strictRead L s ≡ outcome L (strictMain L 0 s)
+  pub by-strictMain : (s : Bytes) → length s ≤ L .«max_input_bytes» → strictRead L s ≡ outcome L (strictMain L 0 s)
   unfolding strictRead
   by-strictMain s short = rw (within, le-leb (length s) (L .«max_input_bytes») short)
 

@@ -55,7 +55,7 @@ abbrev pub FullCopying : ResourceLimits → Bytes → Bytes → CopyAnswer → B
 FullCopying = CopyingBy fullCopy
 
 -- two facts that hold of a piece of memory, as one
-both : {M : Type 1} (𝓤 : URA M) (φ ψ χ : Type 0) → (φ → ψ → χ) → ent 𝓤 (sep 𝓤 (fact 𝓤 φ) (fact 𝓤 ψ)) (fact 𝓤 χ)
+pub both : {M : Type 1} (𝓤 : URA M) (φ ψ χ : Type 0) → (φ → ψ → χ) → ent 𝓤 (sep 𝓤 (fact 𝓤 φ) (fact 𝓤 ψ)) (fact 𝓤 χ)
 both 𝓤 φ ψ χ k =
     fact-use 𝓤 φ (fst∗ 𝓤 (fact 𝓤 φ) (fact 𝓤 ψ)) (λ f.
     fact-use 𝓤 ψ (snd∗ 𝓤 (fact 𝓤 φ) (fact 𝓤 ψ)) (λ g. factI 𝓤 χ (sep 𝓤 (fact 𝓤 φ) (fact 𝓤 ψ)) (k f g)))

@@ -123,6 +123,12 @@ cases =
     ∷ record { under = wide; input = main ++ 0x80 ∷ 0x81 ∷ 6 ∷ []; result = some (placed 12 40) }
     ∷ record { under = wide; input = main ++ 0x80 ∷ 0x81 ∷ 18 ∷ []; result = some (placed 12 40) }
     ∷ record { under = wide; input = main ++ 0x80 ∷ 0x81 ∷ 21 ∷ []; result = some (placed 12 40) }
+    -- 12 for tags that are 4 and 20 but for their top bit, though as sizes they would be above the limit of strings
+    ∷ record { under = limits 9 9 9 9 0 9; input = main ++ 0x80 ∷ 0x81 ∷ 0x84 ∷ []; result = some (placed 12 40) }
+    ∷ record { under = limits 9 9 9 9 0 9; input = main ++ 0x80 ∷ 0x81 ∷ 0x94 ∷ []; result = some (placed 12 40) }
+    -- 12 and not 3 behind bytes that would be too large a number and are none: an integer, the content of a string
+    ∷ record { under = wide; input = main ++ 0x80 ∷ 0x82 ∷ 3 ∷ replicate 8 0x7f ++ 0xff ∷ []; result = some (placed 12 49) }
+    ∷ record { under = wide; input = main ++ 0x80 ∷ 0x82 ∷ 4 ∷ 0x8a ∷ replicate 9 0x7f ++ 0xff ∷ []; result = some (placed 12 51) }
     -- a number that is too large is found at its next byte, whatever that is; without it the file is cut short; one less is no overflow there
     ∷ record { under = wide; input = main ++ large ++ 0x80 ∷ []; result = some (bare 3) }
     ∷ record { under = wide; input = main ++ large ++ 0 ∷ []; result = some (bare 3) }

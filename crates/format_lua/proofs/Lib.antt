@@ -8,7 +8,6 @@ pub mod LundumpParts
 pub mod LundumpChunk
 pub mod LundumpRead
 pub mod StrictLoaded
-pub mod LundumpBack
 pub mod LuaChunks
 pub mod LundumpCase
 pub mod LdumpCase

@@ -21,7 +21,6 @@ use Rattle.format_lua.specs.LundumpFunctions.{LoadFunction, Undump}
 use Rattle.format_lua.specs.LundumpWithin.{FunctionsWithin}
 use Rattle.format.specs.ReadChunk.{shown, read}
 use Rattle.format_lua.proofs.LundumpChunk.{loaded-is-read}
-use Rattle.format_lua.proofs.LundumpBack.{Loadable}
 use Rattle.format_lua.proofs.LundumpRead.{take-function, loads, loads-exactly, never-loads}
 use Rattle.format_lua.proofs.LuaChunks.{header, small, full, small-function, full-functions, loaded}
 
@@ -39,10 +38,6 @@ within-limits = record { each = (omega arith, (omega arith, (omega arith, (omega
 
 pub full-read : read ceilings full ≡ shown (reading ceilings (loaded full-functions) 208 [])
 full-read = loaded-is-read ceilings 3 full [] (loaded full-functions) full-loaded within-limits refl (omega arith)
-
--- each string constant of `full` has bytes, and each int is small: `proofs/LundumpBack.antt` speaks of it too
-pub full-loadable : All Loadable full-functions
-full-loadable = (omega arith, (omega arith, (omega arith, (omega arith, tt))))
 
 -- ## Not loaded
 -- 2^31 - 128, and one less

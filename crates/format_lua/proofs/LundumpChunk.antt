@@ -3,7 +3,7 @@
 --     loaded-belongs               Lua loads m from the front of a chunk: the chunk belongs under the limits to our grammar, and its reading is what is loaded
 --     loaded-is-read               and so it is read
 -- The first argument of `Undump` bounds how deep functions nest, and is free here: C has no such bound.
--- The converse: `proofs/StrictLoaded.antt`. Of the ordinary grammar it fails where 01 says so, and elsewhere holds: `proofs/LundumpBack.antt`.
+-- The converse: `proofs/StrictLoaded.antt`. Of the ordinary grammar it fails where 01 says so, and there alone: what the ordinary reading takes and the stricter one does not, it refuses with 31 to 33 (crates/format_strict/proofs/StrictAgrees.antt).
 -- Assumes nothing.
 use mathlib.Core.Path.{_≡_, refl}
 use mathlib.Core.Bool.{true}

@@ -3,12 +3,10 @@
 -- A part's test stands before the rest, and the condition is on what the whole spells. So the law of the rest says (R) what was learnt of the parts before it:
 -- in `tested one λ x. rest`, `rest` shows that x is within what `one` asks, and `ends` gathers all that was asked.
 -- Assumes nothing.
-use mathlib.Core.Path.{_≡_, refl, _∙_, ap}
+use mathlib.Core.Path.{refl}
 use mathlib.Core.Bool.{Bool, true, false}
-use mathlib.Core.List.{_++_}
 use Prim.Native.Nat.{ℕ, zero, suc}
-use native.Mathlib.Nat.{add-zero}
-use Rattle.format.specs.Form.{Bytes, All, Form, Then, Is, Here, Given, Nothing, When, Many}
+use Rattle.format.specs.Form.{Bytes, All, Form, Then, Is, Given, Nothing, When, Many}
 use Rattle.format.proofs.Build.{skip}
 use Rattle.format.proofs.Every.{Every, Any, any}
 use Rattle.format.proofs.Wider.{Wider, opened, known}
@@ -88,14 +86,6 @@ module _ {A : Type 0} {P : A → Type 0} {R : Type 0} {F G : Form A} where
   pub by-test : {F′ G′ : Form A} (t : Bool) → WiderIf P R F F′ → WiderIf P R G G′ → WiderIf P R (When t F G) (When t F′ G′)
   by-test true one two = one
   by-test false one two = two
-
--- the first form notes the place, and the other does not
-pub unplaced : {A : Type 0} {P : A → Type 0} {R : Type 0} {F : ℕ → Form A} {G : Form A} → ((place : ℕ) → WiderIf P R (F place) G) → WiderIf P R (Then Here F) G
-unplaced rest = record {
-  widens = λ at b x p d.
-      let all : b ≡ d .back = d .whole ∙ ap (λ c. c ++ d .back) (d .one .0) in
-      rest (d .value) .widens at b x p (rw all (rw (d .one .0, add-zero) at (d .two)));
-}
 
 -- each of many
 pub many-if : {A : Type 0} {P : A → Type 0} {F G : Form A} (n : ℕ) → WiderIf P (Unit {0}) F G → WiderIf (All P) (Unit {0}) (Many n F) (Many n G)

@@ -52,11 +52,11 @@ abbrev pub wanted : Case → Seen × Seen
 wanted (case L s ordinary strict) = (ordinary, strict)
 
 -- ## Limits
--- nested deeper than its ceiling; 45 bytes of input; strings of 1 byte
+-- a nesting limit of 15, one above its ceiling; 45 bytes of input; strings of 1 byte
 abbrev pub deep : ResourceLimits
 deep = record {
   «max_input_bytes» = 16777216;
-  «max_nesting_depth» = 201;
+  «max_nesting_depth» = 15;
   «max_total_prototypes» = 16777216;
   «max_instructions_per_proto» = 16777216;
   «max_total_instructions» = 16777216;
@@ -137,7 +137,7 @@ header =
     ∷ case ceilings (signature ++ 0x54 ∷ []) (refuses (Truncated 5)) (refuses (Truncated 5))
     -- version 53, format 1
     ∷ case ceilings (signature ++ 0x53 ∷ 0x01 ∷ luacData ++ behind ++ 0x00 ∷ 0x80 ∷ 0x80 ∷ 0x80 ∷ 0x00 ∷ 0x00 ∷ 0x02 ∷ replicate 8 0x80) (refuses (Version 4)) (refuses (Version 4))
-    -- format 1, nesting limit 201
+    -- format 1, nesting limit 15
     ∷ case deep (formatted 1 ++ 0x00 ∷ 0x80 ∷ 0x80 ∷ 0x80 ∷ 0x00 ∷ 0x00 ∷ 0x02 ∷ replicate 8 0x80) (refuses LimitAboveCeiling) (refuses LimitAboveCeiling)
     -- format 1, input limit 45
     ∷ case shorter (formatted 1 ++ 0x00 ∷ 0x80 ∷ 0x80 ∷ 0x80 ∷ 0x00 ∷ 0x00 ∷ 0x02 ∷ replicate 8 0x80) (refuses InputBytes) (refuses InputBytes)

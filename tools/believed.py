@@ -1,18 +1,18 @@
 #!/usr/bin/env python3
 """What must be believed: the definition lines that the promises reach.
 
-    python3 docs/believed.py             lines by demand, and in all
-    python3 docs/believed.py files       the same, file by file
-    python3 docs/believed.py table       the table of docs/PROOF.md: the files in reading order, with their lines
-    python3 docs/believed.py check       is that table in docs/PROOF.md, does every theorem stand where PROOF.md says, has crate lua54 every call that
-                                         is promised, and is README's program the one that is proved? Exit status 1 if not
-    python3 docs/believed.py write       puts the counts and that table into docs/PROOF.md
-    python3 docs/believed.py unreached   definitions in specs/ that no promise reaches (inner contracts use them)
+    python3 tools/believed.py             lines by demand, and in all
+    python3 tools/believed.py files       the same, file by file
+    python3 tools/believed.py table       the table of docs/PROOF.md: the files in reading order, with their lines
+    python3 tools/believed.py check       is that table in docs/PROOF.md, does every theorem stand where PROOF.md says, has crate lua54 every call that
+                                          is promised, and is every function that it hands on promised? Exit status 1 if not
+    python3 tools/believed.py write       puts the counts and that table into docs/PROOF.md
+    python3 tools/believed.py unreached   definitions in specs/ that no promise reaches (inner contracts use them)
 
 A promise is a public theorem of the files in PROMISES: its statement counts, not its proof. From the names in a
 statement the script goes on through the definitions (abbrev, unfoldable, record, data; in specs/ whatever stands
 there) of crates/*/specs and crates/*/proofs. A line is counted once, without comments and blank lines. What the
-kit defines (numbers, lists, the program logic) and the types that crates/*/src declare are not counted.
+kit defines (numbers, lists, the program logic) is not counted; the types that crates/*/src declare are counted apart.
 """
 import collections
 import glob
@@ -23,18 +23,20 @@ import sys
 ROOT = os.path.join(os.path.dirname(os.path.abspath(__file__)), '..')
 # demand -> its promises: the public theorems of crates/CRATE/proofs/FILE.antt, or those that are named behind a colon
 PROMISES = {
-    'demand 1': ['demands/Demand1', 'demands/Order', 'demands/AtOneByte', 'demands/CutShort', 'demands/Continued', 'demands/ByLimits', 'demands/Exactly', 'demands/Accepted',
+    'demand 1': ['demands/Demand1', 'demands/Order', 'demands/AtOneByte', 'demands/CutShort', 'demands/Continued:continues endless-lacks not-endless', 'demands/ByLimits:by-the-limits by-the-file not-vague',
+                 'demands/Blame:blames', 'demands/Fault:limits-only', 'demands/Mends:mends', 'demands/Blamed:read-named', 'demands/Exactly', 'demands/Accepted',
                  'demands/ByC', 'demands/RefusedAt', 'demands/PartsInOrder', 'demands/Printed', 'format/RefusalNumbers', 'c_boundary/Numbers'],
-    'demand 2': ['demands/Demand2', 'demands/Demand2C', 'demands/Promise', 'format_lua/LundumpBack:as-loaded read-is-loaded', 'format_lua/LdumpWhole:copy-as-dumped copy-as-stripped',
+    'demand 2': ['demands/Demand2', 'demands/More', 'demands/Demand2C', 'demands/Promise', 'demands/Request07:strict-as-lua strict-then-read only-besides', 'format_lua/LdumpWhole:copy-as-dumped copy-as-stripped',
                  'word_fields/Macros', 'word_fields/Created', 'word_opcodes/Opcodes', 'line_lookup/Ldebug:same-line'],
     'demand 3': ['demands/Demand3', 'demands/ShownAt:shown-at', 'demands/Same:header-fixed same-exactly', 'demands/Complete'],
+    'demand 3 by the calls': ['demands/ByCalls'],
     'request 1': ['demands/Request01'],
     'request 2': ['demands/Request02', 'demands/AfterCounts'],
     'request 3': ['demands/Request03'],
     'request 4': ['demands/Request04'],
     'request 5': ['demands/Request05'],
     'request 6': ['demands/Request06', 'demands/SameInFull:same-in-full', 'format_lua/LdumpFull:full-as-dumped short-object no-object one-object'],
-    'request 7': ['demands/Request07', 'demands/StrictOrder', 'format_strict/StrictAgrees:strict-agrees besides', 'format_lua/StrictLoaded:strict-as-loaded'],
+    'request 7': ['demands/Request07', 'demands/StrictOrder', 'demands/StrictBlame:strict-blames', 'demands/StrictFault:strict-limits-only', 'demands/StrictMends:strict-mends', 'demands/Blamed:strict-named', 'format_strict/StrictAgrees:strict-agrees besides', 'format_lua/StrictLoaded:strict-as-loaded'],
 }
 # the table of docs/PROOF.md: what a group of files says, and the files; what is reached and named nowhere here comes last
 GROUPS = [
@@ -50,10 +52,10 @@ GROUPS = [
     ('instruction words; lopcodes.h', 'word_opcodes/specs: Table Lopcodes; word_fields/specs: Word; word_fields/proofs: Ranges Words Macros Created'),
     ('for who links from C: limits, refusals and answers as numbers; parts at a place, with the readers of a function in two parts', 'c_boundary/specs: Status; c_boundary/proofs: Numbers; c_words/specs: Words; c_entries/specs: EntryNumbers; c_numbers/specs: Numbers; c_finding/specs: FindingNumbers; c_findings/specs: FindingNumbers; lafzimdo/specs: Answers Version; c_parts/specs: PartNumbers; c_entries_at/specs: EntryNumbers; read_prototype/specs: Front Parts PartsShown; read_entry/specs: Readers'),
     ('what `chunklist` prints', 'chunklist_listing/specs: Listing; chunklist_lines/specs: Lines; format/specs: Ascii; text_print/specs: Output'),
-    ("Lua's own loader, dumper and line lookup, close to the C", 'format_lua/specs: Lundump LundumpFunctions LundumpWithin Ldump LdumpFunctions; line_lookup/specs: Ldebug; format_lua/proofs: LundumpBack LdumpChunk LdumpWhole LdumpFull'),
-    ("words of demand 1's statements: a call's conditions in order; what a refusal is about", 'demands/proofs: Refused Causes InOrder Early Order AtOneByte CutShort Continued ByLimits Exactly Accepted ByC RefusedAt PartsInOrder Printed Demand1; format/proofs: RefusalNumbers'),
+    ("Lua's own loader, dumper and line lookup, close to the C", 'format_lua/specs: Lundump LundumpFunctions LundumpWithin Ldump LdumpFunctions; line_lookup/specs: Ldebug; format_lua/proofs: LdumpChunk LdumpWhole LdumpFull; line_lookup/proofs: Ldebug Rising'),
+    ("words of demand 1's statements: a call's conditions in order; what a refusal is about", 'demands/proofs: Refused Causes InOrder Early Order AtOneByte CutShort Continued ByLimits Blame Fault Mends Blamed Exactly Accepted ByC RefusedAt PartsInOrder Printed Demand1; format/proofs: RefusalNumbers'),
     ("words of demand 2's statements: a whole contract", 'demands/proofs: Promise Demand2 Demand2C'),
-    ("words of demand 3's and the requests' statements: what is shown, what is set aside", 'demands/proofs: Request01 Request02 AfterCounts Request03 Request05 Depths Request06 Request07 StrictOrder Demand3 Calls Written Same SameInFull Inherits Alike Together Complete ShownAt SpeltHere EntriesAt Nested; format/proofs: Located OrderCases; read_nth/proofs: Strings; line_batch/proofs: Laws'),
+    ("words of demand 3's and the requests' statements: what is shown, what is set aside", 'demands/proofs: Request01 Request02 AfterCounts Request03 Request05 Depths Request06 Request07 StrictOrder Demand3 ByCalls Calls Written Same SameInFull Inherits Alike Together Complete ShownAt SpeltHere EntriesAt Nested; format/proofs: Located OrderCases; read_nth/proofs: Strings; line_batch/proofs: Laws'),
 ]
 WORD = re.compile(r'[^\s(){};,\[\]]+')
 HEAD = re.compile(r'^( *)(abbrev |unfoldable )?(pub )?(record |data )?(\S+)')
@@ -87,10 +89,24 @@ class File:
 
     def blocks(self):
         i, n = 0, len(self.lines)
+        around = []  # the modules around a line, each with its indentation and the words of its telescope, which belong to what is stated in it
         while i < n:
             line = self.lines[i]
             s = line.strip()
             m = HEAD.match(line)
+            if s and not s.startswith('--'):
+                depth = len(line) - len(line.lstrip())
+                around = [a for a in around if a[0] < depth]
+                if re.match(r'module\b', s):
+                    words = set()
+                    while True:
+                        words.update(WORD.findall(re.sub(r'(^|\s)--.*', '', self.lines[i])))
+                        if self.lines[i].rstrip().endswith('where') or i + 1 == n:
+                            break
+                        i += 1
+                    around.append((depth, words))
+                    i += 1
+                    continue
             if not s or s.startswith('--') or not m or re.match(r'^ *(pub )?(use|mod|module|infix\w*|unfolding|where)\b', line):
                 i += 1
                 continue
@@ -121,6 +137,8 @@ class File:
             for j in lines:
                 text = re.sub(r'(^|\s)--.*', '', self.lines[j])
                 words.update(WORD.findall(text))
+            for depth, telescope in around:
+                words |= telescope
             if 'do' in words:
                 words.update(('_>>=_', '_>>_'))
             self.items.setdefault(name, (lines, words, whole))
@@ -166,6 +184,25 @@ def reached(roots):
                 if r:
                     todo.append(r)
     return seen
+
+
+def types_of(seen):
+    """The lines of the types of crates/*/src that these name."""
+    named, lines = set(), 0
+    for key, name in seen:
+        f = FILES[key]
+        for w in f.items[name][1]:
+            for v in {w, w.split('.')[0]}:
+                m = re.match(r'Rattle·(\w+?)(?:·(?:specs|proofs))?\.specs\.declared\.([\w.]*?)(\w+)(?:\.the-variants)?$', f.names.get(v) or f.aliases.get(v) or '')
+                if m:
+                    named.add((m.group(1), m.group(2).rstrip('.').replace('.', '/') or 'lib', m.group(3)))
+    for crate, module, name in named:
+        text = open(os.path.join(ROOT, 'crates', crate, 'src', module + '.rt'), encoding='utf-8').read()
+        body = re.search(r'^(?:pub )?(?:struct|enum) ' + name + r'\b[^{;]*(?:\{.*?^\}|;|\{[^\n]*\}$)', text, re.M | re.S)
+        if not body:
+            sys.exit(f'no type {name} in crates/{crate}/src/{module}.rt')
+        lines += sum(1 for line in body.group().split('\n') if line.strip() and not line.strip().startswith('//'))
+    return len(named), lines
 
 
 def lines_of(seen):
@@ -220,12 +257,12 @@ def cited(text):
         if not line.startswith('|'):
             continue
         folder, f = 'demands/proofs', None
-        for m in re.finditer(r'(crates/(\w+)/proofs/)?(\w+)\.antt|\|(?=[^|]*Demand3)|`([^`]+)`', line):
+        for m in re.finditer(r'(crates/(\w+/(?:proofs|specs))/)?(\w+)\.antt|\|(?=[^|]*Demand3)|`([^`]+)`', line):
             if m.group(3):
                 if m.group(1):
-                    folder = m.group(2) + '/proofs'
+                    folder = m.group(2)
                 crate, kind = folder.split('/')
-                f = FILES.get((crate, kind, m.group(3))) or FILES.get(('demands', kind, m.group(3)))
+                f = FILES.get((crate, kind, m.group(3))) or FILES.get(('demands', 'proofs', m.group(3)))
                 if not f:
                     bad.append(f'no file {m.group(3)}.antt in crates/{folder}')
             elif m.group(4) and f and re.fullmatch(r'[a-z0-9]+(-[a-z0-9]+)+', m.group(4)) and m.group(4) not in f.items:
@@ -234,7 +271,7 @@ def cited(text):
 
 
 def facade():
-    """What crate lua54 or README leaves out: a call of Demand2.antt (but for the inner part of a program), the program of crates/lua54_example."""
+    """Calls of Demand2.antt (but for the inner part of a program) that crate lua54 lacks, and functions that it hands on and no promise speaks of."""
     names = open(os.path.join(ROOT, 'crates/lua54/src/lib.rt'), encoding='utf-8').read()
     text = '\n'.join(FILES[('demands', 'proofs', 'Demand2')].lines)
     bad = []
@@ -242,9 +279,10 @@ def facade():
         path = m.group(1) + '::' + m.group(2).replace('.', '::')
         if f': PromiseWhere {m.group(3)}-call' not in text and f'pub use {path};' not in names and f'pub use {path.rpartition("::")[0]};' not in names:
             bad.append(f'crates/lua54 has no {path}')
-    program = open(os.path.join(ROOT, 'crates/lua54_example/src/main.rt'), encoding='utf-8').read()
-    if program not in open(os.path.join(ROOT, 'README.md'), encoding='utf-8').read():
-        bad.append('README.md does not show crates/lua54_example/src/main.rt as it stands')
+    promised = {name for f in FILES.values() if f.key[:2] == ('demands', 'proofs') for name in re.findall(r'^use Rattle·(\w+\.proofs\.[\w.]+) as \S+-call$', '\n'.join(f.lines), re.M)}
+    for crate, path in re.findall(r'^pub use (\w+)::([\w:]+);$', names, re.M):
+        if path.rpartition('::')[2][0].islower() and f'{crate}.proofs.{path.replace("::", ".")}' not in promised:
+            bad.append(f'no promise of {crate}::{path}, which crate lua54 hands on')
     return bad
 
 
@@ -259,6 +297,7 @@ def main(words):
         counts.append(f'{demand}: {len(roots)} promises reach {len(by[demand])} lines of definitions')
         every |= by[demand]
     counts.append(f'in all: {len(every)} lines')
+    counts.append('types that crates/*/src declare and these name: %d, of %d lines' % types_of(reached(all_roots)))
     word = words[0] if words else ''
     if word == 'table':
         print(table(every))
@@ -267,14 +306,14 @@ def main(words):
         path = os.path.join(ROOT, 'docs/PROOF.md')
         text = open(path, encoding='utf-8').read()
         for c in counts:
-            text = re.sub(r'(?m)^(   - )' + c.split(':')[0] + ': .*$', lambda m: m.group(1) + c, text)
+            text = re.sub(r'(?m)^(   - )' + re.escape(c.split(':')[0]) + ': .*$', lambda m: m.group(1) + c, text)
         text = re.sub(r'(?s)\| says \| lines \|.*?\| \*\*in all\*\* \| [^\n]*', lambda m: table(every), text)
         open(path, 'w', encoding='utf-8').write(text)
         return
     if word == 'check':
         text = open(os.path.join(ROOT, 'docs/PROOF.md'), encoding='utf-8').read()
         bad = cited(text) + facade() + [c for c in counts + [table(every)] if c not in text]
-        print('\n'.join(bad) if bad else 'docs/PROOF.md is true of the sources; crate lua54 has every call, and README its program')
+        print('\n'.join(bad) if bad else 'docs/PROOF.md is true of the sources; crate lua54 has every call, and each has its promise')
         sys.exit(1 if bad else 0)
     print('\n'.join(counts))
     if word == 'files':
