@@ -11,6 +11,9 @@ use Rattle.validate_rules.proofs.Glances.{at-a-glance}
 use Rattle.validate_rules.proofs.glance.fine_at_a_glance.Statement.{statement}
 use Rattle.validate_rules.proofs.glance.fine_at_a_glance.Tie as tie
 
+no-opcode : tie.Need-returns
+no-opcode c function b pc of-a of-mask of-limit e = absurd (true≢false (sym e))
+
 passed : tie.Need-returns-2
 passed c =
     let k = c .before .before .before .before in
@@ -27,7 +30,7 @@ fine-at-a-glance-spec =
     (λ c κs. search needs)
     (λ c. search needs)
     (λ c. search needs)
-    (λ c function b pc of-a of-mask of-limit e. absurd (true≢false (sym e)))
+    no-opcode
     (λ c κs. search needs)
     (λ c. search needs)
     (λ c. search needs)
