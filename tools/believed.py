@@ -27,7 +27,7 @@ PROMISES = {
                  'demands/Blame:blames', 'demands/Fault:limits-only', 'demands/Mends:mends', 'demands/Blamed:read-named', 'demands/Exactly', 'demands/Accepted',
                  'demands/ByC', 'demands/RefusedAt', 'demands/PartsInOrder', 'demands/Printed', 'format/RefusalNumbers', 'c_boundary/Numbers'],
     'demand 2': ['demands/Demand2', 'demands/More', 'demands/Demand2C', 'demands/Promise', 'demands/Request07:strict-as-lua strict-then-read only-besides', 'format_lua/LdumpWhole:copy-as-dumped copy-as-stripped',
-                 'word_fields/Macros', 'word_fields/Created', 'word_opcodes/Opcodes', 'line_lookup/Ldebug:same-line'],
+                 'word_fields/Macros', 'word_fields/Created', 'word_fields/RoundTrip:same-word', 'word_opcodes/Opcodes', 'line_lookup/Ldebug:same-line'],
     'demand 3': ['demands/Demand3', 'demands/ShownAt:shown-at', 'demands/Same:header-fixed same-exactly', 'demands/Complete'],
     'demand 3 by the calls': ['demands/ByCalls'],
     'request 1': ['demands/Request01'],
@@ -270,6 +270,14 @@ def cited(text):
     return bad
 
 
+def methods(crate, path):
+    """The public methods of a type of crates/CRATE/src."""
+    module, _, name = path.rpartition('::')
+    text = open(os.path.join(ROOT, 'crates', crate, 'src', (module.replace('::', '/') or 'lib') + '.rt'), encoding='utf-8').read()
+    found = re.findall(r'^impl ' + name + r' \{(.*?)^\}', text, re.M | re.S)
+    return [f'{path}::{m}' for body in found for m in re.findall(r'^    pub fn (\w+)', body, re.M)]
+
+
 def facade():
     """Calls of Demand2.antt (but for the inner part of a program) that crate lua54 lacks, and functions that it hands on and no promise speaks of."""
     names = open(os.path.join(ROOT, 'crates/lua54/src/lib.rt'), encoding='utf-8').read()
@@ -279,10 +287,15 @@ def facade():
         path = m.group(1) + '::' + m.group(2).replace('.', '::')
         if f': PromiseWhere {m.group(3)}-call' not in text and f'pub use {path};' not in names and f'pub use {path.rpartition("::")[0]};' not in names:
             bad.append(f'crates/lua54 has no {path}')
-    promised = {name for f in FILES.values() if f.key[:2] == ('demands', 'proofs') for name in re.findall(r'^use Rattle·(\w+\.proofs\.[\w.]+) as \S+-call$', '\n'.join(f.lines), re.M)}
+    promised = set()
+    for f in FILES.values():
+        if f.key[:2] == ('demands', 'proofs'):
+            text = '\n'.join(f.lines)
+            promised |= {name for name, call in re.findall(r'^use Rattle·(\w+\.proofs\.[\w.]+) as (\S+-call)$', text, re.M) if re.search(r': Promise(Where)? ' + re.escape(call) + r'\.ended ', text)}
     for crate, path in re.findall(r'^pub use (\w+)::([\w:]+);$', names, re.M):
-        if path.rpartition('::')[2][0].islower() and f'{crate}.proofs.{path.replace("::", ".")}' not in promised:
-            bad.append(f'no promise of {crate}::{path}, which crate lua54 hands on')
+        for name in [path] if path.rpartition('::')[2][0].islower() else methods(crate, path):
+            if f'{crate}.proofs.{name.replace("::", ".")}' not in promised:
+                bad.append(f'no promise of {crate}::{name}, which crate lua54 hands on')
     return bad
 
 
@@ -312,7 +325,8 @@ def main(words):
         return
     if word == 'check':
         text = open(os.path.join(ROOT, 'docs/PROOF.md'), encoding='utf-8').read()
-        bad = cited(text) + facade() + [c for c in counts + [table(every)] if c not in text]
+        hour = f"They reach {len(by['demand 3 by the calls'])} lines of definitions"
+        bad = cited(text) + facade() + [c for c in counts + [table(every), hour] if c not in text.replace('\n', ' ') and c not in text]
         print('\n'.join(bad) if bad else 'docs/PROOF.md is true of the sources; crate lua54 has every call, and each has its promise')
         sys.exit(1 if bad else 0)
     print('\n'.join(counts))

@@ -5,11 +5,13 @@
 --     Named reads      the three laws of a reading that is begun with limits and bytes:
 --         stays        under limits that are as high it refuses alike, as long as the limit that the number names, if
 --                      it names one (13 to 20), is the same
---         cured        what is refused with 13 to 20 has a front that is refused so already, and that under any
---                      limits as high is mild
---         mended       what is refused with 3 to 12 (31 to 33) is refused for the bytes that begin at its place: with
+--         cured        what is refused with 13 to 20 has, for any limits as high, a front that is refused so already
+--                      and that under these is mild
+--         mended       what is refused with 4 to 12 (31 to 33) is refused for the bytes that begin at its place: with
 --                      the right ones there (Mends.antt, `right`) the file up to their end is mild
 --     read-named, strict-named     both readings are so
+-- Limits are here within their ceilings; the laws of the readers have no ceilings, and so say more of counts that are
+-- above these. What all of them leave open is told in docs/PROOF.md, 'Outside the proof'.
 -- Assumes nothing.
 use mathlib.Core.Path.{_≡_, refl, sym, _∙_, ap, subst}
 use mathlib.Core.Bool.{true}

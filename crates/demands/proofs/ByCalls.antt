@@ -6,7 +6,7 @@
 --     summary-shown ..     "what is shown is its reading by that grammar": the summary, a function's fields, each
 --                          entry of it, the trailing bytes; and where there is nothing to show, the refusal: 23, 24,
 --                          26 with lent memory as it was, and of a script that does not belong always one (which:
---                          demand 1)
+--                          demand 1; `trailing_bytes` has none, and shows no bytes then)
 --     string-shown         a string's bytes, by the place and length that are shown of it
 --     written-read         "Its archive copy is read again with the same reading": what `encode_chunk_lua54` writes
 --                          belongs, with the same reading but for what the demand sets aside

@@ -6,7 +6,7 @@
 --     places           a refusal's place is one of the file, or the file's end
 --     summary ..       the order of a call's refusals
 --     ..-kept          a call that refuses leaves lent memory as it was
--- Order.antt: 1 to 20 come in the order of the bytes, each for its cause (Causes.antt); AtOneByte.antt: at one byte. CutShort.antt: 1 lacks bytes. ByLimits.antt: 1 to 12 are the file's, 13 to 20 the limits'. Blamed.antt: a number names what is to blame.
+-- Order.antt: 1 to 20 come in the order of the bytes, each for its cause (Causes.antt); AtOneByte.antt: at one byte. CutShort.antt: 1 lacks bytes. ByLimits.antt: what some limits read, others refuse by 13 to 20 alone. Blamed.antt: a number names what is to blame.
 -- crates/format/proofs/RefusalNumbers.antt: the numbers. Exactly.antt: 21 and 22. Accepted.antt: where no condition holds, the answer is Ok. ByC.antt, RefusedAt.antt (PartsInOrder.antt): the calls behind C. Printed.antt: what `chunklist` prints.
 -- Assumes nothing.
 use mathlib.Core.Path.{_≡_, refl, sym, _∙_, ap}

@@ -7,7 +7,7 @@
 --        refused-exactly          and exactly where it does not, every call refuses it, all with one refusal, and lent memory stays as it was (`Refuses`, `Calls.antt`)
 --     2  shown-is-the-reading     where it belongs, what every call shows is its part of that reading (`Shows`, `Calls.antt`)
 --        shown-at-places          and so do the calls at a place
---        (`Complete.antt`: `Shows` and `Refuses` leave no call out: where they are the same, every call answers alike)
+--        (`Complete.antt`: `Shows` and `Refuses` leave no call out that goes by the reading: where they are the same, each answers alike)
 --        together                 and the summary, the fields and the entries together show the whole of it, but for parts that are named (`Together.antt`)
 --     3  reading-unique           and it has no other
 --        under-any-limits         nor under other limits, but for the warnings that these drop

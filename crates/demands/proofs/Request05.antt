@@ -2,7 +2,7 @@
 --     ceiling              "The ceiling for nesting becomes 14": of the definitions, and so of `ResourceLimits::ceilings` and `within_ceilings`, whose promises (Demand2.antt) name them
 --     listed               "and `chunklist` uses 14"
 --     above-refused        "A limit of 15 is now refused with number 21": any above 14 is, whatever the chunk and the other limits
---     by-every-call        by every call of Rattle, and lent memory stays as it was
+--     by-every-call        by every call of Rattle that goes by the reading, and lent memory stays as it was; strict-above, first-in-strict: by the stricter summary, in Rattle and behind C
 --     first-in-c           by every call behind C: it is the first of their conditions, and each returns the first that holds (ByC.antt); first-at-places: so of the calls at a place (RefusedAt.antt)
 --     still-read           "A chunk nested 14 deep is still read when its limit is 14": what belongs to the grammar under any nesting limit, and has no function deeper than 14, is read under 14, with the same reading
 --     none-deeper          and nothing that is read has a function deeper than 14

@@ -6,7 +6,7 @@
 --     absent-exactly, else-written     the same of the definition that the copy is made by (`nestedSource`), of every function that is read, by its parent's number
 --     full-is-read         "For full copies the reading keeps every source name": under the premises the full copy is read again, with the same reading but for format byte, warnings and places (`SameInFull`)
 --     equal-full-copies    "and two scripts have equal full copies exactly when their readings agree on those as well", each read under limits of its own
---                          "The premises on string and input limits stay": of full-is-read; the others have none
+--                          "The premises on string and input limits stay": of full-is-read, full-sources and full-written-is-read (of none-repeated and full-unpadded that on strings); the others have none
 --     (Demand2.antt)       "The archive copy remains equal to the Rust's": the promise of `encode_chunk_lua54` is as it was, word for word
 -- What follows, and is not asked:
 --     full-of-full         a full copy of the full copy is the full copy
