@@ -61,3 +61,4 @@ pub mod Mends
 pub mod StrictMends
 pub mod Misfielded
 pub mod Blamed
+pub mod HeaderPlaces

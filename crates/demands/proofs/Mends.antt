@@ -1,9 +1,9 @@
 -- What a refusal with 3 to 12 names is what is wrong: with the right bytes in the place of the wrong ones (`right`:
 -- the field's own, a tag 0, a number 81) the front is refused for no fault any more: it is read to its end, or lacks
 -- bytes, or meets a limit. So no reader that names another field's number, a tag for a field or a tag for a number is
--- ours, though the bytes be wrong for that too. Two exceptions, which worked cases see to (OrderCases.antt of format):
--- 8 and 9 miss the same byte (and 12 and 31 in the stricter reading); and 3 has no place, so of it this says little:
--- that the file's last bytes are a number that is too large is Causes.antt. One law for each way to make a reader.
+-- ours, though the bytes be wrong for that too. (8 and 9 miss the same byte, and 12 and 31 in the stricter reading:
+-- HeaderPlaces.antt tells them apart. 3 has no place, so of it this says little: that the file's last bytes are a number
+-- that is too large is Causes.antt, and worked cases see to the rest.) One law for each way to make a reader.
 --     right n          the bytes that the number n misses
 --     Mend r at s p    the file up to the end of the wrong bytes is refused so, the place is where they begin, and
 --                      with the right ones in their place it is mild (Fault.antt)
