@@ -24,7 +24,7 @@ ROOT = os.path.join(os.path.dirname(os.path.abspath(__file__)), '..')
 # demand -> its promises: the public theorems of crates/CRATE/proofs/FILE.antt, or those that are named behind a colon
 PROMISES = {
     'demand 1': ['demands/Demand1', 'demands/Order', 'demands/AtOneByte', 'demands/CutShort', 'demands/Continued:continues endless-lacks not-endless', 'demands/ByLimits:by-the-limits by-the-file not-vague',
-                 'demands/Blame:blames', 'demands/Fault:limits-only', 'demands/Mends:mends', 'demands/Blamed:read-named', 'demands/HeaderPlaces:header-places', 'demands/Exactly', 'demands/Accepted',
+                 'demands/Blame:blames', 'demands/Fault:limits-only', 'demands/Mends:mends', 'demands/Blamed:read-named', 'demands/HeaderPlaces:header-places', 'demands/Ample:unlimited', 'demands/Exactly', 'demands/Accepted',
                  'demands/ByC', 'demands/RefusedAt', 'demands/PartsInOrder', 'demands/Printed', 'format/RefusalNumbers', 'c_boundary/Numbers'],
     'demand 2': ['demands/Demand2', 'demands/More', 'demands/Demand2C', 'demands/Promise', 'demands/Request07:strict-as-lua strict-then-read only-besides', 'format_lua/LdumpWhole:copy-as-dumped copy-as-stripped',
                  'word_fields/Macros', 'word_fields/Created', 'word_fields/RoundTrip:same-word', 'word_opcodes/Opcodes', 'line_lookup/Ldebug:same-line'],
@@ -36,7 +36,7 @@ PROMISES = {
     'request 4': ['demands/Request04'],
     'request 5': ['demands/Request05'],
     'request 6': ['demands/Request06', 'demands/SameInFull:same-in-full', 'format_lua/LdumpFull:full-as-dumped short-object no-object one-object'],
-    'request 7': ['demands/Request07', 'demands/StrictOrder', 'demands/StrictBlame:strict-blames', 'demands/StrictFault:strict-limits-only', 'demands/StrictMends:strict-mends', 'demands/Blamed:strict-named', 'demands/HeaderPlaces:strict-header-places', 'format_strict/StrictAgrees:strict-agrees besides', 'format_lua/StrictLoaded:strict-as-loaded'],
+    'request 7': ['demands/Request07', 'demands/StrictOrder', 'demands/StrictBlame:strict-blames', 'demands/StrictFault:strict-limits-only', 'demands/StrictMends:strict-mends', 'demands/Blamed:strict-named', 'demands/HeaderPlaces:strict-header-places', 'demands/Ample:strict-unlimited', 'format_strict/StrictAgrees:strict-agrees besides', 'format_lua/StrictLoaded:strict-as-loaded'],
 }
 # the table of docs/PROOF.md: what a group of files says, and the files; what is reached and named nowhere here comes last
 GROUPS = [
@@ -53,7 +53,7 @@ GROUPS = [
     ('for who links from C: limits, refusals and answers as numbers; parts at a place, with the readers of a function in two parts', 'c_boundary/specs: Status; c_boundary/proofs: Numbers; c_words/specs: Words; c_entries/specs: EntryNumbers; c_numbers/specs: Numbers; c_finding/specs: FindingNumbers; c_findings/specs: FindingNumbers; lafzimdo/specs: Answers Version; c_parts/specs: PartNumbers; c_entries_at/specs: EntryNumbers; read_prototype/specs: Front Parts PartsShown; read_entry/specs: Readers'),
     ('what `chunklist` prints', 'chunklist_listing/specs: Listing; chunklist_lines/specs: Lines; format/specs: Ascii; text_print/specs: Output'),
     ("Lua's own loader, dumper and line lookup, close to the C", 'format_lua/specs: Lundump LundumpFunctions LundumpWithin Ldump LdumpFunctions; line_lookup/specs: Ldebug; format_lua/proofs: LdumpChunk LdumpWhole LdumpFull; line_lookup/proofs: Ldebug Rising'),
-    ("words of demand 1's statements: a call's conditions in order; what a refusal is about", 'demands/proofs: Refused Causes InOrder Early Order AtOneByte CutShort Continued ByLimits Blame Fault Mends Blamed HeaderPlaces Exactly Accepted ByC RefusedAt PartsInOrder Printed Demand1; format/proofs: RefusalNumbers'),
+    ("words of demand 1's statements: a call's conditions in order; what a refusal is about", 'demands/proofs: Refused Causes InOrder Early Order AtOneByte CutShort Continued ByLimits Blame Fault Mends Blamed HeaderPlaces Ample Exactly Accepted ByC RefusedAt PartsInOrder Printed Demand1; format/proofs: RefusalNumbers'),
     ("words of demand 2's statements: a whole contract", 'demands/proofs: Promise Demand2 Demand2C'),
     ("words of demand 3's and the requests' statements: what is shown, what is set aside", 'demands/proofs: Request01 Request02 AfterCounts Request03 Request05 Depths Request06 Request07 StrictOrder Demand3 ByCalls Calls Written Same SameInFull Inherits Alike Together Complete ShownAt SpeltHere EntriesAt Nested; format/proofs: Located OrderCases; read_nth/proofs: Strings; line_batch/proofs: Laws'),
 ]

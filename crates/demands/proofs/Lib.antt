@@ -62,3 +62,4 @@ pub mod StrictMends
 pub mod Misfielded
 pub mod Blamed
 pub mod HeaderPlaces
+pub mod Ample
