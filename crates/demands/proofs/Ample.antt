@@ -40,6 +40,7 @@ use Rattle.demands.proofs.AtOneByte.{enter}
 use Rattle.demands.proofs.Blame.{Stays, same}
 use Rattle.demands.proofs.Fault.{limited, Mild, Cures, late, clash, few-is, Plain, plain-give, plain-then, plain-run, plain-field, plain-number, plain-many, plain-expect, plain-before, plain-behind, plain-header, plain-upvalue}
 use Rattle.demands.proofs.StrictBlame.{strictEnter}
+use Rattle.demands.proofs.Bodies.{bodyBy}
 
 pub record Ample (n : ℕ) (L : ResourceLimits) : Type 0 where
   pub strings : 2 ^ 64 ≤ L .«max_string_bytes»
@@ -94,27 +95,34 @@ on-up up a b l h = up a b (omega arith) h
 module _ (n : ℕ) where
   record Free {A : Type 0} (P : ℕ → Type 0) (r : Reader A) (Q : A → ℕ → Type 0) : Type 0 where
     few : (at : ℕ) (s : Bytes) (p : Refusal) → P at → at + length s ≤ n → r at s ≡ refused p → limited p ≡ false
-    goes : (at : ℕ) (s : Bytes) (x : A) (to : ℕ) (rest : Bytes) → P at → at + length s ≤ n → r at s ≡ ok x to rest → Q x to × (to + length rest ≤ n)
+    goes : (at : ℕ) (s : Bytes) (x : A) (to : ℕ) (rest : Bytes) → P at → at + length s ≤ n → r at s ≡ ok x to rest
+        → Q x to × (to + length rest ≤ n)
 
   -- ## Ways to make a reader
   free-then : {A B : Type 0} {P : ℕ → Type 0} {Q : A → ℕ → Type 0} {R : B → ℕ → Type 0} {r : Reader A} {f : A → Reader B} → Free P r Q → ((x : A) → Free (Q x) (f x) R) → Free P (r >>= f) R
   free-then {A} {B} {P} {Q} {R} {r} {f} one two = record { few = λ at s p h k e. off at s p h k (r at s) refl e; goes = λ at s y to rest h k e. on at s y to rest h k (r at s) refl e }
     where
-      off : (at : ℕ) (s : Bytes) (p : Refusal) → P at → at + length s ≤ n → (o : Read A) → r at s ≡ o → next o f ≡ refused p → limited p ≡ false
+      off : (at : ℕ) (s : Bytes) (p : Refusal) → P at → at + length s ≤ n → (o : Read A) → r at s ≡ o
+          → next o f ≡ refused p → limited p ≡ false
       off at s p h k (ok x mid u) is e = let g = one .goes at s x mid u h k is in two x .few mid u p (g .0) (g .1) e
       off at s p h k (refused p′) is e = few-is e (one .few at s p′ h k is)
 
-      on : (at : ℕ) (s : Bytes) (y : B) (to : ℕ) (rest : Bytes) → P at → at + length s ≤ n → (o : Read A) → r at s ≡ o → next o f ≡ ok y to rest → R y to × (to + length rest ≤ n)
-      on at s y to rest h k (ok x mid u) is e = let g = one .goes at s x mid u h k is in two x .goes mid u y to rest (g .0) (g .1) e
+      on : (at : ℕ) (s : Bytes) (y : B) (to : ℕ) (rest : Bytes) → P at → at + length s ≤ n → (o : Read A) → r at s ≡ o
+          → next o f ≡ ok y to rest → R y to × (to + length rest ≤ n)
+      on at s y to rest h k (ok x mid u) is e =
+          let g = one .goes at s x mid u h k is in two x .goes mid u y to rest (g .0) (g .1) e
       on at s y to rest h k (refused p) is e = never e
 
-  free-here : {B : Type 0} {P : ℕ → Type 0} {Q : B → ℕ → Type 0} {f : ℕ → Reader B} → ((place : ℕ) → Free P (f place) Q) → Free P (here >>= f) Q
+  free-here : {B : Type 0} {P : ℕ → Type 0} {Q : B → ℕ → Type 0} {f : ℕ → Reader B}
+      → ((place : ℕ) → Free P (f place) Q) → Free P (here >>= f) Q
   free-here two = record { few = λ at s p h k e. two at .few at s p h k e; goes = λ at s x to rest h k e. two at .goes at s x to rest h k e }
 
-  free-pre : {A : Type 0} {P P′ : ℕ → Type 0} {Q : A → ℕ → Type 0} {r : Reader A} → ((at : ℕ) → P′ at → P at) → Free P r Q → Free P′ r Q
+  free-pre : {A : Type 0} {P P′ : ℕ → Type 0} {Q : A → ℕ → Type 0} {r : Reader A} → ((at : ℕ) → P′ at → P at)
+      → Free P r Q → Free P′ r Q
   free-pre pre one = record { few = λ at s p h k e. one .few at s p (pre at h) k e; goes = λ at s x to rest h k e. one .goes at s x to rest (pre at h) k e }
 
-  free-give : {A : Type 0} {P : ℕ → Type 0} {Q : A → ℕ → Type 0} (x : A) → ((at : ℕ) → P at → Q x at) → Free P (give x) Q
+  free-give : {A : Type 0} {P : ℕ → Type 0} {Q : A → ℕ → Type 0} (x : A) → ((at : ℕ) → P at → Q x at)
+      → Free P (give x) Q
   free-give x keep = record {
     few = λ at s p h k e. no e;
     goes = λ at s y to rest h k e.
@@ -124,26 +132,31 @@ module _ (n : ℕ) where
         (rw (← a, ← b) (keep at h), rw (← b, ← c) k);
   }
 
-  free-test : {P : ℕ → Type 0} (b : Bool) (p : Refusal) → ((at : ℕ) → at ≤ n → P at → b ≡ true) → Free P (test b p) (λ _ at. P at)
+  free-test : {P : ℕ → Type 0} (b : Bool) (p : Refusal) → ((at : ℕ) → at ≤ n → P at → b ≡ true)
+      → Free P (test b p) (λ _ at. P at)
   free-test {P} b p pass = record { few = λ at s p′ h k e. off at s p′ h k b refl e; goes = λ at s x to rest h k e. on at s x to rest h k b refl e }
     where
-      off : (at : ℕ) (s : Bytes) (p′ : Refusal) → P at → at + length s ≤ n → (t : Bool) → b ≡ t → test t p at s ≡ refused p′ → limited p′ ≡ false
+      off : (at : ℕ) (s : Bytes) (p′ : Refusal) → P at → at + length s ≤ n → (t : Bool) → b ≡ t
+          → test t p at s ≡ refused p′ → limited p′ ≡ false
       off at s p′ h k true is e = no e
       off at s p′ h k false is e = clash (pass at (omega (arith, k)) h) is
 
-      on : (at : ℕ) (s : Bytes) (x : Unit {0}) (to : ℕ) (rest : Bytes) → P at → at + length s ≤ n → (t : Bool) → b ≡ t → test t p at s ≡ ok x to rest → P to × (to + length rest ≤ n)
+      on : (at : ℕ) (s : Bytes) (x : Unit {0}) (to : ℕ) (rest : Bytes) → P at → at + length s ≤ n → (t : Bool) → b ≡ t
+          → test t p at s ≡ ok x to rest → P to × (to + length rest ≤ n)
       on at s x to rest h k true is e =
           let a : at ≡ to = cc in
           let c : s ≡ rest = cc in
           (rw (← a) h, rw (← a, ← c) k)
       on at s x to rest h k false is e = never e
 
-  free-pick : {A : Type 0} {P : ℕ → Type 0} {Q : A → ℕ → Type 0} {r s : Reader A} (b : Bool) → Free P r Q → Free P s Q → Free P (cond b r s) Q
+  free-pick : {A : Type 0} {P : ℕ → Type 0} {Q : A → ℕ → Type 0} {r s : Reader A} (b : Bool) → Free P r Q → Free P s Q
+      → Free P (cond b r s) Q
   free-pick true one two = one
   free-pick false one two = two
 
   -- one that meets no limit
-  free-on : {A : Type 0} {P : ℕ → Type 0} {r : Reader A} {F : Form A} → Exact r F → Plain r → Up P → Free P r (λ _ at. P at)
+  free-on : {A : Type 0} {P : ℕ → Type 0} {r : Reader A} {F : Form A} → Exact r F → Plain r → Up P
+      → Free P r (λ _ at. P at)
   free-on exact plain up = record {
     few = λ at s p h k e. plain .few at s p e;
     goes = λ at s x to rest h k e.
@@ -151,7 +164,8 @@ module _ (n : ℕ) where
         (up at to (omega (arith, c .place)) h, omega (arith, k, c .place, ap length (c .whole), length-append (c .bytes) rest));
   }
 
-  free-many : {A : Type 0} {P : ℕ → Type 0} {r : Reader A} (k : ℕ) → Free P r (λ _ at. P at) → Free P (many k r) (λ _ at. P at)
+  free-many : {A : Type 0} {P : ℕ → Type 0} {r : Reader A} (k : ℕ) → Free P r (λ _ at. P at)
+      → Free P (many k r) (λ _ at. P at)
   free-many zero one = free-give [] λ at h. h
   free-many (suc k) one = free-then one λ x. free-then (free-many k one) λ xs. free-give _ λ at h. h
 
@@ -169,14 +183,17 @@ module _ (n : ℕ) where
         ((word-fits v (2 ^ 64) (d .fits), past at to (omega (arith, c .place, long)) h), omega (arith, k, c .place, ap length (c .whole), length-append (c .bytes) rest));
   }
 
-  free-known : {A : Type 0} {F : Type 0} {P : ℕ → Type 0} {r : Reader A} {Q : A → ℕ → Type 0} → (F → Free P r Q) → Free (λ at. F × P at) r Q
+  free-known : {A : Type 0} {F : Type 0} {P : ℕ → Type 0} {r : Reader A} {Q : A → ℕ → Type 0} → (F → Free P r Q)
+      → Free (λ at. F × P at) r Q
   free-known two = record { few = λ at s p h k e. two (h .0) .few at s p (h .1) k e; goes = λ at s x to rest h k e. two (h .0) .goes at s x to rest (h .1) k e }
 
-  then-num : {B : Type 0} {P P′ : ℕ → Type 0} {Q : B → ℕ → Type 0} {num : Reader ℕ} {f : ℕ → Reader B} → Counts num → Past P P′ → ((v : ℕ) → v < 2 ^ 64 → Free P′ (f v) Q) → Free P (num >>= f) Q
+  then-num : {B : Type 0} {P P′ : ℕ → Type 0} {Q : B → ℕ → Type 0} {num : Reader ℕ} {f : ℕ → Reader B} → Counts num
+      → Past P P′ → ((v : ℕ) → v < 2 ^ 64 → Free P′ (f v) Q) → Free P (num >>= f) Q
   then-num {B} {P} {P′} counts past two = free-then (counts P P′ past) λ v. free-known (two v)
 
   -- ## Strings
-  free-string : (limit : ℕ) → 2 ^ 64 ≤ limit → {P P′ : ℕ → Type 0} → Past P P′ → Up P′ → Free P (string limit) (λ _ at. P′ at)
+  free-string : (limit : ℕ) → 2 ^ 64 ≤ limit → {P P′ : ℕ → Type 0} → Past P P′ → Up P′
+      → Free P (string limit) (λ _ at. P′ at)
   free-string limit big {P} {P′} past up = free-here λ first. then-num free-number past λ size fits. by first size fits
     where
       by : (first size : ℕ) → size < 2 ^ 64 → Free P′ (content limit first size) (λ _ at. P′ at)
@@ -185,8 +202,10 @@ module _ (n : ℕ) where
           free-then (free-test (leb m limit) (q.StringBytes first) λ at k h. le-leb m limit (below m (2 ^ 64) limit (omega arith) big)) λ _.
           free-here λ place. free-then (free-on (exact-run m) (plain-run m) up) λ bytes. free-give _ λ at h. h
 
-  free-always : (limit : ℕ) (instead : Bytes) → 2 ^ 64 ≤ limit → {P : ℕ → Type 0} → Up P → Free P (always limit instead) (λ _ at. P at)
-  free-always limit instead big up = free-then (free-string limit big (on-up up) up) λ t. free-here λ place. free-give _ λ at h. h
+  free-always : (limit : ℕ) (instead : Bytes) → 2 ^ 64 ≤ limit → {P : ℕ → Type 0} → Up P
+      → Free P (always limit instead) (λ _ at. P at)
+  free-always limit instead big up =
+      free-then (free-string limit big (on-up up) up) λ t. free-here λ place. free-give _ λ at h. h
 
   -- ## Entries and lists, by how a number and a string constant are read
   module _ {P : ℕ → Type 0} (up : Up P) where
@@ -196,7 +215,8 @@ module _ (n : ℕ) where
     free-eight : Free P (field 8) (λ _ at. P at)
     free-eight = free-on (exact-field 8) (plain-field 8) up
 
-    free-tagged : {S A : Type 0} (r : Reader S) → Free P r (λ _ at. P at) → (place tag : ℕ) (a b c : A) (d e : ℕ → A) (f g : S → A) → Free P
+    free-tagged : {S A : Type 0} (r : Reader S) → Free P r (λ _ at. P at)
+        → (place tag : ℕ) (a b c : A) (d e : ℕ → A) (f g : S → A) → Free P
         (cond (eqb tag 0) (give a) (cond (eqb tag 1) (give b) (cond (eqb tag 17) (give c)
         (cond (eqb tag 3) (field 8 >>= λ n. give (d n)) (cond (eqb tag 19) (field 8 >>= λ n. give (e n))
         (cond (eqb tag 4) (r >>= λ t. give (f t)) (cond (eqb tag 20) (r >>= λ t. give (g t)) (refuse (q.ConstantTag place))))))))) (λ _ at. P at)
@@ -214,9 +234,11 @@ module _ (n : ℕ) where
 
     module _ (num : Reader ℕ) (counts : Counts num) where
       free-listed : {A : Type 0} {r : Reader A} → Free P r (λ _ at. P at) → Free P (num >>= λ k. here >>= λ place. many k r >>= λ items. give {A = Listed A} (record { place = place; items = items })) (λ _ at. P at)
-      free-listed one = then-num counts (on-up up) λ k fits. free-here λ place. free-then (free-many k one) λ items. free-give _ λ at h. h
+      free-listed one =
+          then-num counts (on-up up) λ k fits. free-here λ place. free-then (free-many k one) λ items. free-give _ λ at h. h
 
-      free-listedUpTo : {A : Type 0} {r : Reader A} (most : ℕ) (over : ℕ → Refusal) → 2 ^ 64 ≤ most → Free P r (λ _ at. P at)
+      free-listedUpTo : {A : Type 0} {r : Reader A} (most : ℕ) (over : ℕ → Refusal) → 2 ^ 64 ≤ most
+          → Free P r (λ _ at. P at)
           → Free P (here >>= λ first. num >>= λ k. atMost k most (over first) >>= λ _. here >>= λ place. many k r >>= λ items. give {A = Listed A} (record { place = place; items = items })) (λ _ at. P at)
       free-listedUpTo most over big one =
           free-here λ first. then-num counts (on-up up) λ k fits.
@@ -232,13 +254,16 @@ module _ (n : ℕ) where
       go false e = never e
 
   abbrev EndsAfter : ℕ → Type 0
-  EndsAfter k = (mid : ℕ) (u : Bytes) (ys : List ℕ) (to : ℕ) (v : Bytes) → many k (field 4) mid u ≡ ok ys to v → mid + length ys ≤ to
+  EndsAfter k =
+      (mid : ℕ) (u : Bytes) (ys : List ℕ) (to : ℕ) (v : Bytes) → many k (field 4) mid u ≡ ok ys to v → mid + length ys ≤ to
 
-  words-end : (k at : ℕ) (s : Bytes) (xs : List ℕ) (to : ℕ) (rest : Bytes) → many k (field 4) at s ≡ ok xs to rest → at + length xs ≤ to
+  words-end : (k at : ℕ) (s : Bytes) (xs : List ℕ) (to : ℕ) (rest : Bytes) → many k (field 4) at s ≡ ok xs to rest
+      → at + length xs ≤ to
   words-end zero at s xs to rest e = let a : [] ≡ xs = cc in let b : at ≡ to = cc in rw (← a, ← b) (omega arith)
   words-end (suc k) at s xs to rest e = go (λ mid u ys to′ v is. words-end k mid u ys to′ v is) (field 4 at s) refl e
     where
-      end : EndsAfter k → (x mid : ℕ) (u : Bytes) → at + 4 ≡ mid → (o : Read (List ℕ)) → many k (field 4) mid u ≡ o → next o (λ ys. give (x ∷ ys)) ≡ ok xs to rest → at + length xs ≤ to
+      end : EndsAfter k → (x mid : ℕ) (u : Bytes) → at + 4 ≡ mid → (o : Read (List ℕ)) → many k (field 4) mid u ≡ o
+          → next o (λ ys. give (x ∷ ys)) ≡ ok xs to rest → at + length xs ≤ to
       end more x mid u from (ok ys to′ v) is e =
           let a : x ∷ ys ≡ xs = cc in
           let b : to′ ≡ to = cc in
@@ -246,7 +271,8 @@ module _ (n : ℕ) where
           rw (← a, ← b) (omega (arith, h, from))
       end more x mid u from (refused p) is e = never e
 
-      go : EndsAfter k → (o : Read ℕ) → field 4 at s ≡ o → next o (λ x. many k (field 4) >>= λ ys. give (x ∷ ys)) ≡ ok xs to rest → at + length xs ≤ to
+      go : EndsAfter k → (o : Read ℕ) → field 4 at s ≡ o
+          → next o (λ x. many k (field 4) >>= λ ys. give (x ∷ ys)) ≡ ok xs to rest → at + length xs ≤ to
       go more (ok x mid u) is e = end more x mid u (sym (field-end at s x mid u is)) (many k (field 4) mid u) refl e
       go more (refused p) is e = never e
 
@@ -281,43 +307,13 @@ module _ (n : ℕ) where
         ((omega (arith, h .0, d), omega (arith, h .1, d), omega (arith, h .2, d)), omega (arith, k, c .place, ap length (c .whole), length-append (c .bytes) rest));
   }
 
-  free-forest : (left k : ℕ) {r : Where → Reader (List Prototype)} (w : Where) → ((w : Where) → Free (Start w left) (r w) (λ ps at. Start (after ps w) left at)) → Free (Start w left) (forest k r w) (λ ps at. Start (after ps w) left at)
+  free-forest : (left k : ℕ) {r : Where → Reader (List Prototype)} (w : Where)
+      → ((w : Where) → Free (Start w left) (r w) (λ ps at. Start (after ps w) left at))
+      → Free (Start w left) (forest k r w) (λ ps at. Start (after ps w) left at)
   free-forest left zero w one = free-give [] λ at h. (omega (arith, h .0), omega (arith, h .1), h .2)
   free-forest left (suc k) w one =
       free-then (one w) λ ps. free-then (free-forest left k (after ps w) one) λ more.
       free-give _ λ at h. (omega (arith, h .0, length-append ps more), omega (arith, h .1, instructions-append ps more), h .2)
-
-  -- the bodies of both readings, by how numbers, constants, anchors and locals are read
-  abbrev bodyBy : Reader ℕ → Reader ConstantValue → Reader AbsLineInfo → Reader LocalVar → ResourceLimits → (Where → Reader (List Prototype)) → Where → Reader (List Prototype)
-  bodyBy num con anc loc L r w = do
-    start ← here
-    spelt ← string (L .«max_string_bytes»)
-    line-defined ← num
-    last-line-defined ← num
-    numparams ← byte
-    is-vararg ← byte
-    maxstacksize ← byte
-    first ← here
-    size ← num
-    atMost size (L .«max_instructions_per_proto») (q.Instructions first)
-    atMost (w .instructions + size) (L .«max_total_instructions») (q.TotalInstructions first)
-    instructions-at ← here
-    instructions ← many size (field 4)
-    constants ← here >>= λ first. num >>= λ k. atMost k (L .«max_constants_per_proto») (q.Constants first) >>= λ _. here >>= λ place. many k con >>= λ items. give {A = Listed ConstantValue} (record { place = place; items = items })
-    upvalues ← here >>= λ first. num >>= λ k. atMost k (L .«max_upvalues_per_proto») (q.Upvalues first) >>= λ _. here >>= λ place. many k upvalue >>= λ items. give {A = Listed _} (record { place = place; items = items })
-    first ← here
-    protos ← num
-    atMost protos (L .«max_total_prototypes») (q.Prototypes first)
-    protos-at ← here
-    nested ← forest protos r (within w (inherit spelt (w .source)) (length instructions))
-    line-info-size ← num
-    line-info-at ← here
-    line-info ← run line-info-size
-    abs-line-info ← num >>= λ k. here >>= λ place. many k anc >>= λ items. give {A = Listed AbsLineInfo} (record { place = place; items = items })
-    loc-vars ← num >>= λ k. here >>= λ place. many k loc >>= λ items. give {A = Listed LocalVar} (record { place = place; items = items })
-    upvalue-names ← num >>= λ k. here >>= λ place. many k (string (L .«max_string_bytes»)) >>= λ items. give {A = Listed (Option LuaString)} (record { place = place; items = items })
-    end ← here
-    give (prototype w start spelt line-defined last-line-defined numparams is-vararg maxstacksize (record { place = instructions-at; items = instructions }) constants upvalues protos-at protos (record { place = line-info-at; items = line-info }) abs-line-info loc-vars upvalue-names end ∷ nested)
 
   module _ (L : ResourceLimits) (ample : Ample n L) where
     abbrev limit : ℕ
@@ -325,7 +321,9 @@ module _ (n : ℕ) where
 
     module _ (num : Reader ℕ) (counts : Counts num) (con : Reader ConstantValue) (anc : Reader AbsLineInfo) (loc : Reader LocalVar)
         (free-con : (P : ℕ → Type 0) → Up P → Free P con (λ _ at. P at)) (free-anc : (P : ℕ → Type 0) → Up P → Free P anc (λ _ at. P at)) (free-loc : (P : ℕ → Type 0) → Up P → Free P loc (λ _ at. P at)) where
-      free-body : (left : ℕ) {r : Where → Reader (List Prototype)} → ((w : Where) → Free (Start w left) (r w) (λ ps at. Start (after ps w) left at)) → (w : Where) → Free (Start w (suc left)) (bodyBy num con anc loc L r w) (λ ps at. Start (after ps w) (suc left) at)
+      free-body : (left : ℕ) {r : Where → Reader (List Prototype)}
+          → ((w : Where) → Free (Start w left) (r w) (λ ps at. Start (after ps w) left at)) → (w : Where)
+          → Free (Start w (suc left)) (bodyBy num con anc loc L r w) (λ ps at. Start (after ps w) (suc left) at)
       free-body left {r} one w =
           free-here λ start.
           free-then (free-string limit (ample .strings) (begins w left) (begun-up w left)) λ spelt.
@@ -359,7 +357,9 @@ module _ (n : ℕ) where
           free-give _ λ at h. (omega (arith, h .0), omega (arith, h .1), omega (arith, h .2))
 
     -- where a nested function begins, and behind that
-    entered : (left : ℕ) (w : Where) {r : Reader (List Prototype)} → Free (Start w left) r (λ ps at. Start (after ps w) left at) → Free (Start w left) (here >>= λ place. atMost (w .number) (L .«max_total_prototypes») (q.TotalPrototypes place) >>= λ _. r) (λ ps at. Start (after ps w) left at)
+    entered : (left : ℕ) (w : Where) {r : Reader (List Prototype)}
+        → Free (Start w left) r (λ ps at. Start (after ps w) left at)
+        → Free (Start w left) (here >>= λ place. atMost (w .number) (L .«max_total_prototypes») (q.TotalPrototypes place) >>= λ _. r) (λ ps at. Start (after ps w) left at)
     entered left w one =
         free-here λ place.
         free-then (free-test (leb (w .number) (L .«max_total_prototypes»)) (q.TotalPrototypes place) λ at k h. le-leb (w .number) (L .«max_total_prototypes») (place-below (w .number) (2 ^ 64) (L .«max_total_prototypes») n at (h .0) k (ample .functions))) λ _.
@@ -371,15 +371,18 @@ module _ (n : ℕ) where
 
     -- ## The ordinary reading
     free-constant : (P : ℕ → Type 0) → Up P → Free P (constant limit) (λ _ at. P at)
-    free-constant P up = free-here λ place. free-then (free-byte up) λ tag. free-tagged up (always limit []) (free-always limit [] (ample .strings) up) place tag _ _ _ _ _ _ _
+    free-constant P up =
+        free-here λ place. free-then (free-byte up) λ tag. free-tagged up (always limit []) (free-always limit [] (ample .strings) up) place tag _ _ _ _ _ _ _
 
     free-anchor : (P : ℕ → Type 0) → Up P → Free P anchor (λ _ at. P at)
-    free-anchor P up = then-num free-number (on-up up) λ pc _. then-num free-number (on-up up) λ line _. free-give _ λ at h. h
+    free-anchor P up =
+        then-num free-number (on-up up) λ pc _. then-num free-number (on-up up) λ line _. free-give _ λ at h. h
 
     free-local : (P : ℕ → Type 0) → Up P → Free P (local limit) (λ _ at. P at)
     free-local P up = free-then (free-always limit (63 ∷ []) (ample .strings) up) λ name. then-num free-number (on-up up) λ startpc _. then-num free-number (on-up up) λ endpc _. free-give _ λ at h. h
 
-    free-function : (left : ℕ) (w : Where) → Free (Start w left) (function L left w) (λ ps at. Start (after ps w) left at)
+    free-function : (left : ℕ) (w : Where)
+        → Free (Start w left) (function L left w) (λ ps at. Start (after ps w) left at)
     unfolding function body
     free-function zero w = none-left w
     free-function (suc left) w = free-body number free-number (constant limit) anchor (local limit) free-constant free-anchor free-local left {r = enter L (suc left)} (λ w. entered left w (free-function left w)) w
@@ -388,41 +391,49 @@ module _ (n : ℕ) where
     free-bound : {P : ℕ → Type 0} (v m first : ℕ) → Free P (test (ltb v m) (q.IntOverflow first)) (λ _ at. P at)
     free-bound {P} v m first = record { few = λ at s p h k e. off at s p (ltb v m) e; goes = λ at s x to rest h k e. on at s x to rest h k (ltb v m) e }
       where
-        off : (at : ℕ) (s : Bytes) (p : Refusal) (t : Bool) → test t (q.IntOverflow first) at s ≡ refused p → limited p ≡ false
+        off : (at : ℕ) (s : Bytes) (p : Refusal) (t : Bool) → test t (q.IntOverflow first) at s ≡ refused p
+            → limited p ≡ false
         off at s p true e = no e
         off at s p false e = few-is {p = q.IntOverflow first} e refl
 
-        on : (at : ℕ) (s : Bytes) (x : Unit {0}) (to : ℕ) (rest : Bytes) → P at → at + length s ≤ n → (t : Bool) → test t (q.IntOverflow first) at s ≡ ok x to rest → P to × (to + length rest ≤ n)
+        on : (at : ℕ) (s : Bytes) (x : Unit {0}) (to : ℕ) (rest : Bytes) → P at → at + length s ≤ n → (t : Bool)
+            → test t (q.IntOverflow first) at s ≡ ok x to rest → P to × (to + length rest ≤ n)
         on at s x to rest h k true e = let a : at ≡ to = cc in let c : s ≡ rest = cc in (rw (← a) h, rw (← a, ← c) k)
         on at s x to rest h k false e = never e
 
     free-int : Counts int
-    free-int P P′ past = free-here λ first. then-num free-number past λ v fits. free-then (free-bound v (2 ^ 31 - 128) first) λ _. free-give v λ at h. (fits, h)
+    free-int P P′ past =
+        free-here λ first. then-num free-number past λ v fits. free-then (free-bound v (2 ^ 31 - 128) first) λ _. free-give v λ at h. (fits, h)
 
     free-present : {P : ℕ → Type 0} → Up P → Free P (present limit) (λ _ at. P at)
-    free-present {P} up = free-here λ first. free-then (free-string limit (ample .strings) (on-up up) up) λ t. by first t
+    free-present {P} up =
+        free-here λ first. free-then (free-string limit (ample .strings) (on-up up) up) λ t. by first t
       where
         by : (first : ℕ) (t : Option LuaString) → Free P (there first t) (λ _ at. P at)
         by first none = record { few = λ at s p h k e. few-is {p = q.NullString first} e refl; goes = λ at s x to rest h k e. never e }
         by first (some t) = free-give _ λ at h. h
 
     free-strictConstant : (P : ℕ → Type 0) → Up P → Free P (strictConstant limit) (λ _ at. P at)
-    free-strictConstant P up = free-here λ place. free-then (free-byte up) λ tag. free-tagged up (present limit) (free-present up) place tag _ _ _ _ _ _ _
+    free-strictConstant P up =
+        free-here λ place. free-then (free-byte up) λ tag. free-tagged up (present limit) (free-present up) place tag _ _ _ _ _ _ _
 
     free-strictAnchor : (P : ℕ → Type 0) → Up P → Free P strictAnchor (λ _ at. P at)
-    free-strictAnchor P up = then-num free-int (on-up up) λ pc _. then-num free-int (on-up up) λ line _. free-give _ λ at h. h
+    free-strictAnchor P up =
+        then-num free-int (on-up up) λ pc _. then-num free-int (on-up up) λ line _. free-give _ λ at h. h
 
     free-strictLocal : (P : ℕ → Type 0) → Up P → Free P (strictLocal limit) (λ _ at. P at)
     free-strictLocal P up = free-then (free-always limit (63 ∷ []) (ample .strings) up) λ name. then-num free-int (on-up up) λ startpc _. then-num free-int (on-up up) λ endpc _. free-give _ λ at h. h
 
-    free-strictFunction : (left : ℕ) (w : Where) → Free (Start w left) (strictFunction L left w) (λ ps at. Start (after ps w) left at)
+    free-strictFunction : (left : ℕ) (w : Where)
+        → Free (Start w left) (strictFunction L left w) (λ ps at. Start (after ps w) left at)
     unfolding strictFunction strictBody
     free-strictFunction zero w = none-left w
     free-strictFunction (suc left) w = free-body int free-int (strictConstant limit) strictAnchor (strictLocal limit) free-strictConstant free-strictAnchor free-strictLocal left {r = strictEnter L (suc left)} (λ w. entered left w (free-strictFunction left w)) w
 
     -- ## Chunks
     plain-strictHeader : Plain strictHeader
-    plain-strictHeader = plain-then plain-before λ _. plain-then (plain-expect (0 ∷ []) q.Format λ place. refl) λ _. plain-then plain-behind λ _. plain-give _
+    plain-strictHeader =
+        plain-then plain-before λ _. plain-then (plain-expect (0 ∷ []) q.Format λ place. refl) λ _. plain-then plain-behind λ _. plain-give _
 
     abbrev Any : ℕ → Type 0
     Any at = Unit {0}

@@ -54,7 +54,8 @@ pub record Raised (L M : ResourceLimits) : Type 0 where
 
 -- the limit that is named, if one is, is the same
 abbrev pub SameNamed : ResourceLimits → ResourceLimits → Refusal → Type 0
-SameNamed L M p = 13 ≤ reported p .number → reported p .number ≤ 20 → namedLimit (reported p .number) L ≡ namedLimit (reported p .number) M
+SameNamed L M p =
+    13 ≤ reported p .number → reported p .number ≤ 20 → namedLimit (reported p .number) L ≡ namedLimit (reported p .number) M
 
 pub record Stays {A : Type 0} (L M : ResourceLimits) (r r′ : Reader A) : Type 0 where
   pub accepts : (at : ℕ) (s : Bytes) (x : A) (to : ℕ) (rest : Bytes) → r at s ≡ ok x to rest → r′ at s ≡ ok x to rest
@@ -65,35 +66,44 @@ module _ (L M : ResourceLimits) where
   pub same : {A : Type 0} (r : Reader A) → Stays L M r r
   same r = record { accepts = λ at s x to rest e. e; refuses = λ at s p e k. e }
 
-  pub stays-here : {B : Type 0} {f f′ : ℕ → Reader B} → ((place : ℕ) → Stays L M (f place) (f′ place)) → Stays L M (here >>= f) (here >>= f′)
+  pub stays-here : {B : Type 0} {f f′ : ℕ → Reader B} → ((place : ℕ) → Stays L M (f place) (f′ place))
+      → Stays L M (here >>= f) (here >>= f′)
   stays-here two = record { accepts = λ at s x to rest e. two at .accepts at s x to rest e; refuses = λ at s p e k. two at .refuses at s p e k }
 
-  pub stays-then : {A B : Type 0} {r r′ : Reader A} {f f′ : A → Reader B} → Stays L M r r′ → ((x : A) → Stays L M (f x) (f′ x)) → Stays L M (r >>= f) (r′ >>= f′)
+  pub stays-then : {A B : Type 0} {r r′ : Reader A} {f f′ : A → Reader B} → Stays L M r r′
+      → ((x : A) → Stays L M (f x) (f′ x)) → Stays L M (r >>= f) (r′ >>= f′)
   stays-then {A} {B} {r} {r′} {f} {f′} one two = record { accepts = λ at s x to rest e. on at s x to rest (r at s) refl e; refuses = λ at s p e k. off at s p k (r at s) refl e }
     where
-      on : (at : ℕ) (s : Bytes) (x : B) (to : ℕ) (rest : Bytes) (o : Read A) → r at s ≡ o → next o f ≡ ok x to rest → next (r′ at s) f′ ≡ ok x to rest
-      on at s x to rest (ok y mid u) is e = ap (λ o. next o f′) (one .accepts at s y mid u is) ∙ two y .accepts mid u x to rest e
+      on : (at : ℕ) (s : Bytes) (x : B) (to : ℕ) (rest : Bytes) (o : Read A) → r at s ≡ o → next o f ≡ ok x to rest
+          → next (r′ at s) f′ ≡ ok x to rest
+      on at s x to rest (ok y mid u) is e =
+          ap (λ o. next o f′) (one .accepts at s y mid u is) ∙ two y .accepts mid u x to rest e
       on at s x to rest (refused p) is e = never e
 
-      off : (at : ℕ) (s : Bytes) (p : Refusal) → SameNamed L M p → (o : Read A) → r at s ≡ o → next o f ≡ refused p → next (r′ at s) f′ ≡ refused p
+      off : (at : ℕ) (s : Bytes) (p : Refusal) → SameNamed L M p → (o : Read A) → r at s ≡ o → next o f ≡ refused p
+          → next (r′ at s) f′ ≡ refused p
       off at s p k (ok y mid u) is e = ap (λ o. next o f′) (one .accepts at s y mid u is) ∙ two y .refuses mid u p e k
       off at s p k (refused p′) is e =
           let h : p′ ≡ p = was e in
           ap (λ o. next o f′) (one .refuses at s p′ is (subst (SameNamed L M) (sym h) k)) ∙ ap refused h
 
-  pub stays-pick : {A : Type 0} {r r′ s s′ : Reader A} (b : Bool) → Stays L M r r′ → Stays L M s s′ → Stays L M (cond b r s) (cond b r′ s′)
+  pub stays-pick : {A : Type 0} {r r′ s s′ : Reader A} (b : Bool) → Stays L M r r′ → Stays L M s s′
+      → Stays L M (cond b r s) (cond b r′ s′)
   stays-pick true one two = one
   stays-pick false one two = two
 
   -- the limit is as high, and the same where the refusal names it
-  pub stays-atMost : (n m m′ : ℕ) (p : Refusal) → m ≤ m′ → (SameNamed L M p → m ≡ m′) → Stays L M (atMost n m p) (atMost n m′ p)
+  pub stays-atMost : (n m m′ : ℕ) (p : Refusal) → m ≤ m′ → (SameNamed L M p → m ≡ m′)
+      → Stays L M (atMost n m p) (atMost n m′ p)
   stays-atMost n m m′ p low held = record { accepts = λ at s x to rest e. on at s x to rest (leb n m) refl e; refuses = λ at s p′ e k. off at s p′ k (leb n m) refl e }
     where
-      on : (at : ℕ) (s : Bytes) (x : Unit {0}) (to : ℕ) (rest : Bytes) (b : Bool) → leb n m ≡ b → test b p at s ≡ ok x to rest → atMost n m′ p at s ≡ ok x to rest
+      on : (at : ℕ) (s : Bytes) (x : Unit {0}) (to : ℕ) (rest : Bytes) (b : Bool) → leb n m ≡ b
+          → test b p at s ≡ ok x to rest → atMost n m′ p at s ≡ ok x to rest
       on at s x to rest true t e = let h = leb-true n m t in ap (λ b. test b p at s) (le-leb n m′ (omega arith)) ∙ e
       on at s x to rest false t e = never e
 
-      off : (at : ℕ) (s : Bytes) (p′ : Refusal) → SameNamed L M p′ → (b : Bool) → leb n m ≡ b → test b p at s ≡ refused p′ → atMost n m′ p at s ≡ refused p′
+      off : (at : ℕ) (s : Bytes) (p′ : Refusal) → SameNamed L M p′ → (b : Bool) → leb n m ≡ b
+          → test b p at s ≡ refused p′ → atMost n m′ p at s ≡ refused p′
       off at s p′ k true t e = absurd (let z : _≡_ {A = ℕ} 0 1 = cc in omega arith)
       off at s p′ k false t e =
           let h : p ≡ p′ = was e in
@@ -127,20 +137,27 @@ module _ (L M : ResourceLimits) where
         (stays-pick (eqb tag 20) (stays-then (stays-always []) λ t. same (give _)) (same (refuse (q.ConstantTag place)))))))))
 
     pub stays-local : Stays L M (local (L .«max_string_bytes»)) (local (M .«max_string_bytes»))
-    stays-local = stays-then (stays-always (63 ∷ [])) λ name. stays-then (same number) λ startpc. stays-then (same number) λ endpc. same (give _)
+    stays-local =
+        stays-then (stays-always (63 ∷ [])) λ name. stays-then (same number) λ startpc. stays-then (same number) λ endpc. same (give _)
 
     stays-counted : {A : Type 0} {r r′ : Reader A} → Stays L M r r′ → Stays L M (counted r) (counted r′)
-    stays-counted one = stays-then (same number) λ n. stays-here λ place. stays-then (stays-many n one) λ items. same (give _)
+    stays-counted one =
+        stays-then (same number) λ n. stays-here λ place. stays-then (stays-many n one) λ items. same (give _)
 
-    stays-countedUpTo : {A : Type 0} {r r′ : Reader A} (m m′ : ℕ) (over : ℕ → Refusal) → m ≤ m′ → ((first : ℕ) → SameNamed L M (over first) → m ≡ m′) → Stays L M r r′ → Stays L M (countedUpTo m over r) (countedUpTo m′ over r′)
+    stays-countedUpTo : {A : Type 0} {r r′ : Reader A} (m m′ : ℕ) (over : ℕ → Refusal) → m ≤ m′
+        → ((first : ℕ) → SameNamed L M (over first) → m ≡ m′) → Stays L M r r′
+        → Stays L M (countedUpTo m over r) (countedUpTo m′ over r′)
     stays-countedUpTo m m′ over low held one = stays-here λ first. stays-then (same number) λ n. stays-then (stays-atMost n m m′ (over first) low (held first)) λ _. stays-here λ place. stays-then (stays-many n one) λ items. same (give _)
 
     -- ## Functions
-    pub stays-forest : (n : ℕ) {r r′ : Where → Reader (List Prototype)} (w : Where) → ((w : Where) → Stays L M (r w) (r′ w)) → Stays L M (forest n r w) (forest n r′ w)
+    pub stays-forest : (n : ℕ) {r r′ : Where → Reader (List Prototype)} (w : Where)
+        → ((w : Where) → Stays L M (r w) (r′ w)) → Stays L M (forest n r w) (forest n r′ w)
     stays-forest zero w one = same (give [])
-    stays-forest (suc n) w one = stays-then (one w) λ ps. stays-then (stays-forest n (after ps w) one) λ more. same (give (ps ++ more))
+    stays-forest (suc n) w one =
+        stays-then (one w) λ ps. stays-then (stays-forest n (after ps w) one) λ more. same (give (ps ++ more))
 
-    stays-body : {r r′ : Where → Reader (List Prototype)} → ((w : Where) → Stays L M (r w) (r′ w)) → (w : Where) → Stays L M (body L r w) (body M r′ w)
+    stays-body : {r r′ : Where → Reader (List Prototype)} → ((w : Where) → Stays L M (r w) (r′ w)) → (w : Where)
+        → Stays L M (body L r w) (body M r′ w)
     unfolding body
     stays-body one w =
         stays-here λ start.
@@ -174,22 +191,28 @@ module _ (L M : ResourceLimits) where
 
     -- where a nested function begins (AtOneByte.antt, `enter`): one level more is left, and the limit of nesting is
     -- another
-    deeper : (left′ : ℕ) (w : Where) → (L .«max_nesting_depth» ≡ M .«max_nesting_depth» → ⊥) → Stays L M (enter L zero w) (enter M (suc left′) w)
+    deeper : (left′ : ℕ) (w : Where) → (L .«max_nesting_depth» ≡ M .«max_nesting_depth» → ⊥)
+        → Stays L M (enter L zero w) (enter M (suc left′) w)
     deeper left′ w other = record {
       accepts = λ at s x to rest e. never {p = q.NestingDepth at} e;
       refuses = λ at s p e k. absurd (let h : q.NestingDepth at ≡ p = was e in let k′ : SameNamed L M (q.NestingDepth at) = subst (SameNamed L M) (sym h) k in other (k′ (omega arith) (omega arith)));
     }
 
-    entered : (left left′ : ℕ) (w : Where) → Stays L M (function L left w) (function M left′ w) → Stays L M (enter L (suc left) w) (enter M (suc left′) w)
+    entered : (left left′ : ℕ) (w : Where) → Stays L M (function L left w) (function M left′ w)
+        → Stays L M (enter L (suc left) w) (enter M (suc left′) w)
     entered left left′ w one =
         stays-here λ place.
         stays-then (stays-atMost (w .number) (L .«max_total_prototypes») (M .«max_total_prototypes») (q.TotalPrototypes place) (wide .functions) (λ k. k (omega arith) (omega arith))) λ _.
         one
 
-    stays-function : (left left′ : ℕ) (w : Where) → left ≤ left′ → (L .«max_nesting_depth» ≡ M .«max_nesting_depth» → left ≡ left′) → Stays L M (function L left w) (function M left′ w)
+    stays-function : (left left′ : ℕ) (w : Where) → left ≤ left′
+        → (L .«max_nesting_depth» ≡ M .«max_nesting_depth» → left ≡ left′)
+        → Stays L M (function L left w) (function M left′ w)
     unfolding function
-    stays-function zero zero w low held = stays-body {r = enter L zero} {r′ = enter M zero} (λ w. same (enter L zero w)) w
-    stays-function zero (suc left′) w low held = stays-body {r = enter L zero} {r′ = enter M (suc left′)} (λ w. deeper left′ w (λ e. let h = held e in omega arith)) w
+    stays-function zero zero w low held =
+        stays-body {r = enter L zero} {r′ = enter M zero} (λ w. same (enter L zero w)) w
+    stays-function zero (suc left′) w low held =
+        stays-body {r = enter L zero} {r′ = enter M (suc left′)} (λ w. deeper left′ w (λ e. let h = held e in omega arith)) w
     stays-function (suc left) zero w low held = absurd (omega arith)
     stays-function (suc left) (suc left′) w low held = stays-body {r = enter L (suc left)} {r′ = enter M (suc left′)} (λ w. entered left left′ w (stays-function left left′ w (omega arith) (λ e. let h = held e in omega arith))) w
 

@@ -61,12 +61,16 @@ pub record Mended (reads : ResourceLimits → Bytes → Outcome) (L : ResourceLi
   pub whole : s ≡ before ++ (wrong ++ rest)
   pub same : reads L (before ++ wrong) ≡ refusal p
   pub begins : Begins (reported p .place) (length before)
-  pub mild : Allows L (before ++ right (reported p .number)) → MildOutcome (reads L (before ++ right (reported p .number)))
+  pub mild : Allows L (before ++ right (reported p .number))
+      → MildOutcome (reads L (before ++ right (reported p .number)))
 
 pub record Named (reads : ResourceLimits → Bytes → Outcome) : Type 0 where
-  pub stays : (L M : ResourceLimits) → Raised L M → (s : Bytes) → Allows L s → Allows M s → (p : Refusal) → reads L s ≡ refusal p → SameNamed L M p → reads M s ≡ refusal p
-  pub cured : (L M : ResourceLimits) → Raised L M → (s : Bytes) → Allows L s → Allows M s → (p : Refusal) → reads L s ≡ refusal p → limited p ≡ true → Cured reads L M s p
-  pub mended : (L : ResourceLimits) (s : Bytes) → Allows L s → (p : Refusal) → reads L s ≡ refusal p → faulty p ≡ true → Mended reads L s p
+  pub stays : (L M : ResourceLimits) → Raised L M → (s : Bytes) → Allows L s → Allows M s → (p : Refusal)
+      → reads L s ≡ refusal p → SameNamed L M p → reads M s ≡ refusal p
+  pub cured : (L M : ResourceLimits) → Raised L M → (s : Bytes) → Allows L s → Allows M s → (p : Refusal)
+      → reads L s ≡ refusal p → limited p ≡ true → Cured reads L M s p
+  pub mended : (L : ResourceLimits) (s : Bytes) → Allows L s → (p : Refusal) → reads L s ≡ refusal p → faulty p ≡ true
+      → Mended reads L s p
 
 -- ## From a reader to what begins with 21 and 22 and goes on with it
 mild-by : (L : ResourceLimits) (o : Read Loaded) → Mild o → MildOutcome (outcome L o)
@@ -77,9 +81,12 @@ shorter : (L : ResourceLimits) (s front rest : Bytes) → s ≡ front ++ rest �
 shorter L s front rest whole a = record { ceilings = a .ceilings; input = omega (arith, a .input, ap length whole, length-append front rest) }
 
 module _ (reads : ResourceLimits → Bytes → Outcome) (main : ResourceLimits → Reader Loaded) (by : (L : ResourceLimits) (s : Bytes) → Allows L s → reads L s ≡ outcome L (main L 0 s)) where
-  named-by : ((L M : ResourceLimits) → Raised L M → Stays L M (main L) (main M)) → ((L M : ResourceLimits) → Raised L M → Cures (main L) (main M)) → ((L : ResourceLimits) → Mends (main L)) → Named reads
+  named-by : ((L M : ResourceLimits) → Raised L M → Stays L M (main L) (main M))
+      → ((L M : ResourceLimits) → Raised L M → Cures (main L) (main M)) → ((L : ResourceLimits) → Mends (main L))
+      → Named reads
   named-by stay cure mend = record {
-    stays = λ L M wide s a b p e named. by M s b ∙ ap (outcome M) (stay L M wide .refuses 0 s p (by-refusal L p (main L 0 s) (sym (by L s a) ∙ e)) named);
+    stays =
+        λ L M wide s a b p e named. by M s b ∙ ap (outcome M) (stay L M wide .refuses 0 s p (by-refusal L p (main L 0 s) (sym (by L s a) ∙ e)) named);
     cured = λ L M wide s a b p e h.
         let c = cure L M wide .cured 0 s p (by-refusal L p (main L 0 s) (sym (by L s a) ∙ e)) h in
         record {
@@ -87,7 +94,8 @@ module _ (reads : ResourceLimits → Bytes → Outcome) (main : ResourceLimits �
           rest = c .rest;
           whole = c .whole;
           same = by L (c .front) (shorter L s (c .front) (c .rest) (c .whole) a) ∙ ap (outcome L) (c .same);
-          mild = subst MildOutcome (sym (by M (c .front) (shorter M s (c .front) (c .rest) (c .whole) b))) (mild-by M (main M 0 (c .front)) (c .mild));
+          mild =
+              subst MildOutcome (sym (by M (c .front) (shorter M s (c .front) (c .rest) (c .whole) b))) (mild-by M (main M 0 (c .front)) (c .mild));
         };
     mended = λ L s a p e h.
         let c = mend L .mended 0 s p (by-refusal L p (main L 0 s) (sym (by L s a) ∙ e)) h in
@@ -108,7 +116,8 @@ module _ (reads : ResourceLimits → Bytes → Outcome) (main : ResourceLimits �
 
 -- ## Both readings
 pub read-named : Named read
-read-named = named-by read main (λ L s a. by-main L (a .ceilings) s (a .input)) (λ L M wide. blames L M wide) (λ L M wide. limits-only L M wide) (λ L. mends L)
+read-named =
+    named-by read main (λ L s a. by-main L (a .ceilings) s (a .input)) (λ L M wide. blames L M wide) (λ L M wide. limits-only L M wide) (λ L. mends L)
 
 pub strict-named : Named strictRead
 strict-named = named-by strictRead strictMain (λ L s a. by-strictMain L (a .ceilings) s (a .input)) (λ L M wide. strict-blames L M wide) (λ L M wide. strict-limits-only L M wide) (λ L. strict-mends L)

@@ -35,7 +35,8 @@ use Rattle.demands.proofs.Fault.{Cures, Mild, NoFault}
 
 -- what an unknown tag is refused by
 abbrev pub faulted : ℕ → ℕ → ℕ → Refusal
-faulted limit place tag = cond (leb 128 tag) (cond (ltb (limit + 1) (tag % 128)) (q.StringBytes place) (q.ConstantTag place)) (q.ConstantTag place)
+faulted limit place tag =
+    cond (leb 128 tag) (cond (ltb (limit + 1) (tag % 128)) (q.StringBytes place) (q.ConstantTag place)) (q.ConstantTag place)
 
 abbrev pub taggedSo : ℕ → ℕ → ℕ → Reader (Unit {0})
 taggedSo limit place tag =
@@ -75,11 +76,13 @@ module _ (L : ResourceLimits) where
       (steady-pick (eqb tag 20) (steady-give _)
       (steady-refuse (faulted limit place tag) (fault-tested place tag))))))))
 
-  cause : (place tag : ℕ) (bytes : Bytes) → Field 1 place bytes tag → eqb tag 0 ≡ false → eqb tag 1 ≡ false → eqb tag 17 ≡ false → eqb tag 3 ≡ false → eqb tag 19 ≡ false → eqb tag 4 ≡ false → eqb tag 20 ≡ false
+  cause : (place tag : ℕ) (bytes : Bytes) → Field 1 place bytes tag → eqb tag 0 ≡ false → eqb tag 1 ≡ false
+      → eqb tag 17 ≡ false → eqb tag 3 ≡ false → eqb tag 19 ≡ false → eqb tag 4 ≡ false → eqb tag 20 ≡ false
       → Ends (causeBy ordinary L (faulted limit place tag)) place (bytes ++ [])
   cause place tag bytes d k0 k1 k17 k3 k19 k4 k20 = by (leb 128 tag) refl (ltb (limit + 1) (tag % 128)) refl
     where
-      by : (b : Bool) → leb 128 tag ≡ b → (c : Bool) → ltb (limit + 1) (tag % 128) ≡ c → Ends (causeBy ordinary L (cond b (cond c (q.StringBytes place) (q.ConstantTag place)) (q.ConstantTag place))) place (bytes ++ [])
+      by : (b : Bool) → leb 128 tag ≡ b → (c : Bool) → ltb (limit + 1) (tag % 128) ≡ c
+          → Ends (causeBy ordinary L (cond b (cond c (q.StringBytes place) (q.ConstantTag place)) (q.ConstantTag place))) place (bytes ++ [])
       by true t true u = record {
         before = [];
         spelling = tag ∷ [];
@@ -92,7 +95,8 @@ module _ (L : ResourceLimits) where
       by true t false u = no-tag place tag bytes d k0 k1 k17 k3 k19 k4 k20
       by false t c u = no-tag place tag bytes d k0 k1 k17 k3 k19 k4 k20
 
-  soon-so : (place tag : ℕ) (bytes : Bytes) → Field 1 place bytes tag → Soon ordinary L (λ p. Ends (causeBy ordinary L p) place (bytes ++ [])) (taggedSo limit place tag)
+  soon-so : (place tag : ℕ) (bytes : Bytes) → Field 1 place bytes tag
+      → Soon ordinary L (λ p. Ends (causeBy ordinary L p) place (bytes ++ [])) (taggedSo limit place tag)
   soon-so place tag bytes d =
       soon-pick (eqb tag 0) (soon-early (early-give _)) λ k0.
       soon-pick (eqb tag 1) (soon-early (early-give _)) λ k1.
@@ -148,13 +152,16 @@ module _ (L M : ResourceLimits) (wide : Raised L M) where
   stays-refuse : (p p′ : Refusal) → (SameNamed L M p → p ≡ p′) → Stays {A = Unit {0}} L M (refuse p) (refuse p′)
   stays-refuse p p′ held = record {
     accepts = λ at s x to rest e. absurd (let z : _≡_ {A = ℕ} 0 1 = cc in omega arith);
-    refuses = λ at s k e named. (let h : p ≡ k = cc in ap refused (sym (held (subst (SameNamed L M) (sym h) named)) ∙ h));
+    refuses =
+        λ at s k e named. (let h : p ≡ k = cc in ap refused (sym (held (subst (SameNamed L M) (sym h) named)) ∙ h));
   }
 
-  held : (place tag : ℕ) → SameNamed L M (faulted (L .«max_string_bytes») place tag) → faulted (L .«max_string_bytes») place tag ≡ faulted (M .«max_string_bytes») place tag
+  held : (place tag : ℕ) → SameNamed L M (faulted (L .«max_string_bytes») place tag)
+      → faulted (L .«max_string_bytes») place tag ≡ faulted (M .«max_string_bytes») place tag
   held place tag = by (leb 128 tag) (ltb (L .«max_string_bytes» + 1) (tag % 128)) refl
     where
-      by : (b c : Bool) → ltb (L .«max_string_bytes» + 1) (tag % 128) ≡ c → SameNamed L M (cond b (cond c (q.StringBytes place) (q.ConstantTag place)) (q.ConstantTag place))
+      by : (b c : Bool) → ltb (L .«max_string_bytes» + 1) (tag % 128) ≡ c
+          → SameNamed L M (cond b (cond c (q.StringBytes place) (q.ConstantTag place)) (q.ConstantTag place))
           → cond b (cond c (q.StringBytes place) (q.ConstantTag place)) (q.ConstantTag place) ≡ cond b (cond (ltb (M .«max_string_bytes» + 1) (tag % 128)) (q.StringBytes place) (q.ConstantTag place)) (q.ConstantTag place)
       by true true u k = let limits : L .«max_string_bytes» ≡ M .«max_string_bytes» = k (omega arith) (omega arith) in ap (λ t. cond t (q.StringBytes place) (q.ConstantTag place)) (sym u ∙ ap (λ l. ltb (l + 1) (tag % 128)) limits)
       by true false u k = let low = ltb-false (L .«max_string_bytes» + 1) (tag % 128) u in let high = wide .strings in ap (λ t. cond t (q.StringBytes place) (q.ConstantTag place)) (sym (le-ltb (M .«max_string_bytes» + 1) (tag % 128) (omega arith)))
@@ -186,9 +193,12 @@ strings n = record {
 }
 
 pub not-blaming : Cures (blaming (strings 3)) (blaming (strings 9)) → ⊥
-not-blaming cures = let c = cures .cured 0 (0x85 ∷ []) (q.StringBytes 0) refl refl in go (c .front) (c .rest) (c .whole) (c .same) (c .mild)
+not-blaming cures =
+    let c = cures .cured 0 (0x85 ∷ []) (q.StringBytes 0) refl refl in go (c .front) (c .rest) (c .whole) (c .same) (c .mild)
   where
-    go : (front rest : Bytes) → 0x85 ∷ [] ≡ front ++ rest → blaming (strings 3) 0 front ≡ refused (q.StringBytes 0) → Mild (blaming (strings 9) 0 front) → ⊥
+    go : (front rest : Bytes) → 0x85 ∷ [] ≡ front ++ rest → blaming (strings 3) 0 front ≡ refused (q.StringBytes 0)
+        → Mild (blaming (strings 9) 0 front) → ⊥
     go [] rest e s k = let z : _≡_ {A = ℕ} 0 1 = cc in omega arith
     go (a ∷ []) rest e s k = let is : a ≡ 0x85 = cc in let bad : NoFault (q.ConstantTag 0) = subst (λ a. Mild (blaming (strings 9) 0 (a ∷ []))) is k in let z : _≡_ {A = ℕ} 0 1 = cc in omega arith
-    go (a ∷ b ∷ front) rest e s k = let bad : length {A = ℕ} (0x85 ∷ []) ≡ length (a ∷ b ∷ (front ++ rest)) = ap length e in omega (arith, bad)
+    go (a ∷ b ∷ front) rest e s k =
+        let bad : length {A = ℕ} (0x85 ∷ []) ≡ length (a ∷ b ∷ (front ++ rest)) = ap length e in omega (arith, bad)

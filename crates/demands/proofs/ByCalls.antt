@@ -90,42 +90,58 @@ pub record TrailingShown (L : ResourceLimits) (chunk bytes : Bytes) : Type 0 whe
   pub else : ¬ Belongs L chunk → bytes ≡ []
 
 pub record FieldsShown (L : ResourceLimits) (chunk : Bytes) (f : ℕ) (r : FieldsAnswer) : Type 0 where
-  pub given : (b : Belongs L chunk) (p : Prototype) → getElem? (b .reading .functions) f ≡ some p → r ≡ fields-answer.Ok (fieldsOf p)
+  pub given : (b : Belongs L chunk) (p : Prototype) → getElem? (b .reading .functions) f ≡ some p
+      → r ≡ fields-answer.Ok (fieldsOf p)
   pub no-function : (b : Belongs L chunk) → getElem? (b .reading .functions) f ≡ none → r ≡ fields-answer.Err NoFunction
   pub else : ¬ Belongs L chunk → (q : Refusal) × (r ≡ fields-answer.Err q)
 
 -- entry i of a list of function f: `ok` of it, or `err` of a refusal
 pub record EntryShown {E X : Type 0} (list : Prototype → List E) (ok : E → X) (err : Refusal → X) (L : ResourceLimits) (chunk : Bytes) (f i : ℕ) (r : X) : Type 0 where
-  pub given : (b : Belongs L chunk) (p : Prototype) → getElem? (b .reading .functions) f ≡ some p → (x : E) → getElem? (list p) i ≡ some x → r ≡ ok x
-  pub no-entry : (b : Belongs L chunk) (p : Prototype) → getElem? (b .reading .functions) f ≡ some p → getElem? (list p) i ≡ none → r ≡ err NoEntry
+  pub given : (b : Belongs L chunk) (p : Prototype) → getElem? (b .reading .functions) f ≡ some p → (x : E)
+      → getElem? (list p) i ≡ some x → r ≡ ok x
+  pub no-entry : (b : Belongs L chunk) (p : Prototype) → getElem? (b .reading .functions) f ≡ some p
+      → getElem? (list p) i ≡ none → r ≡ err NoEntry
   pub no-function : (b : Belongs L chunk) → getElem? (b .reading .functions) f ≡ none → r ≡ err NoFunction
   pub else : ¬ Belongs L chunk → (q : Refusal) × (r ≡ err q)
 
 -- a local variable: its name in lent memory that held `old` and then holds `new`
 pub record LocalShown (L : ResourceLimits) (chunk : Bytes) (f i : ℕ) (old new : Bytes) (r : LocalAnswer) : Type 0 where
-  pub given : (b : Belongs L chunk) (p : Prototype) → getElem? (b .reading .functions) f ≡ some p → (l : LocalVar) → getElem? (p .loc-vars) i ≡ some l → length (l .name .bytes) ≤ length old
+  pub given : (b : Belongs L chunk) (p : Prototype) → getElem? (b .reading .functions) f ≡ some p → (l : LocalVar)
+      → getElem? (p .loc-vars) i ≡ some l → length (l .name .bytes) ≤ length old
       → (r ≡ local-answer.Ok (length (l .name .bytes)) (l .startpc) (l .endpc)) × (new ≡ l .name .bytes ++ drop (length (l .name .bytes)) old)
-  pub too-long : (b : Belongs L chunk) (p : Prototype) → getElem? (b .reading .functions) f ≡ some p → (l : LocalVar) → getElem? (p .loc-vars) i ≡ some l → length old < length (l .name .bytes)
+  pub too-long : (b : Belongs L chunk) (p : Prototype) → getElem? (b .reading .functions) f ≡ some p → (l : LocalVar)
+      → getElem? (p .loc-vars) i ≡ some l → length old < length (l .name .bytes)
       → (r ≡ local-answer.Err LentSpace) × (new ≡ old)
-  pub no-entry : (b : Belongs L chunk) (p : Prototype) → getElem? (b .reading .functions) f ≡ some p → getElem? (p .loc-vars) i ≡ none → (r ≡ local-answer.Err NoEntry) × (new ≡ old)
-  pub no-function : (b : Belongs L chunk) → getElem? (b .reading .functions) f ≡ none → (r ≡ local-answer.Err NoFunction) × (new ≡ old)
+  pub no-entry : (b : Belongs L chunk) (p : Prototype) → getElem? (b .reading .functions) f ≡ some p
+      → getElem? (p .loc-vars) i ≡ none → (r ≡ local-answer.Err NoEntry) × (new ≡ old)
+  pub no-function : (b : Belongs L chunk) → getElem? (b .reading .functions) f ≡ none
+      → (r ≡ local-answer.Err NoFunction) × (new ≡ old)
   pub else : ¬ Belongs L chunk → (q : Refusal) × ((r ≡ local-answer.Err q) × (new ≡ old))
 
 -- a string of function f, asked for by its place and the length of its bytes
 pub record StringShown (chunk : Bytes) (place len : ℕ) (bytes : Bytes) : Type 0 where
-  pub source : (L : ResourceLimits) (b : Belongs L chunk) (f : ℕ) (p : Prototype) → getElem? (b .reading .functions) f ≡ some p → (t : LuaString) → p .source-name ≡ some t
+  pub source : (L : ResourceLimits) (b : Belongs L chunk) (f : ℕ) (p : Prototype)
+      → getElem? (b .reading .functions) f ≡ some p → (t : LuaString) → p .source-name ≡ some t
       → place ≡ t .place → len ≡ length (t .bytes) → bytes ≡ t .bytes
-  pub short-constant : (L : ResourceLimits) (b : Belongs L chunk) (f : ℕ) (p : Prototype) → getElem? (b .reading .functions) f ≡ some p → (i : ℕ) (t : LuaString) → getElem? (p .constants) i ≡ some (short-string t)
+  pub short-constant : (L : ResourceLimits) (b : Belongs L chunk) (f : ℕ) (p : Prototype)
+      → getElem? (b .reading .functions) f ≡ some p → (i : ℕ) (t : LuaString)
+      → getElem? (p .constants) i ≡ some (short-string t)
       → place ≡ t .place → len ≡ length (t .bytes) → bytes ≡ t .bytes
-  pub long-constant : (L : ResourceLimits) (b : Belongs L chunk) (f : ℕ) (p : Prototype) → getElem? (b .reading .functions) f ≡ some p → (i : ℕ) (t : LuaString) → getElem? (p .constants) i ≡ some (long-string t)
+  pub long-constant : (L : ResourceLimits) (b : Belongs L chunk) (f : ℕ) (p : Prototype)
+      → getElem? (b .reading .functions) f ≡ some p → (i : ℕ) (t : LuaString)
+      → getElem? (p .constants) i ≡ some (long-string t)
       → place ≡ t .place → len ≡ length (t .bytes) → bytes ≡ t .bytes
-  pub upvalue-name : (L : ResourceLimits) (b : Belongs L chunk) (f : ℕ) (p : Prototype) → getElem? (b .reading .functions) f ≡ some p → (i : ℕ) (t : LuaString) → getElem? (p .upvalue-names) i ≡ some (some t)
+  pub upvalue-name : (L : ResourceLimits) (b : Belongs L chunk) (f : ℕ) (p : Prototype)
+      → getElem? (b .reading .functions) f ≡ some p → (i : ℕ) (t : LuaString)
+      → getElem? (p .upvalue-names) i ≡ some (some t)
       → place ≡ t .place → len ≡ length (t .bytes) → bytes ≡ t .bytes
 
 -- the archive copy, in lent memory that held `old` and then holds `new`
 pub record CopyShown (L : ResourceLimits) (chunk old new : Bytes) (r : CopyAnswer) : Type 0 where
-  pub given : (b : Belongs L chunk) → length (copy (b .reading)) ≤ length old → (r ≡ copy-answer.Ok (length (copy (b .reading)))) × (new ≡ copy (b .reading) ++ drop (length (copy (b .reading))) old)
-  pub too-long : (b : Belongs L chunk) → length old < length (copy (b .reading)) → (r ≡ copy-answer.Err LentSpace) × (new ≡ old)
+  pub given : (b : Belongs L chunk) → length (copy (b .reading)) ≤ length old
+      → (r ≡ copy-answer.Ok (length (copy (b .reading)))) × (new ≡ copy (b .reading) ++ drop (length (copy (b .reading))) old)
+  pub too-long : (b : Belongs L chunk) → length old < length (copy (b .reading))
+      → (r ≡ copy-answer.Err LentSpace) × (new ≡ old)
   pub else : ¬ Belongs L chunk → (q : Refusal) × ((r ≡ copy-answer.Err q) × (new ≡ old))
 
 -- ## From the contracts, by the laws of demand 3
@@ -147,25 +163,36 @@ module _ (L : ResourceLimits) (chunk : Bytes) where
   refusing : (out : ¬ Belongs L chunk) → Refuses L chunk (unread out .0)
   refusing out = let u = unread out in refuses L chunk (u .0) (u .1)
 
-  entry-shown : {E X : Type 0} (list : Prototype → List E) (ok : E → X) (err : Refusal → X) (answer : Asked E → X) → ((x : E) → answer (found x) ≡ ok x) → ((q : Refusal) → answer (refused q) ≡ err q)
+  entry-shown : {E X : Type 0} (list : Prototype → List E) (ok : E → X) (err : Refusal → X) (answer : Asked E → X)
+      → ((x : E) → answer (found x) ≡ ok x) → ((q : Refusal) → answer (refused q) ≡ err q)
       → (f i : ℕ) (r : X) → r ≡ answer (entryOf list f i (read L chunk)) → EntryShown list ok err L chunk f i r
   entry-shown list ok err answer on off f i r is = record {
-    given = λ b p there x here. is ∙ ap answer (entry-is L chunk (b .reading) (is-read b) f p there list i ∙ ap (orRefuse NoEntry) here) ∙ on x;
-    no-entry = λ b p there lacks. is ∙ ap answer (entry-is L chunk (b .reading) (is-read b) f p there list i ∙ ap (orRefuse NoEntry) lacks) ∙ off NoEntry;
-    no-function = λ b lacks. is ∙ ap (λ a. answer (entryIn list i a)) (ap (functionOf f) (is-read b) ∙ ap (orRefuse NoFunction) lacks) ∙ off NoFunction;
+    given =
+        λ b p there x here. is ∙ ap answer (entry-is L chunk (b .reading) (is-read b) f p there list i ∙ ap (orRefuse NoEntry) here) ∙ on x;
+    no-entry =
+        λ b p there lacks. is ∙ ap answer (entry-is L chunk (b .reading) (is-read b) f p there list i ∙ ap (orRefuse NoEntry) lacks) ∙ off NoEntry;
+    no-function =
+        λ b lacks. is ∙ ap (λ a. answer (entryIn list i a)) (ap (functionOf f) (is-read b) ∙ ap (orRefuse NoFunction) lacks) ∙ off NoFunction;
     else = λ out. let u = unread out in (u .0, is ∙ ap (λ o. answer (entryOf list f i o)) (u .1) ∙ off (u .0));
   }
 
 -- the bytes of a string that stands in the chunk
-strung : (chunk : Bytes) (place len : ℕ) (bytes : Bytes) → bytes ≡ take len (drop place chunk) → (t : LuaString) → Stands chunk t → place ≡ t .place → len ≡ length (t .bytes) → bytes ≡ t .bytes
-strung chunk place len bytes is t stands at long = is ∙ ap (λ n. take n (drop place chunk)) long ∙ ap (λ n. take (length (t .bytes)) (drop n chunk)) at ∙ stands .there
+strung : (chunk : Bytes) (place len : ℕ) (bytes : Bytes) → bytes ≡ take len (drop place chunk) → (t : LuaString)
+    → Stands chunk t → place ≡ t .place → len ≡ length (t .bytes) → bytes ≡ t .bytes
+strung chunk place len bytes is t stands at long =
+    is ∙ ap (λ n. take n (drop place chunk)) long ∙ ap (λ n. take (length (t .bytes)) (drop n chunk)) at ∙ stands .there
 
-string-told : (chunk : Bytes) (place len : ℕ) (bytes : Bytes) → bytes ≡ take len (drop place chunk) → StringShown chunk place len bytes
+string-told : (chunk : Bytes) (place len : ℕ) (bytes : Bytes) → bytes ≡ take len (drop place chunk)
+    → StringShown chunk place len bytes
 string-told chunk place len bytes is = record {
-  source = λ L b f p there t here. strung chunk place len bytes is t (subst (StandsIf chunk) here (shows L chunk b .function f p there .source-bytes));
-  short-constant = λ L b f p there i t here. strung chunk place len bytes is t (shows L chunk b .function f p there .constant-bytes i (short-string t) here);
-  long-constant = λ L b f p there i t here. strung chunk place len bytes is t (shows L chunk b .function f p there .constant-bytes i (long-string t) here);
-  upvalue-name = λ L b f p there i t here. strung chunk place len bytes is t (shows L chunk b .function f p there .upvalue-name-bytes i (some t) here);
+  source =
+      λ L b f p there t here. strung chunk place len bytes is t (subst (StandsIf chunk) here (shows L chunk b .function f p there .source-bytes));
+  short-constant =
+      λ L b f p there i t here. strung chunk place len bytes is t (shows L chunk b .function f p there .constant-bytes i (short-string t) here);
+  long-constant =
+      λ L b f p there i t here. strung chunk place len bytes is t (shows L chunk b .function f p there .constant-bytes i (long-string t) here);
+  upvalue-name =
+      λ L b f p there i t here. strung chunk place len bytes is t (shows L chunk b .function f p there .upvalue-name-bytes i (some t) here);
 }
 
 -- ## Read exactly when it belongs
@@ -283,8 +310,10 @@ local-shown M 𝓤 H 𝓜 𝓖 𝓡 =
       given = λ b p there l here room. (let x = shows (a .1 .0) (a .0 .now) b .function (a .1 .1 .0) p there .local (a .1 .1 .1 .0) l here old room in (is ∙ x .0, leaves ∙ x .1));
       too-long = λ b p there l here short. (let x = shows (a .1 .0) (a .0 .now) b .function (a .1 .1 .0) p there .local-too-long (a .1 .1 .1 .0) l here old short in (is ∙ x .0, leaves ∙ x .1));
       no-entry = λ b p there lacks. (let x = shows (a .1 .0) (a .0 .now) b .function (a .1 .1 .0) p there .no-local (a .1 .1 .1 .0) lacks old in (is ∙ x .0, leaves ∙ x .1));
-      no-function = λ b lacks. (let x = shows (a .1 .0) (a .0 .now) b .no-function (a .1 .1 .0) lacks .local (a .1 .1 .1 .0) old in (is ∙ x .0, leaves ∙ x .1));
-      else = λ out. (let x = refusing (a .1 .0) (a .0 .now) out .function (a .1 .1 .0) .local (a .1 .1 .1 .0) old in (_, (is ∙ x .0, leaves ∙ x .1)));
+      no-function =
+          λ b lacks. (let x = shows (a .1 .0) (a .0 .now) b .no-function (a .1 .1 .0) lacks .local (a .1 .1 .1 .0) old in (is ∙ x .0, leaves ∙ x .1));
+      else =
+          λ out. (let x = refusing (a .1 .0) (a .0 .now) out .function (a .1 .1 .0) .local (a .1 .1 .1 .0) old in (_, (is ∙ x .0, leaves ∙ x .1)));
     }))
     (local-call.Met.met 𝓤 H 𝓜 𝓖 𝓡)
 
@@ -315,7 +344,8 @@ written-copy M 𝓤 H 𝓜 𝓖 𝓡 =
     let old = a .1 .1 .0 .now in
     record {
       given = λ b room. (let x = shows (a .1 .0) (a .0 .now) b .copied old room in (is ∙ x .0, leaves ∙ x .1));
-      too-long = λ b short. (let x = shows (a .1 .0) (a .0 .now) b .copy-too-long old short in (is ∙ x .0, leaves ∙ x .1));
+      too-long =
+          λ b short. (let x = shows (a .1 .0) (a .0 .now) b .copy-too-long old short in (is ∙ x .0, leaves ∙ x .1));
       else = λ out. (let x = refusing (a .1 .0) (a .0 .now) out .copied old in (_, (is ∙ x .0, leaves ∙ x .1)));
     }))
     (copy-call.Met.met 𝓤 H 𝓜 𝓖 𝓡)

@@ -125,9 +125,11 @@ plain-field n = plain-then (plain-run n) λ bytes. plain-give _
 
 pub groups-few : (high at : ℕ) (s : Bytes) (p : Refusal) → groups high at s ≡ refused p → limited p ≡ false
 groups-few high at [] p e = few-is e (short-few (ltb (at + 1) (2 ^ 64)) at)
-groups-few high at (x ∷ s) p e = go (λ e. groups-few (high * 128 + x) (at + 1) s p e) (ltb high (2 ^ 57 - 1)) (ltb x 128) e
+groups-few high at (x ∷ s) p e =
+    go (λ e. groups-few (high * 128 + x) (at + 1) s p e) (ltb high (2 ^ 57 - 1)) (ltb x 128) e
   where
-    go : (groups (high * 128 + x) (at + 1) s ≡ refused p → limited p ≡ false) → (fits low : Bool) → cond fits (cond low (groups (high * 128 + x) (at + 1) s) (ok (high * 128 + x % 128) (at + 1) s)) (refused q.VarintOverflow) ≡ refused p → limited p ≡ false
+    go : (groups (high * 128 + x) (at + 1) s ≡ refused p → limited p ≡ false) → (fits low : Bool)
+        → cond fits (cond low (groups (high * 128 + x) (at + 1) s) (ok (high * 128 + x % 128) (at + 1) s)) (refused q.VarintOverflow) ≡ refused p → limited p ≡ false
     go on true true e = on e
     go on true false e = no e
     go on false low e = few-is {p = q.VarintOverflow} e refl
@@ -139,11 +141,14 @@ pub plain-many : {A : Type 0} {r : Reader A} (n : ℕ) → Plain r → Plain (ma
 plain-many zero one = plain-give []
 plain-many (suc n) one = plain-then one λ x. plain-then (plain-many n one) λ xs. plain-give _
 
-pub plain-expect : (bytes : Bytes) (over : ℕ → Refusal) → ((place : ℕ) → limited (over place) ≡ false) → Plain (expect bytes over)
-plain-expect bytes over h = plain-here λ place. plain-then (plain-run (length bytes)) λ b. plain-test (sameBytes b bytes) (over place) (h place)
+pub plain-expect : (bytes : Bytes) (over : ℕ → Refusal) → ((place : ℕ) → limited (over place) ≡ false)
+    → Plain (expect bytes over)
+plain-expect bytes over h =
+    plain-here λ place. plain-then (plain-run (length bytes)) λ b. plain-test (sameBytes b bytes) (over place) (h place)
 
 pub plain-before : Plain beforeFormat
-plain-before = plain-then (plain-expect signature q.Signature λ place. refl) λ _. plain-expect (0x54 ∷ []) q.Version λ place. refl
+plain-before =
+    plain-then (plain-expect signature q.Signature λ place. refl) λ _. plain-expect (0x54 ∷ []) q.Version λ place. refl
 
 pub plain-behind : Plain behindFormat
 plain-behind =
@@ -155,10 +160,12 @@ plain-behind =
     plain-expect luacNum q.LuacNum λ place. refl
 
 pub plain-header : Plain header
-plain-header = plain-then plain-before λ _. plain-here λ place. plain-then (plain-field 1) λ format. plain-then plain-behind λ _. plain-give _
+plain-header =
+    plain-then plain-before λ _. plain-here λ place. plain-then (plain-field 1) λ format. plain-then plain-behind λ _. plain-give _
 
 pub plain-upvalue : Plain upvalue
-plain-upvalue = plain-then (plain-field 1) λ instack. plain-then (plain-field 1) λ idx. plain-then (plain-field 1) λ kind. plain-give _
+plain-upvalue =
+    plain-then (plain-field 1) λ instack. plain-then (plain-field 1) λ idx. plain-then (plain-field 1) λ kind. plain-give _
 
 pub plain-anchor : Plain anchor
 plain-anchor = plain-then plain-number λ pc. plain-then plain-number λ line. plain-give _
@@ -241,7 +248,8 @@ pub bare-many : {A : Type 0} {r : Reader A} (n : ℕ) → Lacking r → Bare (ma
 bare-many zero one = bare-give []
 bare-many (suc n) one = bare-stops (lacking-then one _)
 
-pub bare-forest : (n : ℕ) {r : Where → Reader (List Prototype)} (w : Where) → ((w : Where) → Bare (r w)) → Bare (forest n r w)
+pub bare-forest : (n : ℕ) {r : Where → Reader (List Prototype)} (w : Where) → ((w : Where) → Bare (r w))
+    → Bare (forest n r w)
 bare-forest zero w one = bare-give []
 bare-forest (suc n) w one = bare-then (one w) λ ps. bare-then (bare-forest n (after ps w) one) λ more. bare-give _
 
@@ -263,24 +271,30 @@ module _ (M : ResourceLimits) where
 pub cures-plain : {A : Type 0} {r : Reader A} → Plain r → Cures r r
 cures-plain one = record { accepts = λ at s x to rest e. e; cured = λ at s p e h. clash h (one .few at s p e) }
 
-pub cures-here : {B : Type 0} {f f′ : ℕ → Reader B} → ((place : ℕ) → Cures (f place) (f′ place)) → Cures (here >>= f) (here >>= f′)
+pub cures-here : {B : Type 0} {f f′ : ℕ → Reader B} → ((place : ℕ) → Cures (f place) (f′ place))
+    → Cures (here >>= f) (here >>= f′)
 cures-here two = record {
   accepts = λ at s x to rest e. two at .accepts at s x to rest e;
-  cured = λ at s p e h. (let c = two at .cured at s p e h in record { front = c .front; rest = c .rest; whole = c .whole; same = c .same; mild = c .mild });
+  cured =
+      λ at s p e h. (let c = two at .cured at s p e h in record { front = c .front; rest = c .rest; whole = c .whole; same = c .same; mild = c .mild });
 }
 
-pub cures-then : {A B : Type 0} {r r′ : Reader A} {F : Form A} {f f′ : A → Reader B} → Exact r F → Cures r r′ → ((x : A) → Cures (f x) (f′ x)) → ((x : A) → Bare (f′ x)) → Cures (r >>= f) (r′ >>= f′)
+pub cures-then : {A B : Type 0} {r r′ : Reader A} {F : Form A} {f f′ : A → Reader B} → Exact r F → Cures r r′
+    → ((x : A) → Cures (f x) (f′ x)) → ((x : A) → Bare (f′ x)) → Cures (r >>= f) (r′ >>= f′)
 cures-then {A} {B} {r} {r′} {F} {f} {f′} exact one two bare = record { accepts = λ at s x to rest e. on at s x to rest (r at s) refl e; cured = λ at s p e h. off at s p h (r at s) refl e }
   where
-    on : (at : ℕ) (s : Bytes) (x : B) (to : ℕ) (rest : Bytes) (o : Read A) → r at s ≡ o → next o f ≡ ok x to rest → next (r′ at s) f′ ≡ ok x to rest
-    on at s x to rest (ok y mid u) is e = ap (λ o. next o f′) (one .accepts at s y mid u is) ∙ two y .accepts mid u x to rest e
+    on : (at : ℕ) (s : Bytes) (x : B) (to : ℕ) (rest : Bytes) (o : Read A) → r at s ≡ o → next o f ≡ ok x to rest
+        → next (r′ at s) f′ ≡ ok x to rest
+    on at s x to rest (ok y mid u) is e =
+        ap (λ o. next o f′) (one .accepts at s y mid u is) ∙ two y .accepts mid u x to rest e
     on at s x to rest (refused p) is e = never e
 
     behind : (o : Read A) → Mild o → Mild (next o f′)
     behind (ok y mid v) k = subst (λ (v : Bytes). Mild (f′ y mid v)) (sym k) (bare y .at-none mid)
     behind (refused p) k = k
 
-    off : (at : ℕ) (s : Bytes) (p : Refusal) → limited p ≡ true → (o : Read A) → r at s ≡ o → next o f ≡ refused p → Cut (r >>= f) (r′ >>= f′) at s p
+    off : (at : ℕ) (s : Bytes) (p : Refusal) → limited p ≡ true → (o : Read A) → r at s ≡ o → next o f ≡ refused p
+        → Cut (r >>= f) (r′ >>= f′) at s p
     off at s p h (ok y mid u) is e =
         let a = exact .sound is in
         let c = two y .cured mid u p e h in
@@ -296,17 +310,27 @@ cures-then {A} {B} {r} {r′} {F} {f} {f′} exact one two bare = record { accep
     off at s p h (refused p′) is e =
         let k : p′ ≡ p = was e in
         let c = one .cured at s p′ is (subst (λ p. limited p ≡ true) (sym k) h) in
-        record { front = c .front; rest = c .rest; whole = c .whole; same = ap (λ o. next o f) (c .same) ∙ ap refused k; mild = behind (r′ at (c .front)) (c .mild) }
+        record {
+          front =
+              c .front;
+          rest = c .rest;
+          whole = c .whole;
+          same = ap (λ o. next o f) (c .same) ∙ ap refused k;
+          mild = behind (r′ at (c .front)) (c .mild);
+        }
 
 -- behind a reader that meets no limit
-pub cures-plainly : {A B : Type 0} {r : Reader A} {F : Form A} {f f′ : A → Reader B} → Exact r F → Plain r → ((x : A) → Cures (f x) (f′ x)) → Cures (r >>= f) (r >>= f′)
+pub cures-plainly : {A B : Type 0} {r : Reader A} {F : Form A} {f f′ : A → Reader B} → Exact r F → Plain r
+    → ((x : A) → Cures (f x) (f′ x)) → Cures (r >>= f) (r >>= f′)
 cures-plainly {A} {B} {r} {F} {f} {f′} exact one two = record { accepts = λ at s x to rest e. on at s x to rest (r at s) refl e; cured = λ at s p e h. off at s p h (r at s) refl e }
   where
-    on : (at : ℕ) (s : Bytes) (x : B) (to : ℕ) (rest : Bytes) (o : Read A) → r at s ≡ o → next o f ≡ ok x to rest → next (r at s) f′ ≡ ok x to rest
+    on : (at : ℕ) (s : Bytes) (x : B) (to : ℕ) (rest : Bytes) (o : Read A) → r at s ≡ o → next o f ≡ ok x to rest
+        → next (r at s) f′ ≡ ok x to rest
     on at s x to rest (ok y mid u) is e = ap (λ o. next o f′) is ∙ two y .accepts mid u x to rest e
     on at s x to rest (refused p) is e = never e
 
-    off : (at : ℕ) (s : Bytes) (p : Refusal) → limited p ≡ true → (o : Read A) → r at s ≡ o → next o f ≡ refused p → Cut (r >>= f) (r >>= f′) at s p
+    off : (at : ℕ) (s : Bytes) (p : Refusal) → limited p ≡ true → (o : Read A) → r at s ≡ o → next o f ≡ refused p
+        → Cut (r >>= f) (r >>= f′) at s p
     off at s p h (ok y mid u) is e =
         let a = exact .sound is in
         let c = two y .cured mid u p e h in
@@ -320,22 +344,26 @@ cures-plainly {A} {B} {r} {F} {f} {f′} exact one two = record { accepts = λ a
         }
     off at s p h (refused p′) is e = clash h (subst (λ p. limited p ≡ false) (was e) (one .few at s p′ is))
 
-pub cures-pick : {A : Type 0} {r r′ s s′ : Reader A} (b : Bool) → Cures r r′ → Cures s s′ → Cures (cond b r s) (cond b r′ s′)
+pub cures-pick : {A : Type 0} {r r′ s s′ : Reader A} (b : Bool) → Cures r r′ → Cures s s′
+    → Cures (cond b r s) (cond b r′ s′)
 cures-pick true one two = one
 cures-pick false one two = two
 
 pub cures-atMost : (n m m′ : ℕ) (p : Refusal) → m ≤ m′ → limited p ≡ true → Cures (atMost n m p) (atMost n m′ p)
 cures-atMost n m m′ p low high = record { accepts = λ at s x to rest e. on at s x to rest (leb n m) refl e; cured = λ at s p′ e h. off at s p′ (leb n m) refl e }
   where
-    on : (at : ℕ) (s : Bytes) (x : Unit {0}) (to : ℕ) (rest : Bytes) (b : Bool) → leb n m ≡ b → test b p at s ≡ ok x to rest → atMost n m′ p at s ≡ ok x to rest
+    on : (at : ℕ) (s : Bytes) (x : Unit {0}) (to : ℕ) (rest : Bytes) (b : Bool) → leb n m ≡ b
+        → test b p at s ≡ ok x to rest → atMost n m′ p at s ≡ ok x to rest
     on at s x to rest true t e = let h = leb-true n m t in ap (λ b. test b p at s) (le-leb n m′ (omega arith)) ∙ e
     on at s x to rest false t e = never e
 
-    off : (at : ℕ) (s : Bytes) (p′ : Refusal) (b : Bool) → leb n m ≡ b → test b p at s ≡ refused p′ → Cut (atMost n m p) (atMost n m′ p) at s p′
+    off : (at : ℕ) (s : Bytes) (p′ : Refusal) (b : Bool) → leb n m ≡ b → test b p at s ≡ refused p′
+        → Cut (atMost n m p) (atMost n m′ p) at s p′
     off at s p′ true t e = absurd (let z : _≡_ {A = ℕ} 0 1 = cc in omega arith)
     off at s p′ false t e = record { front = []; rest = s; whole = refl; same = ap (λ b. test b p at []) t ∙ ap refused (was e); mild = bare-test (leb n m′) p high .at-none at }
 
-pub cures-many : {A : Type 0} {r r′ : Reader A} {F : Form A} (n : ℕ) → Exact r F → Cures r r′ → Lacking r′ → Cures (many n r) (many n r′)
+pub cures-many : {A : Type 0} {r r′ : Reader A} {F : Form A} (n : ℕ) → Exact r F → Cures r r′ → Lacking r′
+    → Cures (many n r) (many n r′)
 cures-many zero exact one lacks = cures-plain (plain-give [])
 cures-many (suc n) exact one lacks =
     cures-then exact one
@@ -360,7 +388,8 @@ module _ (L M : ResourceLimits) (wide : Raised L M) where
           (λ _. cures-plain (plain-here λ place. plain-then (plain-run n) λ bytes. plain-give _)) (λ _. bare-here λ place. bare-then (bare-run n) λ bytes. bare-give _)
 
   pub cures-always : (instead : Bytes) → Cures (always l instead) (always m instead)
-  cures-always instead = cures-then (exact-string l) cures-string (λ t. cures-plain (plain-here λ place. plain-give _)) (λ t. bare-here λ place. bare-give _)
+  cures-always instead =
+      cures-then (exact-string l) cures-string (λ t. cures-plain (plain-here λ place. plain-give _)) (λ t. bare-here λ place. bare-give _)
 
   pub cures-constant : Cures (constant l) (constant m)
   cures-constant = cures-here λ place. cures-plainly (exact-field 1) (plain-field 1) λ tag.
@@ -378,10 +407,13 @@ module _ (L M : ResourceLimits) (wide : Raised L M) where
   pub lacking-local : Lacking (local m)
   lacking-local = lacking-then (lacking-then (lacking-string m) _) _
 
-  pub cures-counted : {A : Type 0} {r r′ : Reader A} {F : Form A} → Exact r F → Cures r r′ → Lacking r′ → Cures (counted r) (counted r′)
+  pub cures-counted : {A : Type 0} {r r′ : Reader A} {F : Form A} → Exact r F → Cures r r′ → Lacking r′
+      → Cures (counted r) (counted r′)
   cures-counted exact one lacks = cures-plainly exact-number plain-number λ n. cures-here λ place. cures-then (exact-many n exact) (cures-many n exact one lacks) (λ items. cures-plain (plain-give _)) (λ items. bare-give _)
 
-  pub cures-countedUpTo : {A : Type 0} {r r′ : Reader A} {F : Form A} (low high : ℕ) (over : ℕ → Refusal) → low ≤ high → ((first : ℕ) → limited (over first) ≡ true) → Exact r F → Cures r r′ → Lacking r′ → Cures (countedUpTo low over r) (countedUpTo high over r′)
+  pub cures-countedUpTo : {A : Type 0} {r r′ : Reader A} {F : Form A} (low high : ℕ) (over : ℕ → Refusal) → low ≤ high
+      → ((first : ℕ) → limited (over first) ≡ true) → Exact r F → Cures r r′ → Lacking r′
+      → Cures (countedUpTo low over r) (countedUpTo high over r′)
   cures-countedUpTo low high over le h exact one lacks =
       cures-here λ first. cures-plainly exact-number plain-number λ n.
       cures-then (exact-atMost n low (over first)) (cures-atMost n low high (over first) le (h first))
@@ -389,14 +421,18 @@ module _ (L M : ResourceLimits) (wide : Raised L M) where
       (λ _. bare-here λ place. bare-then (bare-many n lacks) λ items. bare-give _)
 
   -- ## Functions
-  pub cures-forest : (n : ℕ) {r r′ : Where → Reader (List Prototype)} {F : Where → Form (List Prototype)} (w : Where) → ((w : Where) → Exact (r w) (F w)) → ((w : Where) → Cures (r w) (r′ w)) → ((w : Where) → Bare (r′ w)) → Cures (forest n r w) (forest n r′ w)
+  pub cures-forest : (n : ℕ) {r r′ : Where → Reader (List Prototype)} {F : Where → Form (List Prototype)} (w : Where)
+      → ((w : Where) → Exact (r w) (F w)) → ((w : Where) → Cures (r w) (r′ w)) → ((w : Where) → Bare (r′ w))
+      → Cures (forest n r w) (forest n r′ w)
   cures-forest zero w exact one bare = cures-plain (plain-give [])
   cures-forest (suc n) w exact one bare =
       cures-then (exact w) (one w)
       (λ ps. cures-then (exact-forest n (after ps w) exact) (cures-forest n (after ps w) exact one bare) (λ more. cures-plain (plain-give _)) (λ more. bare-give _))
       (λ ps. bare-then (bare-forest n (after ps w) bare) λ more. bare-give _)
 
-  pub cures-body : {r r′ : Where → Reader (List Prototype)} {F : Where → Form (List Prototype)} → ((w : Where) → Exact (r w) (F w)) → ((w : Where) → Cures (r w) (r′ w)) → ((w : Where) → Bare (r′ w)) → (w : Where) → Cures (body L r w) (body M r′ w)
+  pub cures-body : {r r′ : Where → Reader (List Prototype)} {F : Where → Form (List Prototype)}
+      → ((w : Where) → Exact (r w) (F w)) → ((w : Where) → Cures (r w) (r′ w)) → ((w : Where) → Bare (r′ w))
+      → (w : Where) → Cures (body L r w) (body M r′ w)
   unfolding body
   cures-body exact one bare w =
       cures-here λ start.
@@ -441,16 +477,19 @@ module _ (L M : ResourceLimits) (wide : Raised L M) where
   pub deeper : (left′ : ℕ) (w : Where) → Cures (enter L zero w) (enter M (suc left′) w)
   deeper left′ w = record {
     accepts = λ at s x to rest e. never {p = q.NestingDepth at} e;
-    cured = λ at s p e h. record { front = []; rest = s; whole = refl; same = e; mild = bare-enter M (suc left′) w .at-none at };
+    cured =
+        λ at s p e h. record { front = []; rest = s; whole = refl; same = e; mild = bare-enter M (suc left′) w .at-none at };
   }
 
   pub deepest : (w : Where) → Cures (enter L zero w) (enter M zero w)
   deepest w = record {
     accepts = λ at s x to rest e. never {p = q.NestingDepth at} e;
-    cured = λ at s p e h. record { front = []; rest = s; whole = refl; same = e; mild = bare-enter M zero w .at-none at };
+    cured =
+        λ at s p e h. record { front = []; rest = s; whole = refl; same = e; mild = bare-enter M zero w .at-none at };
   }
 
-  pub entered : (left left′ : ℕ) (w : Where) → Cures (function L left w) (function M left′ w) → Cures (enter L (suc left) w) (enter M (suc left′) w)
+  pub entered : (left left′ : ℕ) (w : Where) → Cures (function L left w) (function M left′ w)
+      → Cures (enter L (suc left) w) (enter M (suc left′) w)
   entered left left′ w one =
       cures-here λ place.
       cures-then (exact-atMost (w .number) (L .«max_total_prototypes») (q.TotalPrototypes place)) (cures-atMost (w .number) (L .«max_total_prototypes») (M .«max_total_prototypes») (q.TotalPrototypes place) (wide .functions) refl)
@@ -458,8 +497,10 @@ module _ (L M : ResourceLimits) (wide : Raised L M) where
 
   pub cures-function : (left left′ : ℕ) (w : Where) → left ≤ left′ → Cures (function L left w) (function M left′ w)
   unfolding function
-  cures-function zero zero w low = cures-body {r = enter L zero} {r′ = enter M zero} (λ w. exact-place λ place. exact-refuse _) deepest (bare-enter M zero) w
-  cures-function zero (suc left′) w low = cures-body {r = enter L zero} {r′ = enter M (suc left′)} (λ w. exact-place λ place. exact-refuse _) (deeper left′) (bare-enter M (suc left′)) w
+  cures-function zero zero w low =
+      cures-body {r = enter L zero} {r′ = enter M zero} (λ w. exact-place λ place. exact-refuse _) deepest (bare-enter M zero) w
+  cures-function zero (suc left′) w low =
+      cures-body {r = enter L zero} {r′ = enter M (suc left′)} (λ w. exact-place λ place. exact-refuse _) (deeper left′) (bare-enter M (suc left′)) w
   cures-function (suc left) zero w low = absurd (omega arith)
   cures-function (suc left) (suc left′) w low =
       cures-body {r = enter L (suc left)} {r′ = enter M (suc left′)}

@@ -23,18 +23,20 @@ use Rattle.format.specs.Form.{Bytes}
 use Rattle.format.specs.Limits.{withinCeilings}
 use Rattle.format.specs.Refusals.{reported}
 use Rattle.format.specs.GrammarFields.{LuaString}
-use Rattle.format.specs.Reading.{Prototype}
+use Rattle.format.specs.declared.entry.AbsLineInfo.{AbsLineInfo}
+use Rattle.format.specs.Reading.{ConstantValue, LocalVar, Prototype}
 use Rattle.format.specs.GrammarHeader.{Headed, signature, luacData, luacInt, luacNum, headerOf, formatWarnings}
-use Rattle.format.specs.GrammarChunk.{inherit, Where, after, within, Loaded}
+use Rattle.format.specs.GrammarChunk.{Listed, inherit, Where, after, within, Loaded}
 use Rattle.format.specs.Read.{Read, ok, refused, Reader, next, _>>=_, _>>_, give, here, refuse, test, atMost, piece, run, many}
 use Rattle.format.specs.ReadFields.{field, byte, groups, number, content, string}
 use Rattle.format.specs.ReadHeader.{sameBytes, expect, beforeFormat, behindFormat, header}
-use Rattle.format.specs.ReadChunk.{counted, countedUpTo, always, constant, upvalue, anchor, local, forest, body, function, main, Outcome, refusal, outcome, read}
-use Rattle.format_strict.specs.ReadStrict.{int, strictCounted, strictCountedUpTo, there, present, strictConstant, strictAnchor, strictLocal, strictBody, strictFunction, strictHeader, strictMain, strictRead}
+use Rattle.format.specs.ReadChunk.{always, constant, upvalue, anchor, local, forest, body, function, main, Outcome, refusal, outcome, read}
+use Rattle.format_strict.specs.ReadStrict.{int, there, present, strictConstant, strictAnchor, strictLocal, strictBody, strictFunction, strictHeader, strictMain, strictRead}
 use Rattle.demands.proofs.Early.{never, no, was}
 use Rattle.demands.proofs.AtOneByte.{enter}
 use Rattle.demands.proofs.Fault.{clash}
 use Rattle.demands.proofs.StrictBlame.{strictEnter}
+use Rattle.demands.proofs.Bodies.{bodyBy}
 
 abbrev pub fieldPlace : ℕ → ℕ
 fieldPlace n =
@@ -161,7 +163,61 @@ module _ (L : ResourceLimits) where
   abbrev limit : ℕ
   limit = L .«max_string_bytes»
 
-  -- ## Functions of the ordinary reading
+  -- ## Functions of both readings (Bodies.antt)
+  module _ (num : Reader ℕ) (con : Reader ConstantValue) (anc : Reader AbsLineInfo) (loc : Reader LocalVar)
+      (one-num : Shuns num) (one-con : Shuns con) (one-anc : Shuns anc) (one-loc : Shuns loc) where
+    shuns-listed : {A : Type 0} {r : Reader A} → Shuns r
+        → Shuns (num >>= λ k. here >>= λ place. many k r >>= λ items. give {A = Listed A} (record { place = place; items = items }))
+    shuns-listed one = shuns-then one-num λ k. shuns-here λ place. shuns-then (shuns-many k one) λ items. shuns-give _
+
+    shuns-listedUpTo : {A : Type 0} {r : Reader A} (most : ℕ) (over : ℕ → Refusal)
+        → ((first : ℕ) → ofHeader (over first) ≡ false) → Shuns r
+        → Shuns (here >>= λ first. num >>= λ k. atMost k most (over first) >>= λ _. here >>= λ place. many k r >>= λ items. give {A = Listed A} (record { place = place; items = items }))
+    shuns-listedUpTo most over h one =
+        shuns-here λ first. shuns-then one-num λ k. shuns-then (shuns-test (leb k most) (over first) (h first)) λ _.
+        shuns-here λ place. shuns-then (shuns-many k one) λ items. shuns-give _
+
+    shuns-body : {r : Where → Reader (List Prototype)} → ((w : Where) → Shuns (r w)) → (w : Where)
+        → Shuns (bodyBy num con anc loc L r w)
+    shuns-body one w =
+        shuns-here λ start.
+        shuns-then (shuns-string limit) λ spelt.
+        shuns-then one-num λ line-defined.
+        shuns-then one-num λ last-line-defined.
+        shuns-then (shuns-field 1) λ numparams.
+        shuns-then (shuns-field 1) λ is-vararg.
+        shuns-then (shuns-field 1) λ maxstacksize.
+        shuns-here λ first.
+        shuns-then one-num λ size.
+        shuns-then (shuns-test (leb size (L .«max_instructions_per_proto»)) (q.Instructions first) refl) λ _.
+        shuns-then (shuns-test (leb (w .instructions + size) (L .«max_total_instructions»)) (q.TotalInstructions first) refl) λ _.
+        shuns-here λ instructions-at.
+        shuns-then (shuns-many size (shuns-field 4)) λ instructions.
+        shuns-then (shuns-listedUpTo (L .«max_constants_per_proto») q.Constants (λ first. refl) one-con) λ constants.
+        shuns-then (shuns-listedUpTo (L .«max_upvalues_per_proto») q.Upvalues (λ first. refl) shuns-upvalue) λ upvalues.
+        shuns-here λ first.
+        shuns-then one-num λ protos.
+        shuns-then (shuns-test (leb protos (L .«max_total_prototypes»)) (q.Prototypes first) refl) λ _.
+        shuns-here λ protos-at.
+        shuns-then (shuns-forest protos (within w (inherit spelt (w .source)) (length instructions)) one) λ nested.
+        shuns-then one-num λ line-info-size.
+        shuns-here λ line-info-at.
+        shuns-then (shuns-run line-info-size) λ line-info.
+        shuns-then (shuns-listed one-anc) λ abs-line-info.
+        shuns-then (shuns-listed one-loc) λ loc-vars.
+        shuns-then (shuns-listed (shuns-string limit)) λ upvalue-names.
+        shuns-here λ end.
+        shuns-give _
+
+  shuns-entered : (w : Where) {r : Reader (List Prototype)} → Shuns r
+      → Shuns (here >>= λ place. atMost (w .number) (L .«max_total_prototypes») (q.TotalPrototypes place) >>= λ _. r)
+  shuns-entered w one =
+      shuns-here λ place. shuns-then (shuns-test (leb (w .number) (L .«max_total_prototypes»)) (q.TotalPrototypes place) refl) λ _. one
+
+  shuns-deepest : {A : Type 0} → Shuns {A = A} (here >>= λ place. refuse (q.NestingDepth place))
+  shuns-deepest = shuns-here λ place. shuns-refuse (q.NestingDepth place) refl
+
+  -- ## The ordinary reading
   shuns-local : Shuns (local limit)
   shuns-local =
       shuns-then (shuns-always limit (63 ∷ [])) λ name. shuns-then shuns-number λ startpc. shuns-then shuns-number λ endpc. shuns-give _
@@ -169,55 +225,12 @@ module _ (L : ResourceLimits) where
   shuns-anchor : Shuns anchor
   shuns-anchor = shuns-then shuns-number λ pc. shuns-then shuns-number λ line. shuns-give _
 
-  shuns-counted : {A : Type 0} {r : Reader A} → Shuns r → Shuns (counted r)
-  shuns-counted one =
-      shuns-then shuns-number λ n. shuns-here λ place. shuns-then (shuns-many n one) λ items. shuns-give _
-
-  shuns-countedUpTo : {A : Type 0} {r : Reader A} (most : ℕ) (over : ℕ → Refusal)
-      → ((first : ℕ) → ofHeader (over first) ≡ false) → Shuns r → Shuns (countedUpTo most over r)
-  shuns-countedUpTo most over h one =
-      shuns-here λ first. shuns-then shuns-number λ n. shuns-then (shuns-test (leb n most) (over first) (h first)) λ _. shuns-here λ place. shuns-then (shuns-many n one) λ items. shuns-give _
-
-  shuns-body : {r : Where → Reader (List Prototype)} → ((w : Where) → Shuns (r w)) → (w : Where) → Shuns (body L r w)
-  unfolding body
-  shuns-body one w =
-      shuns-here λ start.
-      shuns-then (shuns-string limit) λ spelt.
-      shuns-then shuns-number λ line-defined.
-      shuns-then shuns-number λ last-line-defined.
-      shuns-then (shuns-field 1) λ numparams.
-      shuns-then (shuns-field 1) λ is-vararg.
-      shuns-then (shuns-field 1) λ maxstacksize.
-      shuns-here λ first.
-      shuns-then shuns-number λ size.
-      shuns-then (shuns-test (leb size (L .«max_instructions_per_proto»)) (q.Instructions first) refl) λ _.
-      shuns-then (shuns-test (leb (w .instructions + size) (L .«max_total_instructions»)) (q.TotalInstructions first) refl) λ _.
-      shuns-here λ instructions-at.
-      shuns-then (shuns-many size (shuns-field 4)) λ instructions.
-      shuns-then (shuns-countedUpTo (L .«max_constants_per_proto») q.Constants (λ first. refl) (shuns-constant limit)) λ constants.
-      shuns-then (shuns-countedUpTo (L .«max_upvalues_per_proto») q.Upvalues (λ first. refl) shuns-upvalue) λ upvalues.
-      shuns-here λ first.
-      shuns-then shuns-number λ protos.
-      shuns-then (shuns-test (leb protos (L .«max_total_prototypes»)) (q.Prototypes first) refl) λ _.
-      shuns-here λ protos-at.
-      shuns-then (shuns-forest protos (within w (inherit spelt (w .source)) (length instructions)) one) λ nested.
-      shuns-then shuns-number λ line-info-size.
-      shuns-here λ line-info-at.
-      shuns-then (shuns-run line-info-size) λ line-info.
-      shuns-then (shuns-counted shuns-anchor) λ abs-line-info.
-      shuns-then (shuns-counted shuns-local) λ loc-vars.
-      shuns-then (shuns-counted (shuns-string limit)) λ upvalue-names.
-      shuns-here λ end.
-      shuns-give _
-
   shuns-function : (left : ℕ) (w : Where) → Shuns (function L left w)
-  unfolding function
-  shuns-function zero w =
-      shuns-body {r = enter L zero} (λ w. shuns-here λ place. shuns-refuse (q.NestingDepth place) refl) w
-  shuns-function (suc left) w =
-      shuns-body {r = enter L (suc left)} (λ w. shuns-here λ place. shuns-then (shuns-test (leb (w .number) (L .«max_total_prototypes»)) (q.TotalPrototypes place) refl) λ _. shuns-function left w) w
+  unfolding function body
+  shuns-function zero w = shuns-body number (constant limit) anchor (local limit) shuns-number (shuns-constant limit) shuns-anchor shuns-local {r = enter L zero} (λ w. shuns-deepest) w
+  shuns-function (suc left) w = shuns-body number (constant limit) anchor (local limit) shuns-number (shuns-constant limit) shuns-anchor shuns-local {r = enter L (suc left)} (λ w. shuns-entered w (shuns-function left w)) w
 
-  -- ## Functions of the stricter reading
+  -- ## The stricter reading
   shuns-int : Shuns int
   shuns-int =
       shuns-here λ first. shuns-then shuns-number λ n. shuns-then (shuns-test (ltb n (2 ^ 31 - 128)) (q.IntOverflow first) refl) λ _. shuns-give _
@@ -240,54 +253,10 @@ module _ (L : ResourceLimits) where
   shuns-strictLocal =
       shuns-then (shuns-always limit (63 ∷ [])) λ name. shuns-then shuns-int λ startpc. shuns-then shuns-int λ endpc. shuns-give _
 
-  shuns-strictCounted : {A : Type 0} {r : Reader A} → Shuns r → Shuns (strictCounted r)
-  shuns-strictCounted one =
-      shuns-then shuns-int λ n. shuns-here λ place. shuns-then (shuns-many n one) λ items. shuns-give _
-
-  shuns-strictCountedUpTo : {A : Type 0} {r : Reader A} (most : ℕ) (over : ℕ → Refusal)
-      → ((first : ℕ) → ofHeader (over first) ≡ false) → Shuns r → Shuns (strictCountedUpTo most over r)
-  shuns-strictCountedUpTo most over h one =
-      shuns-here λ first. shuns-then shuns-int λ n. shuns-then (shuns-test (leb n most) (over first) (h first)) λ _. shuns-here λ place. shuns-then (shuns-many n one) λ items. shuns-give _
-
-  shuns-strictBody : {r : Where → Reader (List Prototype)} → ((w : Where) → Shuns (r w)) → (w : Where)
-      → Shuns (strictBody L r w)
-  unfolding strictBody
-  shuns-strictBody one w =
-      shuns-here λ start.
-      shuns-then (shuns-string limit) λ spelt.
-      shuns-then shuns-int λ line-defined.
-      shuns-then shuns-int λ last-line-defined.
-      shuns-then (shuns-field 1) λ numparams.
-      shuns-then (shuns-field 1) λ is-vararg.
-      shuns-then (shuns-field 1) λ maxstacksize.
-      shuns-here λ first.
-      shuns-then shuns-int λ size.
-      shuns-then (shuns-test (leb size (L .«max_instructions_per_proto»)) (q.Instructions first) refl) λ _.
-      shuns-then (shuns-test (leb (w .instructions + size) (L .«max_total_instructions»)) (q.TotalInstructions first) refl) λ _.
-      shuns-here λ instructions-at.
-      shuns-then (shuns-many size (shuns-field 4)) λ instructions.
-      shuns-then (shuns-strictCountedUpTo (L .«max_constants_per_proto») q.Constants (λ first. refl) shuns-strictConstant) λ constants.
-      shuns-then (shuns-strictCountedUpTo (L .«max_upvalues_per_proto») q.Upvalues (λ first. refl) shuns-upvalue) λ upvalues.
-      shuns-here λ first.
-      shuns-then shuns-int λ protos.
-      shuns-then (shuns-test (leb protos (L .«max_total_prototypes»)) (q.Prototypes first) refl) λ _.
-      shuns-here λ protos-at.
-      shuns-then (shuns-forest protos (within w (inherit spelt (w .source)) (length instructions)) one) λ nested.
-      shuns-then shuns-int λ line-info-size.
-      shuns-here λ line-info-at.
-      shuns-then (shuns-run line-info-size) λ line-info.
-      shuns-then (shuns-strictCounted shuns-strictAnchor) λ abs-line-info.
-      shuns-then (shuns-strictCounted shuns-strictLocal) λ loc-vars.
-      shuns-then (shuns-strictCounted (shuns-string limit)) λ upvalue-names.
-      shuns-here λ end.
-      shuns-give _
-
   shuns-strictFunction : (left : ℕ) (w : Where) → Shuns (strictFunction L left w)
-  unfolding strictFunction
-  shuns-strictFunction zero w =
-      shuns-strictBody {r = strictEnter L zero} (λ w. shuns-here λ place. shuns-refuse (q.NestingDepth place) refl) w
-  shuns-strictFunction (suc left) w =
-      shuns-strictBody {r = strictEnter L (suc left)} (λ w. shuns-here λ place. shuns-then (shuns-test (leb (w .number) (L .«max_total_prototypes»)) (q.TotalPrototypes place) refl) λ _. shuns-strictFunction left w) w
+  unfolding strictFunction strictBody
+  shuns-strictFunction zero w = shuns-body int (strictConstant limit) strictAnchor (strictLocal limit) shuns-int shuns-strictConstant shuns-strictAnchor shuns-strictLocal {r = strictEnter L zero} (λ w. shuns-deepest) w
+  shuns-strictFunction (suc left) w = shuns-body int (strictConstant limit) strictAnchor (strictLocal limit) shuns-int shuns-strictConstant shuns-strictAnchor shuns-strictLocal {r = strictEnter L (suc left)} (λ w. shuns-entered w (shuns-strictFunction left w)) w
 
 -- ## The header
 record Placed {A : Type 0} (start behind : ℕ) (r : Reader A) : Type 0 where

@@ -61,5 +61,6 @@ pub mod Mends
 pub mod StrictMends
 pub mod Misfielded
 pub mod Blamed
+pub mod Bodies
 pub mod HeaderPlaces
 pub mod Ample

@@ -96,7 +96,8 @@ outside-test false p h = outside-refuse p h
 pub outside-here : {B : Type 0} {f : ℕ → Reader B} → ((place : ℕ) → Outside (f place)) → Outside (here >>= f)
 outside-here two = record { never = λ at s p e lo. two at .never at s p e lo }
 
-pub outside-then : {A B : Type 0} {r : Reader A} {f : A → Reader B} → Outside r → ((x : A) → Outside (f x)) → Outside (r >>= f)
+pub outside-then : {A B : Type 0} {r : Reader A} {f : A → Reader B} → Outside r → ((x : A) → Outside (f x))
+    → Outside (r >>= f)
 outside-then {A} {B} {r} {f} one two = record { never = λ at s p e lo. go at s p lo (r at s) refl e }
   where
     go : (at : ℕ) (s : Bytes) (p : Refusal) → faulty p ≡ true → (o : Read A) → r at s ≡ o → next o f ≡ refused p → ⊥
@@ -122,14 +123,17 @@ outside-many zero one = outside-give []
 outside-many (suc n) one = outside-then one λ x. outside-then (outside-many n one) λ xs. outside-give _
 
 pub outside-upvalue : Outside upvalue
-outside-upvalue = outside-then (outside-field 1) λ instack. outside-then (outside-field 1) λ idx. outside-then (outside-field 1) λ kind. outside-give _
+outside-upvalue =
+    outside-then (outside-field 1) λ instack. outside-then (outside-field 1) λ idx. outside-then (outside-field 1) λ kind. outside-give _
 
 -- ## Ways to make a reader
 pub mends-here : {B : Type 0} {f : ℕ → Reader B} → ((place : ℕ) → Mends (f place)) → Mends (here >>= f)
 mends-here two = record { mended = λ at s p e lo. (let c = two at .mended at s p e lo in record { before = c .before; wrong = c .wrong; rest = c .rest; whole = c .whole; same = c .same; begins = c .begins; mild = c .mild }) }
 
 -- behind what was read
-pub prefix : {A B : Type 0} {r : Reader A} {F : Form A} (f : A → Reader B) → Exact r F → (at : ℕ) (s : Bytes) (y : A) (mid : ℕ) (u : Bytes) (p : Refusal) → r at s ≡ ok y mid u → Mend (f y) mid u p → Mend (r >>= f) at s p
+pub prefix : {A B : Type 0} {r : Reader A} {F : Form A} (f : A → Reader B) → Exact r F
+    → (at : ℕ) (s : Bytes) (y : A) (mid : ℕ) (u : Bytes) (p : Refusal) → r at s ≡ ok y mid u → Mend (f y) mid u p
+    → Mend (r >>= f) at s p
 prefix {A} {B} {r} f exact at s y mid u p is c =
     let a = exact .sound is in
     let n = right (reported p .number) in
@@ -140,30 +144,36 @@ prefix {A} {B} {r} f exact at s y mid u p is c =
       before = a .bytes ++ c .before;
       wrong = c .wrong;
       rest = c .rest;
-      whole = a .whole ∙ ap (λ b. a .bytes ++ b) (c .whole) ∙ sym (append-assoc (a .bytes) (c .before) (c .wrong ++ c .rest));
-      same = ap (λ b. next (r at b) f) (append-assoc (a .bytes) (c .before) (c .wrong)) ∙ ap (λ o. next o f) (on (c .before ++ c .wrong)) ∙ c .same;
+      whole =
+          a .whole ∙ ap (λ b. a .bytes ++ b) (c .whole) ∙ sym (append-assoc (a .bytes) (c .before) (c .wrong ++ c .rest));
+      same =
+          ap (λ b. next (r at b) f) (append-assoc (a .bytes) (c .before) (c .wrong)) ∙ ap (λ o. next o f) (on (c .before ++ c .wrong)) ∙ c .same;
       begins = begins-on (reported p .place) (omega arith) (c .begins);
       mild = subst (λ (b : Bytes). Mild (next (r at b) f)) (sym (append-assoc (a .bytes) (c .before) n)) (subst (λ (o : Read A). Mild (next o f)) (sym (on (c .before ++ n))) (c .mild));
     }
 
-pub mends-then : {A B : Type 0} {r : Reader A} {F : Form A} {f : A → Reader B} → Exact r F → Mends r → ((x : A) → Mends (f x)) → ((x : A) → Bare (f x)) → Mends (r >>= f)
+pub mends-then : {A B : Type 0} {r : Reader A} {F : Form A} {f : A → Reader B} → Exact r F → Mends r
+    → ((x : A) → Mends (f x)) → ((x : A) → Bare (f x)) → Mends (r >>= f)
 mends-then {A} {B} {r} {F} {f} exact one two bare = record { mended = λ at s p e lo. go at s p lo (r at s) refl e }
   where
     behind : (o : Read A) → Mild o → Mild (next o f)
     behind (ok y mid v) k = subst (λ (v : Bytes). Mild (f y mid v)) (sym k) (bare y .at-none mid)
     behind (refused p) k = k
 
-    go : (at : ℕ) (s : Bytes) (p : Refusal) → faulty p ≡ true → (o : Read A) → r at s ≡ o → next o f ≡ refused p → Mend (r >>= f) at s p
+    go : (at : ℕ) (s : Bytes) (p : Refusal) → faulty p ≡ true → (o : Read A) → r at s ≡ o → next o f ≡ refused p
+        → Mend (r >>= f) at s p
     go at s p lo (ok y mid u) is e = prefix f exact at s y mid u p is (two y .mended mid u p e lo)
     go at s p lo (refused p′) is e =
         let c = one .mended at s p (is ∙ ap refused (was e)) lo in
         record { before = c .before; wrong = c .wrong; rest = c .rest; whole = c .whole; same = ap (λ o. next o f) (c .same); begins = c .begins; mild = behind (r at (c .before ++ right (reported p .number))) (c .mild) }
 
 -- behind a reader that never refuses so
-pub mends-behind : {A B : Type 0} {r : Reader A} {F : Form A} {f : A → Reader B} → Exact r F → Outside r → ((x : A) → Mends (f x)) → Mends (r >>= f)
+pub mends-behind : {A B : Type 0} {r : Reader A} {F : Form A} {f : A → Reader B} → Exact r F → Outside r
+    → ((x : A) → Mends (f x)) → Mends (r >>= f)
 mends-behind {A} {B} {r} {F} {f} exact one two = record { mended = λ at s p e lo. go at s p lo (r at s) refl e }
   where
-    go : (at : ℕ) (s : Bytes) (p : Refusal) → faulty p ≡ true → (o : Read A) → r at s ≡ o → next o f ≡ refused p → Mend (r >>= f) at s p
+    go : (at : ℕ) (s : Bytes) (p : Refusal) → faulty p ≡ true → (o : Read A) → r at s ≡ o → next o f ≡ refused p
+        → Mend (r >>= f) at s p
     go at s p lo (ok y mid u) is e = prefix f exact at s y mid u p is (two y .mended mid u p e lo)
     go at s p lo (refused p′) is e = absurd (one .never at s p (is ∙ ap refused (was e)) lo)
 
@@ -178,7 +188,9 @@ mends-many (suc n) exact one lacks =
     (λ x. bare-then (bare-many n lacks) λ xs. bare-give _)
 
 -- ## The header's fields
-pub mends-expect : (bytes : Bytes) (over : ℕ → Refusal) → ((place : ℕ) → right (reported (over place) .number) ≡ bytes) → ((place : ℕ) → Begins (reported (over place) .place) (place + 0)) → Mends (expect bytes over)
+pub mends-expect : (bytes : Bytes) (over : ℕ → Refusal)
+    → ((place : ℕ) → right (reported (over place) .number) ≡ bytes)
+    → ((place : ℕ) → Begins (reported (over place) .place) (place + 0)) → Mends (expect bytes over)
 mends-expect bytes over is-right placed = record { mended = λ at s p e lo. go at s p lo (run (length bytes) at s) refl e }
   where
     passes : (at : ℕ) → expect bytes over at bytes ≡ ok tt (at + length bytes) []
@@ -187,7 +199,9 @@ mends-expect bytes over is-right placed = record { mended = λ at s p e lo. go a
     right-mild : (at : ℕ) → Mild (expect bytes over at bytes)
     right-mild at = subst (λ (o : Read (Unit {0})). Mild o) (sym (passes at)) refl
 
-    wrongly : (at : ℕ) (s : Bytes) (p : Refusal) (b : Bytes) (mid : ℕ) (u : Bytes) → run (length bytes) at s ≡ ok b mid u → (t : Bool) → sameBytes b bytes ≡ t → test t (over at) mid u ≡ refused p → Mend (expect bytes over) at s p
+    wrongly : (at : ℕ) (s : Bytes) (p : Refusal) (b : Bytes) (mid : ℕ) (u : Bytes)
+        → run (length bytes) at s ≡ ok b mid u → (t : Bool) → sameBytes b bytes ≡ t
+        → test t (over at) mid u ≡ refused p → Mend (expect bytes over) at s p
     wrongly at s p b mid u is true t e = no e
     wrongly at s p b mid u is false t e =
         let k : over at ≡ p = was e in
@@ -198,12 +212,14 @@ mends-expect bytes over is-right placed = record { mended = λ at s p e lo. go a
           wrong = a .bytes;
           rest = u;
           whole = a .whole;
-          same = ap (λ o. next o (λ b. test (sameBytes b bytes) (over at))) there ∙ ap (λ t. test t (over at) mid []) t ∙ ap refused k;
+          same =
+              ap (λ o. next o (λ b. test (sameBytes b bytes) (over at))) there ∙ ap (λ t. test t (over at) mid []) t ∙ ap refused k;
           begins = subst (λ p. Begins (reported p .place) (at + 0)) k (placed at);
           mild = subst (λ p. Mild (expect bytes over at (right (reported p .number)))) k (subst (λ (b : Bytes). Mild (expect bytes over at b)) (sym (is-right at)) (right-mild at));
         }
 
-    go : (at : ℕ) (s : Bytes) (p : Refusal) → faulty p ≡ true → (o : Read Bytes) → run (length bytes) at s ≡ o → next o (λ b. test (sameBytes b bytes) (over at)) ≡ refused p → Mend (expect bytes over) at s p
+    go : (at : ℕ) (s : Bytes) (p : Refusal) → faulty p ≡ true → (o : Read Bytes) → run (length bytes) at s ≡ o
+        → next o (λ b. test (sameBytes b bytes) (over at)) ≡ refused p → Mend (expect bytes over) at s p
     go at s p lo (ok b mid u) is e = wrongly at s p b mid u is (sameBytes b bytes) refl e
     go at s p lo (refused p′) is e = absurd (outside-run (length bytes) .never at s p (is ∙ ap refused (was e)) lo)
 
@@ -236,11 +252,14 @@ mends-header =
     (λ _. bare-here λ place. bare-stops (lacking-then lacking-byte _))
 
 -- ## Numbers
-pub groups-which : (high at : ℕ) (s : Bytes) (p : Refusal) → groups high at s ≡ refused p → faulty p ≡ true → q.VarintOverflow ≡ p
+pub groups-which : (high at : ℕ) (s : Bytes) (p : Refusal) → groups high at s ≡ refused p → faulty p ≡ true
+    → q.VarintOverflow ≡ p
 groups-which high at [] p e lo = clash lo (subst (λ p. faulty p ≡ false) (was e) (short-low (ltb (at + 1) (2 ^ 64)) at))
-groups-which high at (x ∷ s) p e lo = go (λ e. groups-which (high * 128 + x) (at + 1) s p e lo) (ltb high (2 ^ 57 - 1)) (ltb x 128) e
+groups-which high at (x ∷ s) p e lo =
+    go (λ e. groups-which (high * 128 + x) (at + 1) s p e lo) (ltb high (2 ^ 57 - 1)) (ltb x 128) e
   where
-    go : (groups (high * 128 + x) (at + 1) s ≡ refused p → q.VarintOverflow ≡ p) → (fits low : Bool) → cond fits (cond low (groups (high * 128 + x) (at + 1) s) (ok (high * 128 + x % 128) (at + 1) s)) (refused q.VarintOverflow) ≡ refused p → q.VarintOverflow ≡ p
+    go : (groups (high * 128 + x) (at + 1) s ≡ refused p → q.VarintOverflow ≡ p) → (fits low : Bool)
+        → cond fits (cond low (groups (high * 128 + x) (at + 1) s) (ok (high * 128 + x % 128) (at + 1) s)) (refused q.VarintOverflow) ≡ refused p → q.VarintOverflow ≡ p
     go on true true e = on e
     go on true false e = no e
     go on false low e = was e
@@ -275,10 +294,12 @@ module _ (L : ResourceLimits) where
 
       bare : (first size : ℕ) → Bare (content limit first size)
       bare first zero = bare-give _
-      bare first (suc n) = bare-then (bare-test (leb n limit) (q.StringBytes first) refl) λ _. bare-here λ place. bare-then (bare-run n) λ bytes. bare-give _
+      bare first (suc n) =
+          bare-then (bare-test (leb n limit) (q.StringBytes first) refl) λ _. bare-here λ place. bare-then (bare-run n) λ bytes. bare-give _
 
   pub mends-always : (instead : Bytes) → Mends (always limit instead)
-  mends-always instead = mends-then (exact-string limit) mends-string (λ t. mends-here λ place. mends-give _) (λ t. bare-here λ place. bare-give _)
+  mends-always instead =
+      mends-then (exact-string limit) mends-string (λ t. mends-here λ place. mends-give _) (λ t. bare-here λ place. bare-give _)
 
   -- a tag that is none, or what stands behind one
   pub record Now {A : Type 0} (place : ℕ) (g : Reader A) (mid : ℕ) (p : Refusal) : Type 0 where
@@ -286,12 +307,14 @@ module _ (L : ResourceLimits) where
     pub at-once : (v : Bytes) → g mid v ≡ refused (q.ConstantTag place)
 
   pub record Later {A : Type 0} (place : ℕ) (g : Reader A) : Type 0 where
-    pub split : (mid : ℕ) (u : Bytes) (p : Refusal) → g mid u ≡ refused p → faulty p ≡ true → Mend g mid u p ⊎ Now place g mid p
+    pub split : (mid : ℕ) (u : Bytes) (p : Refusal) → g mid u ≡ refused p → faulty p ≡ true
+        → Mend g mid u p ⊎ Now place g mid p
 
   pub later-mends : {A : Type 0} {g : Reader A} (place : ℕ) → Mends g → Later place g
   later-mends place one = record { split = λ mid u p e lo. inl (one .mended mid u p e lo) }
 
-  pub later-pick : {A : Type 0} {g h : Reader A} (place : ℕ) (b : Bool) → Later place g → Later place h → Later place (cond b g h)
+  pub later-pick : {A : Type 0} {g h : Reader A} (place : ℕ) (b : Bool) → Later place g → Later place h
+      → Later place (cond b g h)
   later-pick place true one two = one
   later-pick place false one two = two
 
@@ -312,10 +335,12 @@ module _ (L : ResourceLimits) where
   pub mends-constant : Mends (constant limit)
   mends-constant = record { mended = λ at s p e lo. go at s p lo (byte at s) refl e }
     where
-      inner : (at : ℕ) (s : Bytes) (tag mid : ℕ) (u : Bytes) (p : Refusal) → byte at s ≡ ok tag mid u → Mend (tagged limit at tag) mid u p → Mend (constant limit) at s p
+      inner : (at : ℕ) (s : Bytes) (tag mid : ℕ) (u : Bytes) (p : Refusal) → byte at s ≡ ok tag mid u
+          → Mend (tagged limit at tag) mid u p → Mend (constant limit) at s p
       inner at s tag mid u p is m = let c = prefix (λ tag. tagged limit at tag) (exact-field 1) at s tag mid u p is m in record { before = c .before; wrong = c .wrong; rest = c .rest; whole = c .whole; same = c .same; begins = c .begins; mild = c .mild }
 
-      unknown : (at : ℕ) (s : Bytes) (tag mid : ℕ) (u : Bytes) (p : Refusal) → byte at s ≡ ok tag mid u → Now at (tagged limit at tag) mid p → Mend (constant limit) at s p
+      unknown : (at : ℕ) (s : Bytes) (tag mid : ℕ) (u : Bytes) (p : Refusal) → byte at s ≡ ok tag mid u
+          → Now at (tagged limit at tag) mid p → Mend (constant limit) at s p
       unknown at s tag mid u p is k =
           let a = exact-field 1 .sound is in
           let there : byte at (a .bytes) ≡ ok tag mid [] = ap (byte at) (sym (append-nil (a .bytes))) ∙ exact-field 1 .complete [] (a .spelt) ∙ ap (λ m. ok tag m []) (sym (a .place)) in
@@ -329,7 +354,8 @@ module _ (L : ResourceLimits) where
             mild = subst (λ p. Mild (constant limit at (right (reported p .number)))) (k .is) refl;
           }
 
-      go : (at : ℕ) (s : Bytes) (p : Refusal) → faulty p ≡ true → (o : Read ℕ) → byte at s ≡ o → next o (λ tag. tagged limit at tag) ≡ refused p → Mend (constant limit) at s p
+      go : (at : ℕ) (s : Bytes) (p : Refusal) → faulty p ≡ true → (o : Read ℕ) → byte at s ≡ o
+          → next o (λ tag. tagged limit at tag) ≡ refused p → Mend (constant limit) at s p
       go at s p lo (ok tag mid u) is e =
           ⊎-elim (λ (c : Mend (tagged limit at tag) mid u p). inner at s tag mid u p is c) (λ (k : Now at (tagged limit at tag) mid p). unknown at s tag mid u p is k) (later-tagged at tag .split mid u p e lo)
       go at s p lo (refused p′) is e = absurd (outside-field 1 .never at s p (is ∙ ap refused (was e)) lo)
@@ -349,7 +375,8 @@ module _ (L : ResourceLimits) where
       (λ n. mends-here λ place. mends-then (exact-many n exact) (mends-many n exact one lacks) (λ items. mends-give _) (λ items. bare-give _))
       (λ n. bare-here λ place. bare-then (bare-many n lacks) λ items. bare-give _)
 
-  pub mends-countedUpTo : {A : Type 0} {r : Reader A} {F : Form A} (most : ℕ) (over : ℕ → Refusal) → ((first : ℕ) → limited (over first) ≡ true) → Exact r F → Mends r → Lacking r → Mends (countedUpTo most over r)
+  pub mends-countedUpTo : {A : Type 0} {r : Reader A} {F : Form A} (most : ℕ) (over : ℕ → Refusal)
+      → ((first : ℕ) → limited (over first) ≡ true) → Exact r F → Mends r → Lacking r → Mends (countedUpTo most over r)
   mends-countedUpTo most over h exact one lacks =
       mends-here λ first.
       mends-then exact-number mends-number
@@ -357,14 +384,18 @@ module _ (L : ResourceLimits) where
       (λ n. bare-then (bare-test (leb n most) (over first) (h first)) λ _. bare-here λ place. bare-then (bare-many n lacks) λ items. bare-give _)
 
   -- ## Functions
-  pub mends-forest : (n : ℕ) {r : Where → Reader (List Prototype)} {F : Where → Form (List Prototype)} (w : Where) → ((w : Where) → Exact (r w) (F w)) → ((w : Where) → Mends (r w)) → ((w : Where) → Bare (r w)) → Mends (forest n r w)
+  pub mends-forest : (n : ℕ) {r : Where → Reader (List Prototype)} {F : Where → Form (List Prototype)} (w : Where)
+      → ((w : Where) → Exact (r w) (F w)) → ((w : Where) → Mends (r w)) → ((w : Where) → Bare (r w))
+      → Mends (forest n r w)
   mends-forest zero w exact one bare = mends-give []
   mends-forest (suc n) w exact one bare =
       mends-then (exact w) (one w)
       (λ ps. mends-then (exact-forest n (after ps w) exact) (mends-forest n (after ps w) exact one bare) (λ more. mends-give _) (λ more. bare-give _))
       (λ ps. bare-then (bare-forest n (after ps w) bare) λ more. bare-give _)
 
-  pub mends-body : {r : Where → Reader (List Prototype)} {F : Where → Form (List Prototype)} → ((w : Where) → Exact (r w) (F w)) → ((w : Where) → Mends (r w)) → ((w : Where) → Bare (r w)) → (w : Where) → Mends (body L r w)
+  pub mends-body : {r : Where → Reader (List Prototype)} {F : Where → Form (List Prototype)}
+      → ((w : Where) → Exact (r w) (F w)) → ((w : Where) → Mends (r w)) → ((w : Where) → Bare (r w)) → (w : Where)
+      → Mends (body L r w)
   unfolding body
   mends-body exact one bare w =
       mends-here λ start.

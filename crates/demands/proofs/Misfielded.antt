@@ -47,7 +47,8 @@ pub misfielded-steady : Steady ordinary 0 misfielded
 misfielded-steady = steady-here λ place. steady-then (steady-field 1 refl) λ b. steady-then (steady-test (eqb b 0x54) (named place b) (named-tested place b)) λ _. steady-give tt
 
 module _ (L : ResourceLimits) where
-  cause : (place b : ℕ) (bytes : Bytes) → Field 1 place bytes b → eqb b 0x54 ≡ false → Ends (causeBy ordinary L (named place b)) place (bytes ++ [])
+  cause : (place b : ℕ) (bytes : Bytes) → Field 1 place bytes b → eqb b 0x54 ≡ false
+      → Ends (causeBy ordinary L (named place b)) place (bytes ++ [])
   cause place b bytes d other = by (eqb b 0x55) refl
     where
       by : (t : Bool) → eqb b 0x55 ≡ t → Ends (causeBy ordinary L (cond t (q.InstructionSize place) (q.Version place))) place (bytes ++ [])
@@ -68,14 +69,16 @@ named-late place b = by (eqb b 0x55)
     by false = omega arith
 
 pub misfielded-continues : Continues misfielded
-misfielded-continues = on-here λ place. on-then (exact-field 1) (on-field 1) λ b. record { on = λ at s. ([], go at s (named place b) (eqb b 0x54) (named-late place b)) }
+misfielded-continues =
+    on-here λ place. on-then (exact-field 1) (on-field 1) λ b. record { on = λ at s. ([], go at s (named place b) (eqb b 0x54) (named-late place b)) }
   where
     go : (at : ℕ) (s : Bytes) (p : Refusal) (t : Bool) → 2 < reported p .number → Judged ((test t p >>= λ _. give {A = Unit {0}} tt) at (s ++ []))
     go at s p true h = tt
     go at s p false h = h
 
 pub not-misfielded : Mends misfielded → ⊥
-not-misfielded mends = let c = mends .mended 0 (0x55 ∷ []) (q.InstructionSize 0) refl refl in go (c .before) (c .begins) (c .mild)
+not-misfielded mends =
+    let c = mends .mended 0 (0x55 ∷ []) (q.InstructionSize 0) refl refl in go (c .before) (c .begins) (c .mild)
   where
     go : (before : Bytes) → 0 ≡ 0 + length before → Mild (misfielded 0 (before ++ right 7)) → ⊥
     go [] e k = let z : _≡_ {A = ℕ} 0 1 = cc in omega arith

@@ -39,7 +39,8 @@ abbrev pub wrongly : ResourceLimits → ℕ → ℕ → Refusal
 wrongly L first n = cond (leb n (L .«max_instructions_per_proto»)) (q.Upvalues first) (q.Instructions first)
 
 abbrev pub misnamed : ResourceLimits → Reader ℕ
-misnamed L = here >>= λ first. number >>= λ n. atMost n (L .«max_upvalues_per_proto») (wrongly L first n) >>= λ _. give n
+misnamed L =
+    here >>= λ first. number >>= λ n. atMost n (L .«max_upvalues_per_proto») (wrongly L first n) >>= λ _. give n
 
 abbrev pub named : ResourceLimits → Reader ℕ
 named L = here >>= λ first. number >>= λ n. atMost n (L .«max_upvalues_per_proto») (q.Upvalues first) >>= λ _. give n
@@ -56,15 +57,19 @@ module _ (L : ResourceLimits) where
   pub misnamed-steady : Steady ordinary 0 (misnamed L)
   misnamed-steady = steady-here λ first. steady-then steady-number λ n. steady-then (steady-atMost n (L .«max_upvalues_per_proto») (wrongly L first n) (wrong-tested first n)) λ _. steady-give n
 
-  cause : (first n : ℕ) (bytes : Bytes) → Number first bytes n → L .«max_upvalues_per_proto» < n → Ends (causeBy ordinary L (wrongly L first n)) first (bytes ++ [])
+  cause : (first n : ℕ) (bytes : Bytes) → Number first bytes n → L .«max_upvalues_per_proto» < n
+      → Ends (causeBy ordinary L (wrongly L first n)) first (bytes ++ [])
   cause first n bytes d h = by (leb n (L .«max_instructions_per_proto»)) refl
     where
-      by : (b : Bool) → leb n (L .«max_instructions_per_proto») ≡ b → Ends (causeBy ordinary L (cond b (q.Upvalues first) (q.Instructions first))) first (bytes ++ [])
+      by : (b : Bool) → leb n (L .«max_instructions_per_proto») ≡ b
+          → Ends (causeBy ordinary L (cond b (q.Upvalues first) (q.Instructions first))) first (bytes ++ [])
       by true e = too-many ordinary first n (L .«max_upvalues_per_proto») bytes d tt h
-      by false e = too-many ordinary first n (L .«max_instructions_per_proto») bytes d tt (leb-false n (L .«max_instructions_per_proto») e)
+      by false e =
+          too-many ordinary first n (L .«max_instructions_per_proto») bytes d tt (leb-false n (L .«max_instructions_per_proto») e)
 
   misnamed-early : Early ordinary L (misnamed L)
-  misnamed-early = early-numbered (λ first n. atMost n (L .«max_upvalues_per_proto») (wrongly L first n) >>= λ _. give n) λ first n bytes d.
+  misnamed-early =
+      early-numbered (λ first n. atMost n (L .«max_upvalues_per_proto») (wrongly L first n) >>= λ _. give n) λ first n bytes d.
       soon-test (give n) (leb n (L .«max_upvalues_per_proto»)) (wrongly L first n) (λ e. cause first n bytes d (leb-false n (L .«max_upvalues_per_proto») e)) (soon-early (early-give n))
 
   pub misnamed-in-order : InByteOrder L (misnamed L)
@@ -92,7 +97,8 @@ module _ (L : ResourceLimits) where
 two-tests : (b c : Bool) (p p′ : Refusal) → ByLimit p → Limited (test b p) (test c p′)
 two-tests b c p p′ is = record { agrees = λ at s x to rest e. go at s x to rest c e b }
   where
-    go : (at : ℕ) (s : Bytes) (x : Unit {0}) (to : ℕ) (rest : Bytes) (c : Bool) → test c p′ at s ≡ ok x to rest → (b : Bool) → Agrees x to rest (test b p at s)
+    go : (at : ℕ) (s : Bytes) (x : Unit {0}) (to : ℕ) (rest : Bytes) (c : Bool) → test c p′ at s ≡ ok x to rest
+        → (b : Bool) → Agrees x to rest (test b p at s)
     go at s x to rest true e true = e
     go at s x to rest true e false = is
     go at s x to rest false e b = absurd (let z : _≡_ {A = ℕ} 0 1 = cc in omega arith)
@@ -101,12 +107,15 @@ pub misnamed-limited : (L M : ResourceLimits) → Limited (misnamed L) (misnamed
 misnamed-limited L M = limited-here λ first. limited-then (same number) λ n. limited-then (two-tests (leb n (L .«max_upvalues_per_proto»)) (leb n (M .«max_upvalues_per_proto»)) (wrongly L first n) (wrongly M first n) (by-limit L first n)) λ _. limited-give n
 
 -- ## It accepts what the right one accepts
-pub accepts-the-same : (L : ResourceLimits) (at : ℕ) (s : Bytes) (x to : ℕ) (rest : Bytes) → (named L at s ≡ ok x to rest) ↔ (misnamed L at s ≡ ok x to rest)
+pub accepts-the-same : (L : ResourceLimits) (at : ℕ) (s : Bytes) (x to : ℕ) (rest : Bytes)
+    → (named L at s ≡ ok x to rest) ↔ (misnamed L at s ≡ ok x to rest)
 accepts-the-same L at s x to rest = by-number (number at s)
   where
-    by-test : (b : Bool) (p p′ : Refusal) (n t : ℕ) (u : Bytes) → (next (test b p t u) (λ _. give n) ≡ ok x to rest) ↔ (next (test b p′ t u) (λ _. give n) ≡ ok x to rest)
+    by-test : (b : Bool) (p p′ : Refusal) (n t : ℕ) (u : Bytes)
+        → (next (test b p t u) (λ _. give n) ≡ ok x to rest) ↔ (next (test b p′ t u) (λ _. give n) ≡ ok x to rest)
     by-test true p p′ n t u = (λ e. e, λ e. e)
-    by-test false p p′ n t u = (λ e. absurd (let z : _≡_ {A = ℕ} 0 1 = cc in omega arith), λ e. absurd (let z : _≡_ {A = ℕ} 0 1 = cc in omega arith))
+    by-test false p p′ n t u =
+        (λ e. absurd (let z : _≡_ {A = ℕ} 0 1 = cc in omega arith), λ e. absurd (let z : _≡_ {A = ℕ} 0 1 = cc in omega arith))
 
     by-number : (o : Read ℕ) → (next o (λ n. atMost n (L .«max_upvalues_per_proto») (q.Upvalues at) >>= λ _. give n) ≡ ok x to rest) ↔ (next o (λ n. atMost n (L .«max_upvalues_per_proto») (wrongly L at n) >>= λ _. give n) ≡ ok x to rest)
     by-number (ok n t u) = by-test (leb n (L .«max_upvalues_per_proto»)) (q.Upvalues at) (wrongly L at n) n t u

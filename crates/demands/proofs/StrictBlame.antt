@@ -36,10 +36,12 @@ module _ (L M : ResourceLimits) (wide : Raised L M) where
   same : {A : Type 0} (r : Reader A) → Stays L M r r
   same r = blame.same L M r
 
-  hence : {A B : Type 0} {r r′ : Reader A} {f f′ : A → Reader B} → Stays L M r r′ → ((x : A) → Stays L M (f x) (f′ x)) → Stays L M (r >>= f) (r′ >>= f′)
+  hence : {A B : Type 0} {r r′ : Reader A} {f f′ : A → Reader B} → Stays L M r r′ → ((x : A) → Stays L M (f x) (f′ x))
+      → Stays L M (r >>= f) (r′ >>= f′)
   hence one two = blame.stays-then L M one two
 
-  at-place : {B : Type 0} {f f′ : ℕ → Reader B} → ((place : ℕ) → Stays L M (f place) (f′ place)) → Stays L M (here >>= f) (here >>= f′)
+  at-place : {B : Type 0} {f f′ : ℕ → Reader B} → ((place : ℕ) → Stays L M (f place) (f′ place))
+      → Stays L M (here >>= f) (here >>= f′)
   at-place two = blame.stays-here L M two
 
   -- ## Strings, lists and entries
@@ -57,16 +59,21 @@ module _ (L M : ResourceLimits) (wide : Raised L M) where
       (blame.stays-pick L M (eqb tag 20) (hence stays-present λ t. same (give _)) (same (refuse (q.ConstantTag place)))))))))
 
   stays-strictLocal : Stays L M (strictLocal (L .«max_string_bytes»)) (strictLocal (M .«max_string_bytes»))
-  stays-strictLocal = hence (blame.stays-always L M wide (63 ∷ [])) λ name. hence (same int) λ startpc. hence (same int) λ endpc. same (give _)
+  stays-strictLocal =
+      hence (blame.stays-always L M wide (63 ∷ [])) λ name. hence (same int) λ startpc. hence (same int) λ endpc. same (give _)
 
   stays-strictCounted : {A : Type 0} {r r′ : Reader A} → Stays L M r r′ → Stays L M (strictCounted r) (strictCounted r′)
-  stays-strictCounted one = hence (same int) λ n. at-place λ place. hence (blame.stays-many L M n one) λ items. same (give _)
+  stays-strictCounted one =
+      hence (same int) λ n. at-place λ place. hence (blame.stays-many L M n one) λ items. same (give _)
 
-  stays-strictCountedUpTo : {A : Type 0} {r r′ : Reader A} (m m′ : ℕ) (over : ℕ → Refusal) → m ≤ m′ → ((first : ℕ) → SameNamed L M (over first) → m ≡ m′) → Stays L M r r′ → Stays L M (strictCountedUpTo m over r) (strictCountedUpTo m′ over r′)
+  stays-strictCountedUpTo : {A : Type 0} {r r′ : Reader A} (m m′ : ℕ) (over : ℕ → Refusal) → m ≤ m′
+      → ((first : ℕ) → SameNamed L M (over first) → m ≡ m′) → Stays L M r r′
+      → Stays L M (strictCountedUpTo m over r) (strictCountedUpTo m′ over r′)
   stays-strictCountedUpTo m m′ over low held one = at-place λ first. hence (same int) λ n. hence (blame.stays-atMost L M n m m′ (over first) low (held first)) λ _. at-place λ place. hence (blame.stays-many L M n one) λ items. same (give _)
 
   -- ## Functions
-  stays-strictBody : {r r′ : Where → Reader (List Prototype)} → ((w : Where) → Stays L M (r w) (r′ w)) → (w : Where) → Stays L M (strictBody L r w) (strictBody M r′ w)
+  stays-strictBody : {r r′ : Where → Reader (List Prototype)} → ((w : Where) → Stays L M (r w) (r′ w)) → (w : Where)
+      → Stays L M (strictBody L r w) (strictBody M r′ w)
   unfolding strictBody
   stays-strictBody one w =
       at-place λ start.
@@ -98,22 +105,28 @@ module _ (L M : ResourceLimits) (wide : Raised L M) where
       at-place λ end.
       same (give _)
 
-  deeper : (left′ : ℕ) (w : Where) → (L .«max_nesting_depth» ≡ M .«max_nesting_depth» → ⊥) → Stays L M (strictEnter L zero w) (strictEnter M (suc left′) w)
+  deeper : (left′ : ℕ) (w : Where) → (L .«max_nesting_depth» ≡ M .«max_nesting_depth» → ⊥)
+      → Stays L M (strictEnter L zero w) (strictEnter M (suc left′) w)
   deeper left′ w other = record {
     accepts = λ at s x to rest e. never {p = q.NestingDepth at} e;
     refuses = λ at s p e k. absurd (let h : q.NestingDepth at ≡ p = was e in let k′ : SameNamed L M (q.NestingDepth at) = subst (SameNamed L M) (sym h) k in other (k′ (omega arith) (omega arith)));
   }
 
-  entered : (left left′ : ℕ) (w : Where) → Stays L M (strictFunction L left w) (strictFunction M left′ w) → Stays L M (strictEnter L (suc left) w) (strictEnter M (suc left′) w)
+  entered : (left left′ : ℕ) (w : Where) → Stays L M (strictFunction L left w) (strictFunction M left′ w)
+      → Stays L M (strictEnter L (suc left) w) (strictEnter M (suc left′) w)
   entered left left′ w one =
       at-place λ place.
       hence (blame.stays-atMost L M (w .number) (L .«max_total_prototypes») (M .«max_total_prototypes») (q.TotalPrototypes place) (wide .functions) (λ k. k (omega arith) (omega arith))) λ _.
       one
 
-  stays-strictFunction : (left left′ : ℕ) (w : Where) → left ≤ left′ → (L .«max_nesting_depth» ≡ M .«max_nesting_depth» → left ≡ left′) → Stays L M (strictFunction L left w) (strictFunction M left′ w)
+  stays-strictFunction : (left left′ : ℕ) (w : Where) → left ≤ left′
+      → (L .«max_nesting_depth» ≡ M .«max_nesting_depth» → left ≡ left′)
+      → Stays L M (strictFunction L left w) (strictFunction M left′ w)
   unfolding strictFunction
-  stays-strictFunction zero zero w low held = stays-strictBody {r = strictEnter L zero} {r′ = strictEnter M zero} (λ w. same (strictEnter L zero w)) w
-  stays-strictFunction zero (suc left′) w low held = stays-strictBody {r = strictEnter L zero} {r′ = strictEnter M (suc left′)} (λ w. deeper left′ w (λ e. let h = held e in omega arith)) w
+  stays-strictFunction zero zero w low held =
+      stays-strictBody {r = strictEnter L zero} {r′ = strictEnter M zero} (λ w. same (strictEnter L zero w)) w
+  stays-strictFunction zero (suc left′) w low held =
+      stays-strictBody {r = strictEnter L zero} {r′ = strictEnter M (suc left′)} (λ w. deeper left′ w (λ e. let h = held e in omega arith)) w
   stays-strictFunction (suc left) zero w low held = absurd (omega arith)
   stays-strictFunction (suc left) (suc left′) w low held = stays-strictBody {r = strictEnter L (suc left)} {r′ = strictEnter M (suc left′)} (λ w. entered left left′ w (stays-strictFunction left left′ w (omega arith) (λ e. let h = held e in omega arith))) w
 

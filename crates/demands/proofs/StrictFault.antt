@@ -76,16 +76,19 @@ use Rattle.demands.proofs.Fault.{
 
 -- ## What meets no limit
 pub plain-int : Plain int
-plain-int = plain-here λ first. plain-then plain-number λ n. plain-then (plain-test (ltb n (2 ^ 31 - 128)) (q.IntOverflow first) refl) λ _. plain-give n
+plain-int =
+    plain-here λ first. plain-then plain-number λ n. plain-then (plain-test (ltb n (2 ^ 31 - 128)) (q.IntOverflow first) refl) λ _. plain-give n
 
 plain-strictAnchor : Plain strictAnchor
 plain-strictAnchor = plain-then plain-int λ pc. plain-then plain-int λ line. plain-give _
 
 plain-strictCounted : {A : Type 0} {r : Reader A} → Plain r → Plain (strictCounted r)
-plain-strictCounted one = plain-then plain-int λ n. plain-here λ place. plain-then (plain-many n one) λ items. plain-give _
+plain-strictCounted one =
+    plain-then plain-int λ n. plain-here λ place. plain-then (plain-many n one) λ items. plain-give _
 
 plain-strictHeader : Plain strictHeader
-plain-strictHeader = plain-then plain-before λ _. plain-then (plain-expect (0 ∷ []) q.Format λ place. refl) λ _. plain-then plain-behind λ _. plain-give _
+plain-strictHeader =
+    plain-then plain-before λ _. plain-then (plain-expect (0 ∷ []) q.Format λ place. refl) λ _. plain-then plain-behind λ _. plain-give _
 
 -- ## No bytes at all
 pub lacking-int : Lacking int
@@ -149,7 +152,8 @@ present-by limit at s = by (number at s)
     by (ok size to u) = sized size to u
     by (refused p) = refl
 
-alike : {A : Type 0} {r r′ x x′ : Reader A} → ((at : ℕ) (s : Bytes) → x at s ≡ r at s) → ((at : ℕ) (s : Bytes) → x′ at s ≡ r′ at s) → Cures r r′ → Cures x x′
+alike : {A : Type 0} {r r′ x x′ : Reader A} → ((at : ℕ) (s : Bytes) → x at s ≡ r at s)
+    → ((at : ℕ) (s : Bytes) → x′ at s ≡ r′ at s) → Cures r r′ → Cures x x′
 alike is is′ one = record {
   accepts = λ at s y to rest e. is′ at s ∙ one .accepts at s y to rest (sym (is at s) ∙ e);
   cured = λ at s p e h. (let c = one .cured at s p (sym (is at s) ∙ e) h in record { front = c .front; rest = c .rest; whole = c .whole; same = is at (c .front) ∙ c .same; mild = subst (λ (o : Read _). Mild o) (sym (is′ at (c .front))) (c .mild) });
@@ -164,7 +168,8 @@ module _ (L M : ResourceLimits) (wide : Raised L M) where
 
   -- ## Strings, lists and entries
   cures-present : Cures (present l) (present m)
-  cures-present = alike (present-by l) (present-by m) (cures-here λ first. cures-plainly exact-number plain-number λ size. by first size)
+  cures-present =
+      alike (present-by l) (present-by m) (cures-here λ first. cures-plainly exact-number plain-number λ size. by first size)
     where
       by : (first size : ℕ) → Cures (filled l first size) (filled m first size)
       by first zero = cures-plain (plain-refuse (q.NullString first) refl)
@@ -185,10 +190,13 @@ module _ (L M : ResourceLimits) (wide : Raised L M) where
   cures-strictLocal : Cures (strictLocal l) (strictLocal m)
   cures-strictLocal = cures-then (exact-always l (63 ∷ [])) (cures-always L M wide (63 ∷ [])) (λ name. cures-plain (plain-then plain-int λ startpc. plain-then plain-int λ endpc. plain-give _)) (λ name. bare-stops (lacking-then lacking-int _))
 
-  cures-strictCounted : {A : Type 0} {r r′ : Reader A} {F : Form A} → Exact r F → Cures r r′ → Lacking r′ → Cures (strictCounted r) (strictCounted r′)
+  cures-strictCounted : {A : Type 0} {r r′ : Reader A} {F : Form A} → Exact r F → Cures r r′ → Lacking r′
+      → Cures (strictCounted r) (strictCounted r′)
   cures-strictCounted exact one lacks = cures-plainly exact-int plain-int λ n. cures-here λ place. cures-then (exact-many n exact) (cures-many n exact one lacks) (λ items. cures-plain (plain-give _)) (λ items. bare-give _)
 
-  cures-strictCountedUpTo : {A : Type 0} {r r′ : Reader A} {F : Form A} (low high : ℕ) (over : ℕ → Refusal) → low ≤ high → ((first : ℕ) → limited (over first) ≡ true) → Exact r F → Cures r r′ → Lacking r′ → Cures (strictCountedUpTo low over r) (strictCountedUpTo high over r′)
+  cures-strictCountedUpTo : {A : Type 0} {r r′ : Reader A} {F : Form A} (low high : ℕ) (over : ℕ → Refusal)
+      → low ≤ high → ((first : ℕ) → limited (over first) ≡ true) → Exact r F → Cures r r′ → Lacking r′
+      → Cures (strictCountedUpTo low over r) (strictCountedUpTo high over r′)
   cures-strictCountedUpTo low high over le h exact one lacks =
       cures-here λ first. cures-plainly exact-int plain-int λ n.
       cures-then (exact-atMost n low (over first)) (cures-atMost n low high (over first) le (h first))
@@ -196,7 +204,9 @@ module _ (L M : ResourceLimits) (wide : Raised L M) where
       (λ _. bare-here λ place. bare-then (bare-many n lacks) λ items. bare-give _)
 
   -- ## Functions
-  cures-strictBody : {r r′ : Where → Reader (List Prototype)} {F : Where → Form (List Prototype)} → ((w : Where) → Exact (r w) (F w)) → ((w : Where) → Cures (r w) (r′ w)) → ((w : Where) → Bare (r′ w)) → (w : Where) → Cures (strictBody L r w) (strictBody M r′ w)
+  cures-strictBody : {r r′ : Where → Reader (List Prototype)} {F : Where → Form (List Prototype)}
+      → ((w : Where) → Exact (r w) (F w)) → ((w : Where) → Cures (r w) (r′ w)) → ((w : Where) → Bare (r′ w))
+      → (w : Where) → Cures (strictBody L r w) (strictBody M r′ w)
   unfolding strictBody
   cures-strictBody exact one bare w =
       cures-here λ start.
@@ -240,18 +250,22 @@ module _ (L M : ResourceLimits) (wide : Raised L M) where
   deepest : (left′ : ℕ) (w : Where) → Cures (strictEnter L zero w) (strictEnter M left′ w)
   deepest left′ w = record {
     accepts = λ at s x to rest e. never {p = q.NestingDepth at} e;
-    cured = λ at s p e h. record { front = []; rest = s; whole = refl; same = e; mild = bare-strictEnter M left′ w .at-none at };
+    cured =
+        λ at s p e h. record { front = []; rest = s; whole = refl; same = e; mild = bare-strictEnter M left′ w .at-none at };
   }
 
-  entered : (left left′ : ℕ) (w : Where) → Cures (strictFunction L left w) (strictFunction M left′ w) → Cures (strictEnter L (suc left) w) (strictEnter M (suc left′) w)
+  entered : (left left′ : ℕ) (w : Where) → Cures (strictFunction L left w) (strictFunction M left′ w)
+      → Cures (strictEnter L (suc left) w) (strictEnter M (suc left′) w)
   entered left left′ w one =
       cures-here λ place.
       cures-then (exact-atMost (w .number) (L .«max_total_prototypes») (q.TotalPrototypes place)) (cures-atMost (w .number) (L .«max_total_prototypes») (M .«max_total_prototypes») (q.TotalPrototypes place) (wide .functions) refl)
       (λ _. one) (λ _. bare-stops (lacking-strictFunction M left′ w))
 
-  cures-strictFunction : (left left′ : ℕ) (w : Where) → left ≤ left′ → Cures (strictFunction L left w) (strictFunction M left′ w)
+  cures-strictFunction : (left left′ : ℕ) (w : Where) → left ≤ left′
+      → Cures (strictFunction L left w) (strictFunction M left′ w)
   unfolding strictFunction
-  cures-strictFunction zero zero w low = cures-strictBody {r = strictEnter L zero} {r′ = strictEnter M zero} (λ w. exact-place λ place. exact-refuse _) (deepest zero) (bare-strictEnter M zero) w
+  cures-strictFunction zero zero w low =
+      cures-strictBody {r = strictEnter L zero} {r′ = strictEnter M zero} (λ w. exact-place λ place. exact-refuse _) (deepest zero) (bare-strictEnter M zero) w
   cures-strictFunction zero (suc left′) w low = cures-strictBody {r = strictEnter L zero} {r′ = strictEnter M (suc left′)} (λ w. exact-place λ place. exact-refuse _) (deepest (suc left′)) (bare-strictEnter M (suc left′)) w
   cures-strictFunction (suc left) zero w low = absurd (omega arith)
   cures-strictFunction (suc left) (suc left′) w low =

@@ -88,7 +88,9 @@ module _ (L : ResourceLimits) {A : Type 0} (r : Reader A) (f : ℕ → ℕ → R
       }
 
   -- refused behind it, whatever follows
-  behind-number : (at : ℕ) (s : Bytes) (n mid : ℕ) (u : Bytes) (p : Refusal) → number at s ≡ ok n mid u → f at n mid [] ≡ refused p → Begins (reported p .place) (at + 0) → right (reported p .number) ≡ 0x81 ∷ [] → Mend r at s p
+  behind-number : (at : ℕ) (s : Bytes) (n mid : ℕ) (u : Bytes) (p : Refusal) → number at s ≡ ok n mid u
+      → f at n mid [] ≡ refused p → Begins (reported p .place) (at + 0) → right (reported p .number) ≡ 0x81 ∷ []
+      → Mend r at s p
   behind-number at s n mid u p e now begins one =
       let a = exact-number .sound e in
       let there : number at (a .bytes) ≡ ok n mid [] = ap (number at) (sym (append-nil (a .bytes))) ∙ exact-number .complete [] (a .spelt) ∙ ap (λ m. ok n m []) (sym (a .place)) in
@@ -109,16 +111,20 @@ module _ (L : ResourceLimits) where
       f : ℕ → ℕ → Reader ℕ
       f first n = test (ltb n (2 ^ 31 - 128)) (q.IntOverflow first) >>= λ _. give n
 
-      large : (at : ℕ) (s : Bytes) (p : Refusal) (n mid : ℕ) (u : Bytes) → number at s ≡ ok n mid u → (b : Bool) → ltb n (2 ^ 31 - 128) ≡ b → next (test b (q.IntOverflow at) mid u) (λ _. give n) ≡ refused p → Mend int at s p
+      large : (at : ℕ) (s : Bytes) (p : Refusal) (n mid : ℕ) (u : Bytes) → number at s ≡ ok n mid u → (b : Bool)
+          → ltb n (2 ^ 31 - 128) ≡ b → next (test b (q.IntOverflow at) mid u) (λ _. give n) ≡ refused p
+          → Mend int at s p
       large at s p n mid u is true t e = no e
       large at s p n mid u is false t e =
           let k : q.IntOverflow at ≡ p = was e in
           behind-number L int f (λ at s. refl) (λ at. refl) at s n mid u p is (ap (λ b. next (test b (q.IntOverflow at) mid []) (λ _. give n)) t ∙ ap refused k)
           (subst (λ p. Begins (reported p .place) (at + 0)) k (sym (add-zero at))) (subst (λ p. right (reported p .number) ≡ 0x81 ∷ []) k refl)
 
-      go : (at : ℕ) (s : Bytes) (p : Refusal) → faulty p ≡ true → (o : Read ℕ) → number at s ≡ o → next o (f at) ≡ refused p → Mend int at s p
+      go : (at : ℕ) (s : Bytes) (p : Refusal) → faulty p ≡ true → (o : Read ℕ) → number at s ≡ o
+          → next o (f at) ≡ refused p → Mend int at s p
       go at s p lo (ok n mid u) is e = large at s p n mid u is (ltb n (2 ^ 31 - 128)) refl e
-      go at s p lo (refused p′) is e = cut-number L int f (λ at s. refl) (λ at. refl) at s p (is ∙ ap refused (was e)) lo
+      go at s p lo (refused p′) is e =
+          cut-number L int f (λ at s. refl) (λ at. refl) at s p (is ∙ ap refused (was e)) lo
 
   abbrev limit : ℕ
   limit = L .«max_string_bytes»
@@ -133,7 +139,8 @@ module _ (L : ResourceLimits) where
       passes : (at : ℕ) → Mild (present limit at (0x81 ∷ []))
       passes at = rw (le-leb 0 limit (omega arith)) refl
 
-      sized : (at : ℕ) (s : Bytes) (p : Refusal) → faulty p ≡ true → (n mid : ℕ) (u : Bytes) → number at s ≡ ok n mid u → filled limit at n mid u ≡ refused p → Mend (present limit) at s p
+      sized : (at : ℕ) (s : Bytes) (p : Refusal) → faulty p ≡ true → (n mid : ℕ) (u : Bytes)
+          → number at s ≡ ok n mid u → filled limit at n mid u ≡ refused p → Mend (present limit) at s p
       sized at s p lo zero mid u is e =
           let k : q.NullString at ≡ p = was e in
           behind-number L (present limit) (filled limit) whole passes at s zero mid u p is (ap refused k)
@@ -141,9 +148,11 @@ module _ (L : ResourceLimits) where
       sized at s p lo (suc n) mid u is e =
           absurd (outside-then (outside-test (leb n limit) (q.StringBytes at) refl) (λ _. outside-here λ place. outside-then (outside-run n) λ bytes. outside-give _) .never mid u p e lo)
 
-      go : (at : ℕ) (s : Bytes) (p : Refusal) → faulty p ≡ true → (o : Read ℕ) → number at s ≡ o → next o (filled limit at) ≡ refused p → Mend (present limit) at s p
+      go : (at : ℕ) (s : Bytes) (p : Refusal) → faulty p ≡ true → (o : Read ℕ) → number at s ≡ o
+          → next o (filled limit at) ≡ refused p → Mend (present limit) at s p
       go at s p lo (ok n mid u) is e = sized at s p lo n mid u is e
-      go at s p lo (refused p′) is e = cut-number L (present limit) (filled limit) whole passes at s p (is ∙ ap refused (was e)) lo
+      go at s p lo (refused p′) is e =
+          cut-number L (present limit) (filled limit) whole passes at s p (is ∙ ap refused (was e)) lo
 
   later-strictTagged : (place tag : ℕ) → Later L place (strictTagged limit place tag)
   later-strictTagged place tag =
@@ -159,10 +168,12 @@ module _ (L : ResourceLimits) where
   mends-strictConstant : Mends (strictConstant limit)
   mends-strictConstant = record { mended = λ at s p e lo. go at s p lo (byte at s) refl e }
     where
-      inner : (at : ℕ) (s : Bytes) (tag mid : ℕ) (u : Bytes) (p : Refusal) → byte at s ≡ ok tag mid u → Mend (strictTagged limit at tag) mid u p → Mend (strictConstant limit) at s p
+      inner : (at : ℕ) (s : Bytes) (tag mid : ℕ) (u : Bytes) (p : Refusal) → byte at s ≡ ok tag mid u
+          → Mend (strictTagged limit at tag) mid u p → Mend (strictConstant limit) at s p
       inner at s tag mid u p is m = let c = prefix (λ tag. strictTagged limit at tag) (exact-field 1) at s tag mid u p is m in record { before = c .before; wrong = c .wrong; rest = c .rest; whole = c .whole; same = c .same; begins = c .begins; mild = c .mild }
 
-      unknown : (at : ℕ) (s : Bytes) (tag mid : ℕ) (u : Bytes) (p : Refusal) → byte at s ≡ ok tag mid u → Now L at (strictTagged limit at tag) mid p → Mend (strictConstant limit) at s p
+      unknown : (at : ℕ) (s : Bytes) (tag mid : ℕ) (u : Bytes) (p : Refusal) → byte at s ≡ ok tag mid u
+          → Now L at (strictTagged limit at tag) mid p → Mend (strictConstant limit) at s p
       unknown at s tag mid u p is k =
           let a = exact-field 1 .sound is in
           let there : byte at (a .bytes) ≡ ok tag mid [] = ap (byte at) (sym (append-nil (a .bytes))) ∙ exact-field 1 .complete [] (a .spelt) ∙ ap (λ m. ok tag m []) (sym (a .place)) in
@@ -176,7 +187,8 @@ module _ (L : ResourceLimits) where
             mild = subst (λ p. Mild (strictConstant limit at (right (reported p .number)))) (k .is) refl;
           }
 
-      go : (at : ℕ) (s : Bytes) (p : Refusal) → faulty p ≡ true → (o : Read ℕ) → byte at s ≡ o → next o (λ tag. strictTagged limit at tag) ≡ refused p → Mend (strictConstant limit) at s p
+      go : (at : ℕ) (s : Bytes) (p : Refusal) → faulty p ≡ true → (o : Read ℕ) → byte at s ≡ o
+          → next o (λ tag. strictTagged limit at tag) ≡ refused p → Mend (strictConstant limit) at s p
       go at s p lo (ok tag mid u) is e =
           ⊎-elim (λ (c : Mend (strictTagged limit at tag) mid u p). inner at s tag mid u p is c) (λ (k : Now L at (strictTagged limit at tag) mid p). unknown at s tag mid u p is k) (later-strictTagged at tag .split mid u p e lo)
       go at s p lo (refused p′) is e = absurd (outside-field 1 .never at s p (is ∙ ap refused (was e)) lo)
@@ -190,13 +202,16 @@ module _ (L : ResourceLimits) where
       (λ name. mends-then exact-int mends-int (λ startpc. mends-then exact-int mends-int (λ endpc. mends-give _) (λ endpc. bare-give _)) (λ startpc. bare-stops (lacking-then lacking-int _)))
       (λ name. bare-stops (lacking-then lacking-int _))
 
-  mends-strictCounted : {A : Type 0} {r : Reader A} {F : Form A} → Exact r F → Mends r → Lacking r → Mends (strictCounted r)
+  mends-strictCounted : {A : Type 0} {r : Reader A} {F : Form A} → Exact r F → Mends r → Lacking r
+      → Mends (strictCounted r)
   mends-strictCounted exact one lacks =
       mends-then exact-int mends-int
       (λ n. mends-here λ place. mends-then (exact-many n exact) (mends-many n exact one lacks) (λ items. mends-give _) (λ items. bare-give _))
       (λ n. bare-here λ place. bare-then (bare-many n lacks) λ items. bare-give _)
 
-  mends-strictCountedUpTo : {A : Type 0} {r : Reader A} {F : Form A} (most : ℕ) (over : ℕ → Refusal) → ((first : ℕ) → limited (over first) ≡ true) → Exact r F → Mends r → Lacking r → Mends (strictCountedUpTo most over r)
+  mends-strictCountedUpTo : {A : Type 0} {r : Reader A} {F : Form A} (most : ℕ) (over : ℕ → Refusal)
+      → ((first : ℕ) → limited (over first) ≡ true) → Exact r F → Mends r → Lacking r
+      → Mends (strictCountedUpTo most over r)
   mends-strictCountedUpTo most over h exact one lacks =
       mends-here λ first.
       mends-then exact-int mends-int
@@ -204,7 +219,9 @@ module _ (L : ResourceLimits) where
       (λ n. bare-then (bare-test (leb n most) (over first) (h first)) λ _. bare-here λ place. bare-then (bare-many n lacks) λ items. bare-give _)
 
   -- ## Functions
-  mends-strictBody : {r : Where → Reader (List Prototype)} {F : Where → Form (List Prototype)} → ((w : Where) → Exact (r w) (F w)) → ((w : Where) → Mends (r w)) → ((w : Where) → Bare (r w)) → (w : Where) → Mends (strictBody L r w)
+  mends-strictBody : {r : Where → Reader (List Prototype)} {F : Where → Form (List Prototype)}
+      → ((w : Where) → Exact (r w) (F w)) → ((w : Where) → Mends (r w)) → ((w : Where) → Bare (r w)) → (w : Where)
+      → Mends (strictBody L r w)
   unfolding strictBody
   mends-strictBody exact one bare w =
       mends-here λ start.
