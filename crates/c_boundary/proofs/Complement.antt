@@ -27,28 +27,28 @@ module _ (z : ℤ) (fits : SFits w64 z) where
         go (pos n) e = absurd (omega (arith, ltb-true n 0 e))
         go (negsuc k) e = rw (le-ltb (suc k) 1 (omega arith)) (ap pos (omega arith))
 
-    pub turned-fits : SFits w64 (negsuc 0 -ℤ held z)
-    turned-fits = rw turned (record { sfits = fits.sfits })
+    pub turned_fits : SFits w64 (negsuc 0 -ℤ held z)
+    turned_fits = rw turned (record { sfits = fits.sfits })
 
     magnitude : held (negsuc 0 -ℤ held z) ≡ pos (mag z)
-    magnitude = to_z-of_z {w = w64} turned-fits ∙ turned
+    magnitude = to_z-of_z {w = w64} turned_fits ∙ turned
 
-    pub turned-natural : T (non_neg (held (negsuc 0 -ℤ held z))) × Fits w64 (nat_abs (held (negsuc 0 -ℤ held z)))
-    turned-natural = rw magnitude (tt, let f = fits.sfits in record { fits = omega arith })
+    pub turned_natural : T (non_neg (held (negsuc 0 -ℤ held z))) × Fits w64 (nat_abs (held (negsuc 0 -ℤ held z)))
+    turned_natural = rw magnitude (tt, let f = fits.sfits in record { fits = omega arith })
 
-    pub turned-most : nat_abs (held (negsuc 0 -ℤ held z)) ≤ 18446744073709551615
-    turned-most = rw magnitude (let f = fits.sfits in omega arith)
+    pub turned_most : nat_abs (held (negsuc 0 -ℤ held z)) ≤ 18446744073709551615
+    turned_most = rw magnitude (let f = fits.sfits in omega arith)
 
-    pub turned-bits : 18446744073709551615 - nat_abs (held (negsuc 0 -ℤ held z)) ≡ of_z w64 z
-    turned-bits = rw magnitude (go z (rw is at below))
+    pub turned_bits : 18446744073709551615 - nat_abs (held (negsuc 0 -ℤ held z)) ≡ of_z w64 z
+    turned_bits = rw magnitude (go z (rw is at below))
       where
         go : (x : ℤ) → lt_z x (pos 0) ≡ true → 18446744073709551615 - mag x ≡ of_z w64 x
         go (pos n) e = absurd (omega (arith, ltb-true n 0 e))
         go (negsuc k) e = omega arith
 
   module _ (above : lt_z (held z) (pos 0) ≡ false) where
-    pub kept-natural : T (non_neg (held z)) × Fits w64 (nat_abs (held z))
-    kept-natural = rw is (go z (rw is at above), Fits-nat_abs {w = w64} tt fits)
+    pub kept_natural : T (non_neg (held z)) × Fits w64 (nat_abs (held z))
+    kept_natural = rw is (go z (rw is at above), Fits-nat_abs {w = w64} tt fits)
       where
         go : (x : ℤ) → lt_z x (pos 0) ≡ false → T (non_neg x)
         go (pos n) e = tt
@@ -63,8 +63,8 @@ module _ (z : ℤ) (fits : SFits w64 z) where
 
 -- ---- narrower numbers
 module _ (w : Width) (z : ℤ) (fits : SFits w z) (small : mag z < 2 ^ 63) where
-  pub widened-fits : SFits w64 (to_z w (of_z w z))
-  widened-fits = rw (to_z-of_z {w = w} fits) (record { sfits = small })
+  pub widened_fits : SFits w64 (to_z w (of_z w z))
+  widened_fits = rw (to_z-of_z {w = w} fits) (record { sfits = small })
 
   pub widened_is : held (to_z w (of_z w z)) ≡ z
-  widened_is = to_z-of_z {w = w64} widened-fits ∙ to_z-of_z {w = w} fits
+  widened_is = to_z-of_z {w = w64} widened_fits ∙ to_z-of_z {w = w} fits

@@ -1,10 +1,10 @@
 -- What a call behind C returns: 0 where it answered, else number and place of its refusal, which can be got back.
---     zero-exactly     0 is returned exactly where the call answered
+--     zero_exactly     0 is returned exactly where the call answered
 --     answered         where 0 is returned, what stands in the array is the answer
---     array-kept       where something else is, the array is as it was
+--     array_kept       where something else is, the array is as it was
 --     coded-number     a refusal's number is what is returned modulo 256
 --     coded-place      its place is the rest, divided by 256, less one; there is none where that rest is 0
---     coded-apart      so two refusals whose places are below 2^32 and that return the same are the same
+--     coded_apart      so two refusals whose places are below 2^32 and that return the same are the same
 -- Refused by these: eight bits for the number and the place without one (`coded-place`), a refusal with the number 0 or 256 (`zero-exactly`, `numbers`), an array that is touched on a refusal (`array-kept`).
 -- Assumes nothing.
 use mathlib.Core.Path.{◌≡◌, refl, sym, ◌∙◌, ap}
@@ -19,11 +19,11 @@ use Rattle.format.specs.declared.refusal.Refusal.{Refusal}
 use Rattle.format.specs.declared.refusal.Place.{Place}
 use Rattle.format.specs.declared.refusal.Place.TheVariants.{At, None}
 use Rattle.format.specs.Refusals.{reported}
-use Rattle.format.proofs.RefusalNumbers.{told-apart, numbers}
-use Rattle.c_boundary.specs.Status.{withPlace, coded, Answer, done, refuses, status, written}
+use Rattle.format.proofs.RefusalNumbers.{told_apart, numbers}
+use Rattle.c_boundary.specs.Status.{with_place, coded, Answer, done, refuses, status, written}
 
 -- ## 0 exactly where the call answered
-some_number : (n : ℕ) (p : Place) → 1 ≤ n → 1 ≤ withPlace n p
+some_number : (n : ℕ) (p : Place) → 1 ≤ n → 1 ≤ with_place n p
 some_number n None h = h
 some_number n (At at) h = go (leb (2 ^ 32) at) _
   where
@@ -35,25 +35,25 @@ abbrev pub Done : Answer → Type 0
 Done (done l) = Unit {0}
 Done (refuses r) = ⊥
 
-pub zero-exactly : (a : Answer) → (status a ≡ 0) ↔ Done a
-zero-exactly (done l) = (λ e. tt, λ d. refl)
-zero-exactly (refuses r) = (λ e. let h = some_number (reported r).number (reported r).place (numbers r).0 in absurd (omega (arith, e)), λ d. absurd d)
+pub zero_exactly : (a : Answer) → (status a ≡ 0) ↔ Done a
+zero_exactly (done l) = (λ e. tt, λ d. refl)
+zero_exactly (refuses r) = (λ e. let h = some_number (reported r).number (reported r).place (numbers r).0 in absurd (omega (arith, e)), λ d. absurd d)
 
 pub answered : (a : Answer) (old : List ℕ) → status a ≡ 0 → a ≡ done (written a old)
 answered (done l) old e = refl
-answered (refuses r) old e = absurd ((zero-exactly (refuses r)).0 e)
+answered (refuses r) old e = absurd ((zero_exactly (refuses r)).0 e)
 
-pub array-kept : (a : Answer) (old : List ℕ) → (status a ≡ 0 → ⊥) → written a old ≡ old
-array-kept (done l) old h = absurd (h refl)
-array-kept (refuses r) old h = refl
+pub array_kept : (a : Answer) (old : List ℕ) → (status a ≡ 0 → ⊥) → written a old ≡ old
+array_kept (done l) old h = absurd (h refl)
+array_kept (refuses r) old h = refl
 
 -- ## Number and place of what is returned
 -- the place and one, or 0 where there is none, or none below 2^32
-abbrev pub placeAndOne : Place → ℕ
-placeAndOne None = 0
-placeAndOne (At at) = cond (leb (2 ^ 32) at) 0 (at + 1)
+abbrev pub place_and_one : Place → ℕ
+place_and_one None = 0
+place_and_one (At at) = cond (leb (2 ^ 32) at) 0 (at + 1)
 
-parted : (n : ℕ) (p : Place) → n < 256 → (withPlace n p % 256 ≡ n) × (withPlace n p / 256 ≡ placeAndOne p)
+parted : (n : ℕ) (p : Place) → n < 256 → (with_place n p % 256 ≡ n) × (with_place n p / 256 ≡ place_and_one p)
 parted n None h = omega arith
 parted n (At at) h = go (leb (2 ^ 32) at)
   where
@@ -67,24 +67,24 @@ below r = let h = numbers r in omega arith
 pub coded-number : (r : Refusal) → coded r % 256 ≡ (reported r).number
 coded-number r = (parted (reported r).number (reported r).place (below r)).0
 
-pub coded-place : (r : Refusal) → coded r / 256 ≡ placeAndOne (reported r).place
+pub coded-place : (r : Refusal) → coded r / 256 ≡ place_and_one (reported r).place
 coded-place r = (parted (reported r).number (reported r).place (below r)).1
 
 abbrev pub Small : Place → Type 0
 Small (At at) = at < 2 ^ 32
 Small None = Unit {0}
 
-place-apart : (p r : Place) → Small p → Small r → placeAndOne p ≡ placeAndOne r → p ≡ r
-place-apart None None s t e = refl
-place-apart (At a) None s t e = absurd (let e' : a + 1 ≡ 0 = rw (lt-leb (2 ^ 32) a s) at e in omega arith)
-place-apart None (At b) s t e = absurd (let e' : 0 ≡ b + 1 = rw (lt-leb (2 ^ 32) b t) at e in omega arith)
-place-apart (At a) (At b) s t e =
+place_apart : (p r : Place) → Small p → Small r → place_and_one p ≡ place_and_one r → p ≡ r
+place_apart None None s t e = refl
+place_apart (At a) None s t e = absurd (let e' : a + 1 ≡ 0 = rw (lt-leb (2 ^ 32) a s) at e in omega arith)
+place_apart None (At b) s t e = absurd (let e' : 0 ≡ b + 1 = rw (lt-leb (2 ^ 32) b t) at e in omega arith)
+place_apart (At a) (At b) s t e =
     let e' : a + 1 ≡ b + 1 = rw (lt-leb (2 ^ 32) a s, lt-leb (2 ^ 32) b t) at e in
     let same : a ≡ b = omega arith in
     ap At same
 
-pub coded-apart : (p r : Refusal) → Small (reported p).place → Small (reported r).place → coded p ≡ coded r → p ≡ r
-coded-apart p r s t e =
+pub coded_apart : (p r : Refusal) → Small (reported p).place → Small (reported r).place → coded p ≡ coded r → p ≡ r
+coded_apart p r s t e =
     let number = sym (coded-number p) ∙ ap (λ c. c % 256) e ∙ coded-number r in
-    let place = place-apart (reported p).place (reported r).place s t (sym (coded-place p) ∙ ap (λ c. c / 256) e ∙ coded-place r) in
-    told-apart p r λ i. record { number = number i; place = place i }
+    let place = place_apart (reported p).place (reported r).place s t (sym (coded-place p) ∙ ap (λ c. c / 256) e ∙ coded-place r) in
+    told_apart p r λ i. record { number = number i; place = place i }

@@ -1,5 +1,5 @@
 -- Limits, refusals and answers as C sees them: numbers.
---     limitsOf l           the nine limits, in the order of `ResourceLimits`
+--     limits_of l           the nine limits, in the order of `ResourceLimits`
 --     coded q              a refusal: 01's number in the low eight bits; above them the place and one, or 0 where there is no place. (A place of 2^32 or more would be left out. A refusal of a chunk has none: crates/demands/proofs/Demand1.antt, `places`. A part asked for at such a place can have one.)
 --     status a             what a call returns: 0, or the refusal
 --     written a old        what then stands in the array that held `old`
@@ -14,11 +14,11 @@ use Rattle.format.specs.declared.refusal.Refusal.TheVariants.{LimitAboveCeiling,
 use Rattle.format.specs.declared.refusal.Place.{Place}
 use Rattle.format.specs.declared.refusal.Place.TheVariants as place
 use Rattle.format.specs.Form.{Bytes}
-use Rattle.format.specs.Limits.{withinCeilings}
+use Rattle.format.specs.Limits.{within_ceilings}
 use Rattle.format.specs.Refusals.{reported}
 
-abbrev pub limitsOf : List ℕ → ResourceLimits
-limitsOf l = record {
+abbrev pub limits_of : List ℕ → ResourceLimits
+limits_of l = record {
   max_input_bytes = get_or l 0 0;
   max_nesting_depth = get_or l 1 0;
   max_total_prototypes = get_or l 2 0;
@@ -30,12 +30,12 @@ limitsOf l = record {
   max_diagnostics = get_or l 8 0;
 }
 
-abbrev pub withPlace : ℕ → Place → ℕ
-withPlace n place.None = n
-withPlace n (place.At at) = cond (leb (2 ^ 32) at) n (n + 256 * (at + 1))
+abbrev pub with_place : ℕ → Place → ℕ
+with_place n place.None = n
+with_place n (place.At at) = cond (leb (2 ^ 32) at) n (n + 256 * (at + 1))
 
 abbrev pub coded : Refusal → ℕ
-coded q = withPlace (reported q).number (reported q).place
+coded q = with_place (reported q).number (reported q).place
 
 -- an answer in numbers
 pub data Answer : Type 0 where
@@ -52,7 +52,7 @@ written (refuses q) old = old
 
 -- 21 where a limit is above its ceiling, else 22 where the chunk is longer than the input limit, else the answer (01, 'Order'; `read` of crates/format/specs/ReadChunk.antt begins so)
 abbrev pub admitted : ResourceLimits → Bytes → Answer → Answer
-admitted l s a = cond (withinCeilings l) (cond (leb (length s) l.max_input_bytes) a (refuses InputBytes)) (refuses LimitAboveCeiling)
+admitted l s a = cond (within_ceilings l) (cond (leb (length s) l.max_input_bytes) a (refuses InputBytes)) (refuses LimitAboveCeiling)
 
 -- the two's complement, as the language has it: z itself from 0 up, and 2^64 + z below
 abbrev pub complement : ℤ → ℕ

@@ -2,7 +2,7 @@
 pub mod signed;
 
 ghost use Rattle.std.specs.Prelude.{◌≡◌, [], ◌∷◌};
-ghost use Rattle.c_boundary.specs.Status.{limitsOf, withPlace, coded, done, status, admitted};
+ghost use Rattle.c_boundary.specs.Status.{limits_of, with_place, coded, done, status, admitted};
 
 use format::limits::ResourceLimits;
 use format::refusal::{Place, Refusal};
@@ -10,7 +10,7 @@ use format_report::report_refusal;
 
 // The nine limits in the order of `ResourceLimits`.
 pub fn limits_of(l: &[u64; 9]) -> ResourceLimits
-    ensures { result ≡ limitsOf l.now }
+    ensures { result ≡ limits_of l.now }
 {
     ResourceLimits {
         max_input_bytes: l[0] as usize,
@@ -26,7 +26,7 @@ pub fn limits_of(l: &[u64; 9]) -> ResourceLimits
 }
 
 fn with_place(number: u32, place: Place) -> u64
-    ensures { result ≡ withPlace number place }
+    ensures { result ≡ with_place number place }
 {
     match place {
         Place::None => number as u64,
@@ -50,7 +50,7 @@ pub fn refused(q: Refusal) -> u64
 
 // 0, or 21 where a limit is above its ceiling, or 22 where the chunk is longer than the input limit. Ruled out: 22 before 21, a chunk as long as the limit refused.
 pub fn tested(chunk: &[u8], limits: &[u64; 9]) -> u64
-    ensures { result ≡ status (admitted (limitsOf limits.now) chunk.now (done [])) }
+    ensures { result ≡ status (admitted (limits_of limits.now) chunk.now (done [])) }
 {
     let l = limits_of(limits);
     let within = l.within_ceilings();

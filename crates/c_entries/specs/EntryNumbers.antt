@@ -9,35 +9,35 @@ use Rattle.format.specs.declared.entry.AbsLineInfo.{AbsLineInfo}
 use Rattle.c_boundary.specs.Status.{complement}
 
 -- of a string whether it is there, its place and its length
-abbrev pub presentNumber : OptionString → ℕ
-presentNumber string.None = 0
-presentNumber (string.Some t) = 1
+abbrev pub present_number : OptionString → ℕ
+present_number string.None = 0
+present_number (string.Some t) = 1
 
-abbrev pub placeNumber : OptionString → ℕ
-placeNumber string.None = 0
-placeNumber (string.Some t) = t.place
+abbrev pub place_number : OptionString → ℕ
+place_number string.None = 0
+place_number (string.Some t) = t.place
 
-abbrev pub lengthNumber : OptionString → ℕ
-lengthNumber string.None = 0
-lengthNumber (string.Some t) = t.len
+abbrev pub length_number : OptionString → ℕ
+length_number string.None = 0
+length_number (string.Some t) = t.len
 
-abbrev pub stringNumbers : OptionString → List ℕ
-stringNumbers t = presentNumber t ∷ placeNumber t ∷ lengthNumber t ∷ []
+abbrev pub string_numbers : OptionString → List ℕ
+string_numbers t = present_number t ∷ place_number t ∷ length_number t ∷ []
 
 -- the tag of lobject.h (0 nil, 1 false, 17 true, 3 integer, 19 float, 4 short string, 20 long string); an integer's or float's bits or a string's place; a string's length
-abbrev pub constantNumbers : ConstantValue → List ℕ
-constantNumbers value.Nil = 0 ∷ 0 ∷ 0 ∷ []
-constantNumbers (value.Boolean b) = cond b 17 1 ∷ 0 ∷ 0 ∷ []
-constantNumbers (value.Integer z) = 3 ∷ complement z ∷ 0 ∷ []
-constantNumbers (value.Float n) = 19 ∷ n ∷ 0 ∷ []
-constantNumbers (value.ShortString t) = 4 ∷ t.place ∷ t.len ∷ []
-constantNumbers (value.LongString t) = 20 ∷ t.place ∷ t.len ∷ []
+abbrev pub constant_numbers : ConstantValue → List ℕ
+constant_numbers value.Nil = 0 ∷ 0 ∷ 0 ∷ []
+constant_numbers (value.Boolean b) = cond b 17 1 ∷ 0 ∷ 0 ∷ []
+constant_numbers (value.Integer z) = 3 ∷ complement z ∷ 0 ∷ []
+constant_numbers (value.Float n) = 19 ∷ n ∷ 0 ∷ []
+constant_numbers (value.ShortString t) = 4 ∷ t.place ∷ t.len ∷ []
+constant_numbers (value.LongString t) = 20 ∷ t.place ∷ t.len ∷ []
 
-abbrev pub upvalueNumbers : UpvalueDesc → List ℕ
-upvalueNumbers u = u.instack ∷ u.idx ∷ u.kind ∷ []
+abbrev pub upvalue_numbers : UpvalueDesc → List ℕ
+upvalue_numbers u = u.instack ∷ u.idx ∷ u.kind ∷ []
 
-abbrev pub anchorNumbers : AbsLineInfo → List ℕ
-anchorNumbers a = a.pc ∷ a.line ∷ []
+abbrev pub anchor_numbers : AbsLineInfo → List ℕ
+anchor_numbers a = a.pc ∷ a.line ∷ []
 
-abbrev pub localNumbers : ℕ → ℕ → ℕ → List ℕ
-localNumbers n startpc endpc = n ∷ startpc ∷ endpc ∷ []
+abbrev pub local_numbers : ℕ → ℕ → ℕ → List ℕ
+local_numbers n startpc endpc = n ∷ startpc ∷ endpc ∷ []

@@ -1,12 +1,12 @@
 // A string as numbers: whether it is there, its place, its length.
 ghost use Rattle.std.specs.Prelude.{◌≡◌};
-ghost use Rattle.c_entries.specs.EntryNumbers.{presentNumber, placeNumber, lengthNumber, stringNumbers};
+ghost use Rattle.c_entries.specs.EntryNumbers.{present_number, place_number, length_number, string_numbers};
 
 use read_field::string::OptionString;
 
 // 1 where there is a string, else 0.
 pub fn present_number(t: OptionString) -> u64
-    ensures { result ≡ presentNumber t }
+    ensures { result ≡ present_number t }
 {
     match t {
         OptionString::None => 0,
@@ -16,7 +16,7 @@ pub fn present_number(t: OptionString) -> u64
 
 // Where a string stands; 0 where there is none.
 pub fn place_number(t: OptionString) -> u64
-    ensures { result ≡ placeNumber t }
+    ensures { result ≡ place_number t }
 {
     match t {
         OptionString::None => 0,
@@ -26,7 +26,7 @@ pub fn place_number(t: OptionString) -> u64
 
 // A string's length; 0 where there is none.
 pub fn length_number(t: OptionString) -> u64
-    ensures { result ≡ lengthNumber t }
+    ensures { result ≡ length_number t }
 {
     match t {
         OptionString::None => 0,
@@ -36,7 +36,7 @@ pub fn length_number(t: OptionString) -> u64
 
 // The three numbers of a string that may be absent: whether it is there, its place, its length.
 pub fn string_numbers(t: OptionString) -> [u64; 3]
-    ensures { result ≡ stringNumbers t }
+    ensures { result ≡ string_numbers t }
 {
     [present_number(t), place_number(t), length_number(t)]
 }

@@ -4,7 +4,7 @@
 // chunk there are none.
 ghost use Rattle.std.specs.Prelude.{◌≡◌};
 ghost use Rattle.c_boundary.specs.Status.{status, written};
-ghost use Rattle.c_entries_at.specs.EntryNumbers.{up_to, deltaNumber, localNumbersAt, word_at, constantAt, upvalueAt, deltaAt, anchorAt, local_at, stringAt};
+ghost use Rattle.c_entries_at.specs.EntryNumbers.{up_to, delta_number, local_numbers_at, word_at, constant_at, upvalue_at, delta_at, anchor_at, local_at, string_at};
 
 use c_boundary::{limits_of, refused, tested, two};
 use c_entries::entry::{anchor_numbers, constant_numbers, upvalue_numbers};
@@ -50,8 +50,8 @@ pub fn word_at(chunk: &[u8], limits: &[u64; 9], place: usize, out: &mut [u64; 2]
 
 // The constant that begins at a place, and the place behind it. Ruled out: a short string shown as a long one, an integer's magnitude instead of its bits.
 pub fn constant_at(chunk: &[u8], limits: &[u64; 9], place: usize, out: &mut [u64; 4]) -> u64
-    ensures value { result ≡ status (constantAt limits.now place chunk.now) }
-    ensures out_after { out.new ≡ written (constantAt limits.now place chunk.now) out.old }
+    ensures value { result ≡ status (constant_at limits.now place chunk.now) }
+    ensures out_after { out.new ≡ written (constant_at limits.now place chunk.now) out.old }
 {
     let refusal = tested(chunk, limits);
     if 0 < refusal {
@@ -70,8 +70,8 @@ pub fn constant_at(chunk: &[u8], limits: &[u64; 9], place: usize, out: &mut [u64
 
 // The upvalue that begins at a place, and the place behind it. Ruled out: instack and idx exchanged, two bytes an upvalue.
 pub fn upvalue_at(chunk: &[u8], limits: &[u64; 9], place: usize, out: &mut [u64; 4]) -> u64
-    ensures value { result ≡ status (upvalueAt limits.now place chunk.now) }
-    ensures out_after { out.new ≡ written (upvalueAt limits.now place chunk.now) out.old }
+    ensures value { result ≡ status (upvalue_at limits.now place chunk.now) }
+    ensures out_after { out.new ≡ written (upvalue_at limits.now place chunk.now) out.old }
 {
     let refusal = tested(chunk, limits);
     if 0 < refusal {
@@ -89,7 +89,7 @@ pub fn upvalue_at(chunk: &[u8], limits: &[u64; 9], place: usize, out: &mut [u64;
 
 // A delta's byte as a signed number of 64 bits.
 fn delta_number(byte: u8) -> u64
-    ensures { result ≡ deltaNumber byte }
+    ensures { result ≡ delta_number byte }
 {
     if byte < 128 {
         return byte as u64;
@@ -99,8 +99,8 @@ fn delta_number(byte: u8) -> u64
 
 // The line delta at a place, and the place behind it. Ruled out: a byte from 128 up shown as it stands.
 pub fn delta_at(chunk: &[u8], limits: &[u64; 9], place: usize, out: &mut [u64; 2]) -> u64
-    ensures value { result ≡ status (deltaAt limits.now place chunk.now) }
-    ensures out_after { out.new ≡ written (deltaAt limits.now place chunk.now) out.old }
+    ensures value { result ≡ status (delta_at limits.now place chunk.now) }
+    ensures out_after { out.new ≡ written (delta_at limits.now place chunk.now) out.old }
 {
     let refusal = tested(chunk, limits);
     if 0 < refusal {
@@ -118,8 +118,8 @@ pub fn delta_at(chunk: &[u8], limits: &[u64; 9], place: usize, out: &mut [u64; 2
 
 // The anchor that begins at a place, and the place behind it. Ruled out: pc and line exchanged, the place behind pc given as the one behind.
 pub fn anchor_at(chunk: &[u8], limits: &[u64; 9], place: usize, out: &mut [u64; 3]) -> u64
-    ensures value { result ≡ status (anchorAt limits.now place chunk.now) }
-    ensures out_after { out.new ≡ written (anchorAt limits.now place chunk.now) out.old }
+    ensures value { result ≡ status (anchor_at limits.now place chunk.now) }
+    ensures out_after { out.new ≡ written (anchor_at limits.now place chunk.now) out.old }
 {
     let refusal = tested(chunk, limits);
     if 0 < refusal {
@@ -136,7 +136,7 @@ pub fn anchor_at(chunk: &[u8], limits: &[u64; 9], place: usize, out: &mut [u64; 
 }
 
 fn local_numbers_at(name: OptionString, startpc: usize, endpc: usize, to: usize) -> [u64; 6]
-    ensures { result ≡ localNumbersAt name startpc endpc to }
+    ensures { result ≡ local_numbers_at name startpc endpc to }
 {
     [
         present_number(name),
@@ -175,8 +175,8 @@ pub fn local_at(chunk: &[u8], limits: &[u64; 9], place: usize, out: &mut [u64; 6
 
 // An upvalue's name, or a source. Ruled out: an absent string shown as an empty one, a place before its size.
 pub fn string_at(chunk: &[u8], limits: &[u64; 9], place: usize, out: &mut [u64; 4]) -> u64
-    ensures value { result ≡ status (stringAt limits.now place chunk.now) }
-    ensures out_after { out.new ≡ written (stringAt limits.now place chunk.now) out.old }
+    ensures value { result ≡ status (string_at limits.now place chunk.now) }
+    ensures out_after { out.new ≡ written (string_at limits.now place chunk.now) out.old }
 {
     let refusal = tested(chunk, limits);
     if 0 < refusal {

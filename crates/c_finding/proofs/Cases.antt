@@ -1,6 +1,6 @@
 -- The four numbers of a finding for C (include/lafzimdo.h): its function, its instruction, its rule (1 opcode, 2 register, 3 constant, 4 upvalue, 5 table upvalue, 6 prototype, 7 jump) and the offending number.
 -- Findings and numbers in a list, and one theorem over the list, which antt computes.
---     findings-hold    one of each rule; a jump's target below 0 is its two's complement
+--     findings_hold    one of each rule; a jump's target below 0 is its two's complement
 -- Told apart: two rules' numbers exchanged, function and instruction exchanged, a target's sign left out.
 -- Assumes nothing.
 use mathlib.Core.Path.{◌≡◌, refl}
@@ -9,7 +9,7 @@ use Prim.Native.Nat.{ℕ, ◌-◌, ◌^◌}
 use lib.IntN.{pos, negsuc}
 use Rattle.validate_rules.specs.declared.finding.Rule.{Rule}
 use Rattle.validate_rules.specs.declared.finding.Rule.TheVariants.{Opcode, Register, Constant, Upvalue, TableUpvalue, Prototype, Jump}
-use Rattle.c_finding.specs.FindingNumbers.{findingNumbers}
+use Rattle.c_finding.specs.FindingNumbers.{finding_numbers}
 
 -- a rule, and the numbers of a finding of instruction 9 of function 8
 findings : List (Rule × List ℕ)
@@ -24,6 +24,6 @@ findings =
     ∷ (Jump (negsuc 0), 8 ∷ 9 ∷ 7 ∷ (2 ^ 64 - 1) ∷ [])
     ∷ []
 
-findings-hold : map (λ c. findingNumbers (record { function = 8; pc = 9; rule = c.0 })) findings ≡ map (λ c. c.1) findings
+findings_hold : map (λ c. finding_numbers (record { function = 8; pc = 9; rule = c.0 })) findings ≡ map (λ c. c.1) findings
 unfolding findings
-findings-hold = refl
+findings_hold = refl

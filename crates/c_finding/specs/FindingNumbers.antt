@@ -8,22 +8,22 @@ use Rattle.validate_rules.specs.declared.finding.Verdict.TheVariants.{ValidForAn
 use Rattle.validate_rules.specs.Rules.{offending}
 use Rattle.c_boundary.specs.Status.{complement}
 
-abbrev pub verdictNumber : Verdict → ℕ
-verdictNumber ValidForAnalysis = 0
-verdictNumber Invalid = 1
-verdictNumber Incomplete = 2
+abbrev pub verdict_number : Verdict → ℕ
+verdict_number ValidForAnalysis = 0
+verdict_number Invalid = 1
+verdict_number Incomplete = 2
 
-abbrev pub ruleNumber : Rule → ℕ
-ruleNumber (Opcode n) = 1
-ruleNumber (Register n) = 2
-ruleNumber (Constant n) = 3
-ruleNumber (Upvalue n) = 4
-ruleNumber (TableUpvalue n) = 5
-ruleNumber (Prototype n) = 6
-ruleNumber (Jump z) = 7
+abbrev pub rule_number : Rule → ℕ
+rule_number (Opcode n) = 1
+rule_number (Register n) = 2
+rule_number (Constant n) = 3
+rule_number (Upvalue n) = 4
+rule_number (TableUpvalue n) = 5
+rule_number (Prototype n) = 6
+rule_number (Jump z) = 7
 
-abbrev pub offendingNumber : Rule → ℕ
-offendingNumber rule = complement (offending rule)
+abbrev pub offending_number : Rule → ℕ
+offending_number rule = complement (offending rule)
 
-abbrev pub findingNumbers : Finding → List ℕ
-findingNumbers f = f.function ∷ f.pc ∷ ruleNumber f.rule ∷ offendingNumber f.rule ∷ []
+abbrev pub finding_numbers : Finding → List ℕ
+finding_numbers f = f.function ∷ f.pc ∷ rule_number f.rule ∷ offending_number f.rule ∷ []

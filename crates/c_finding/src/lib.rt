@@ -1,14 +1,14 @@
 // A verdict as a number; one finding as four numbers, stored into a list that is lent: what crate `c_findings` writes for each finding of a chunk.
 ghost use Rattle.std.specs.Prelude.{◌≡◌, ◌+◌, ◌≤◌, length};
 ghost use Rattle.slice.specs.Inner.Splice.{splice};
-ghost use Rattle.c_finding.specs.FindingNumbers.{verdictNumber, ruleNumber, offendingNumber, findingNumbers};
+ghost use Rattle.c_finding.specs.FindingNumbers.{verdict_number, rule_number, offending_number, finding_numbers};
 
 use c_boundary::signed::complement_of;
 use validate_rules::finding::{Finding, Rule, Verdict};
 
 // The number of a verdict, for C.
 pub fn verdict_number(v: Verdict) -> u64
-    ensures { result ≡ verdictNumber v }
+    ensures { result ≡ verdict_number v }
 {
     match v {
         Verdict::ValidForAnalysis => 0,
@@ -19,7 +19,7 @@ pub fn verdict_number(v: Verdict) -> u64
 
 // Rules are numbered from 1, in the order of `Rule`.
 fn rule_number(rule: Rule) -> u64
-    ensures { result ≡ ruleNumber rule }
+    ensures { result ≡ rule_number rule }
 {
     match rule {
         Rule::Opcode(_) => 1,
@@ -34,7 +34,7 @@ fn rule_number(rule: Rule) -> u64
 
 // The number that breaks it.
 fn offending_number(rule: Rule) -> u64
-    ensures { result ≡ offendingNumber rule }
+    ensures { result ≡ offending_number rule }
 {
     match rule {
         Rule::Opcode(n) => n as u64,
@@ -50,7 +50,7 @@ fn offending_number(rule: Rule) -> u64
 // Stores the numbers of a finding from `at` on.
 pub fn put_finding(list: &mut [u64], at: usize, finding: Finding)
     requires { at + 4 ≤ length list.old }
-    ensures { list.new ≡ splice at (findingNumbers finding) list.old }
+    ensures { list.new ≡ splice at (finding_numbers finding) list.old }
 {
     let rule = finding.rule;
     list[at] = finding.function as u64;

@@ -1,26 +1,26 @@
 -- The findings of a chunk as numbers in a lent list, four each.
---     listNumbers              of findings, one behind the other
---     ofFindings               the verdict, and how many findings there are
---     numbersWritten old o     what then stands in the list that held `old`
+--     list_numbers              of findings, one behind the other
+--     of_findings               the verdict, and how many findings there are
+--     numbers_written old o     what then stands in the list that held `old`
 use Rattle.std.specs.Prelude.{List, [], ◌∷◌, ◌++◌, ℕ}
 use Rattle.format.specs.ReadChunk.{Outcome, shown, refusal}
 use Rattle.slice.specs.Over.{over}
 use Rattle.validate_rules.specs.declared.finding.Finding.{Finding}
-use Rattle.validate_rules.specs.Findings.{chunkFindings}
+use Rattle.validate_rules.specs.Findings.{chunk_findings}
 use Rattle.validate_plan.specs.declared.FindingsAnswer.{FindingsAnswer}
 use Rattle.validate_plan.specs.declared.FindingsAnswer.TheVariants as answer
 use Rattle.c_boundary.specs.Status.{Answer, done, refuses}
-use Rattle.c_finding.specs.FindingNumbers.{verdictNumber, findingNumbers}
+use Rattle.c_finding.specs.FindingNumbers.{verdict_number, finding_numbers}
 
-unfoldable pub listNumbers : List Finding → List ℕ
-listNumbers [] = []
-listNumbers (f ∷ fs) = findingNumbers f ++ listNumbers fs
+unfoldable pub list_numbers : List Finding → List ℕ
+list_numbers [] = []
+list_numbers (f ∷ fs) = finding_numbers f ++ list_numbers fs
 
-abbrev pub ofFindings : FindingsAnswer → Answer
-ofFindings (answer.Ok v n) = done (verdictNumber v ∷ n ∷ [])
-ofFindings (answer.Err q) = refuses q
+abbrev pub of_findings : FindingsAnswer → Answer
+of_findings (answer.Ok v n) = done (verdict_number v ∷ n ∷ [])
+of_findings (answer.Err q) = refuses q
 
 -- the numbers, and behind them what stood there; on any refusal all that stood there
-abbrev pub numbersWritten : List ℕ → Outcome → List ℕ
-numbersWritten old (shown r) = over (listNumbers (chunkFindings r).findings) old
-numbersWritten old (refusal q) = old
+abbrev pub numbers_written : List ℕ → Outcome → List ℕ
+numbers_written old (shown r) = over (list_numbers (chunk_findings r).findings) old
+numbers_written old (refusal q) = old

@@ -7,25 +7,25 @@ use Rattle.format.specs.declared.header.WarningCode.TheVariants.{L54Header003, L
 use Rattle.format.specs.Warnings.{warned}
 use Rattle.show_chunk.specs.declared.summary.ChunkSummary.{ChunkSummary}
 use Rattle.show_chunk.specs.declared.fields.FunctionFields.{FunctionFields}
-use Rattle.c_entries.specs.EntryNumbers.{presentNumber, placeNumber, lengthNumber}
+use Rattle.c_entries.specs.EntryNumbers.{present_number, place_number, length_number}
 
 -- 1: L54-HEADER-003, the format byte; 2: L54-CHUNK-001, trailing bytes
-abbrev pub codeNumber : WarningCode → ℕ
-codeNumber L54Header003 = 1
-codeNumber L54Chunk001 = 2
+abbrev pub code_number : WarningCode → ℕ
+code_number L54Header003 = 1
+code_number L54Chunk001 = 2
 
 -- of a warning as it is reported; where there is none, 0
-abbrev pub warningCode : OptionWarning → ℕ
-warningCode option.None = 0
-warningCode (option.Some w) = codeNumber (warned w).code
+abbrev pub warning_code : OptionWarning → ℕ
+warning_code option.None = 0
+warning_code (option.Some w) = code_number (warned w).code
 
-abbrev pub warningPlace : OptionWarning → ℕ
-warningPlace option.None = 0
-warningPlace (option.Some w) = (warned w).place
+abbrev pub warning_place : OptionWarning → ℕ
+warning_place option.None = 0
+warning_place (option.Some w) = (warned w).place
 
 -- (`luac_int` is 22,136 in every chunk that is read)
-abbrev pub summaryNumbers : ChunkSummary → List ℕ
-summaryNumbers shown =
+abbrev pub summary_numbers : ChunkSummary → List ℕ
+summary_numbers shown =
     let y = shown.summary in
     y.header.version
     ∷ y.header.format
@@ -37,20 +37,20 @@ summaryNumbers shown =
     ∷ y.functions
     ∷ y.trailing_at
     ∷ y.trailing_len
-    ∷ warningCode y.warnings.first
-    ∷ warningPlace y.warnings.first
-    ∷ warningCode y.warnings.second
-    ∷ warningPlace y.warnings.second
+    ∷ warning_code y.warnings.first
+    ∷ warning_place y.warnings.first
+    ∷ warning_code y.warnings.second
+    ∷ warning_place y.warnings.second
     ∷ shown.padded_numbers
     ∷ []
 
-abbrev pub fieldsNumbers : FunctionFields → List ℕ
-fieldsNumbers y =
+abbrev pub fields_numbers : FunctionFields → List ℕ
+fields_numbers y =
     y.depth
     ∷ y.parent
-    ∷ presentNumber y.source_name
-    ∷ placeNumber y.source_name
-    ∷ lengthNumber y.source_name
+    ∷ present_number y.source_name
+    ∷ place_number y.source_name
+    ∷ length_number y.source_name
     ∷ y.line_defined
     ∷ y.last_line_defined
     ∷ y.numparams

@@ -1,13 +1,13 @@
 // A function's fields.
 ghost use Rattle.std.specs.Prelude.{◌≡◌};
-ghost use Rattle.c_numbers.specs.Numbers.{fieldsNumbers};
+ghost use Rattle.c_numbers.specs.Numbers.{fields_numbers};
 
 use c_entries::strings::{length_number, place_number, present_number};
 use show_chunk::fields::FunctionFields;
 
 // The numbers of a function's fields, for C.
 pub fn fields_numbers(y: FunctionFields) -> [u64; 18]
-    ensures { result ≡ fieldsNumbers y }
+    ensures { result ≡ fields_numbers y }
 {
     let source = y.source_name;
     let counts = y.counts;

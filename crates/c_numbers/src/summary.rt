@@ -1,13 +1,13 @@
 // A chunk's summary.
 ghost use Rattle.std.specs.Prelude.{◌≡◌};
-ghost use Rattle.c_numbers.specs.Numbers.{warningCode, warningPlace, summaryNumbers};
+ghost use Rattle.c_numbers.specs.Numbers.{warning_code, warning_place, summary_numbers};
 
 use format::header::Warning;
 use read_header::OptionWarning;
 use show_chunk::summary::ChunkSummary;
 
 fn warning_code(w: OptionWarning) -> u64
-    ensures { result ≡ warningCode w }
+    ensures { result ≡ warning_code w }
 {
     match w {
         OptionWarning::None => 0,
@@ -19,7 +19,7 @@ fn warning_code(w: OptionWarning) -> u64
 }
 
 fn warning_place(w: OptionWarning) -> u64
-    ensures { result ≡ warningPlace w }
+    ensures { result ≡ warning_place w }
 {
     match w {
         OptionWarning::None => 0,
@@ -32,7 +32,7 @@ fn warning_place(w: OptionWarning) -> u64
 
 // The numbers of a summary, for C. Ruled out: the number of functions for that of padded numbers.
 pub fn summary_numbers(shown: ChunkSummary) -> [u64; 15]
-    ensures { result ≡ summaryNumbers shown }
+    ensures { result ≡ summary_numbers shown }
 {
     let y = shown.summary;
     let header = y.header;

@@ -1,5 +1,5 @@
 -- What is answered of a function that is read at a place, before and behind the functions that nest in it:
---     headAt limits place chunk, tail_at ..
+--     head_at limits place chunk, tail_at ..
 -- Bytes before the place are not looked at. `head` counts the instructions of the functions before; here there are none.
 use Rattle.std.specs.Prelude.{List, [], ◌∷◌, ℕ, drop}
 use Rattle.read_prototype.specs.declared.parts.Head.{Head}
@@ -10,16 +10,16 @@ use Rattle.read_prototype.specs.declared.parts.TailResult.{TailResult}
 use Rattle.read_prototype.specs.declared.parts.TailResult.TheVariants as tail
 use Rattle.format.specs.Form.{Bytes}
 use Rattle.read_prototype.specs.Parts as parts
-use Rattle.read_prototype.specs.PartsShown.{headResult, tailResult}
-use Rattle.c_boundary.specs.Status.{limitsOf, Answer, done, refuses, admitted}
-use Rattle.c_entries.specs.EntryNumbers.{presentNumber, placeNumber, lengthNumber}
+use Rattle.read_prototype.specs.PartsShown.{head_result, tail_result}
+use Rattle.c_boundary.specs.Status.{limits_of, Answer, done, refuses, admitted}
+use Rattle.c_entries.specs.EntryNumbers.{present_number, place_number, length_number}
 
 -- of each list how many entries it has, and the place of the first
-abbrev pub headNumbers : Head → List ℕ
-headNumbers h =
-    presentNumber h.front.source
-    ∷ placeNumber h.front.source
-    ∷ lengthNumber h.front.source
+abbrev pub head_numbers : Head → List ℕ
+head_numbers h =
+    present_number h.front.source
+    ∷ place_number h.front.source
+    ∷ length_number h.front.source
     ∷ h.front.lines.line_defined
     ∷ h.front.lines.last_line_defined
     ∷ h.front.sizes.numparams
@@ -36,12 +36,12 @@ headNumbers h =
     ∷ []
 
 -- (the place behind is that of the nested functions)
-abbrev pub ofHead : HeadResult → Answer
-ofHead (head.Ok h to) = done (headNumbers h)
-ofHead (head.Err q) = refuses q
+abbrev pub of_head : HeadResult → Answer
+of_head (head.Ok h to) = done (head_numbers h)
+of_head (head.Err q) = refuses q
 
-abbrev pub tailNumbers : Tail → ℕ → List ℕ
-tailNumbers t to =
+abbrev pub tail_numbers : Tail → ℕ → List ℕ
+tail_numbers t to =
     t.line_info.count
     ∷ t.line_info.place
     ∷ t.abs_line_info.count
@@ -53,13 +53,13 @@ tailNumbers t to =
     ∷ to
     ∷ []
 
-abbrev pub ofTail : TailResult → Answer
-ofTail (tail.Ok t to) = done (tailNumbers t to.at)
-ofTail (tail.Err q) = refuses q
+abbrev pub of_tail : TailResult → Answer
+of_tail (tail.Ok t to) = done (tail_numbers t to.at)
+of_tail (tail.Err q) = refuses q
 
 -- ## What each call answers, behind 21 and 22
-abbrev pub headAt : List ℕ → ℕ → Bytes → Answer
-headAt limits place s = admitted (limitsOf limits) s (ofHead (headResult (parts.head (limitsOf limits) 0 place (drop place s))))
+abbrev pub head_at : List ℕ → ℕ → Bytes → Answer
+head_at limits place s = admitted (limits_of limits) s (of_head (head_result (parts.head (limits_of limits) 0 place (drop place s))))
 
 abbrev pub tail_at : List ℕ → ℕ → Bytes → Answer
-tail_at limits place s = admitted (limitsOf limits) s (ofTail (tailResult (parts.tail (limitsOf limits).max_string_bytes place (drop place s))))
+tail_at limits place s = admitted (limits_of limits) s (of_tail (tail_result (parts.tail (limits_of limits).max_string_bytes place (drop place s))))

@@ -4,7 +4,7 @@
 // held against theirs. Where no such part begins at the place, the answer is what the bytes there spell; behind the end of the chunk there are none.
 ghost use Rattle.std.specs.Prelude.{◌≡◌};
 ghost use Rattle.c_boundary.specs.Status.{status, written};
-ghost use Rattle.c_parts.specs.PartNumbers.{headNumbers, tailNumbers, headAt, tail_at};
+ghost use Rattle.c_parts.specs.PartNumbers.{head_numbers, tail_numbers, head_at, tail_at};
 
 use c_boundary::{limits_of, refused, tested};
 use c_entries::strings::{length_number, place_number, present_number};
@@ -12,7 +12,7 @@ use read_prototype::parts::{Head, HeadResult, Tail, TailResult, read_head, read_
 use slice::cursor::Cursor;
 
 fn head_numbers(h: Head) -> [u64; 16]
-    ensures { result ≡ headNumbers h }
+    ensures { result ≡ head_numbers h }
 {
     let front = h.front;
     let source = front.source;
@@ -42,8 +42,8 @@ fn head_numbers(h: Head) -> [u64; 16]
 
 // The function that begins there, up to the functions that nest in it. Ruled out: a list's place before its count, an array that is touched where the answer is a refusal.
 pub fn head_at(chunk: &[u8], limits: &[u64; 9], place: usize, out: &mut [u64; 16]) -> u64
-    ensures value { result ≡ status (headAt limits.now place chunk.now) }
-    ensures out_after { out.new ≡ written (headAt limits.now place chunk.now) out.old }
+    ensures value { result ≡ status (head_at limits.now place chunk.now) }
+    ensures out_after { out.new ≡ written (head_at limits.now place chunk.now) out.old }
 {
     let refusal = tested(chunk, limits);
     if 0 < refusal {
@@ -67,7 +67,7 @@ pub fn head_at(chunk: &[u8], limits: &[u64; 9], place: usize, out: &mut [u64; 16
 }
 
 fn tail_numbers(t: Tail, to: usize) -> [u64; 9]
-    ensures { result ≡ tailNumbers t to }
+    ensures { result ≡ tail_numbers t to }
 {
     [
         t.line_info.count as u64,

@@ -1,6 +1,6 @@
 -- The twelve numbers of an instruction word, and the word of nine numbers, for C (include/lafzimdo.h): words whose fields all differ, one of each mode and one without an opcode; antt computes both lists.
---     words-hold       opcode, mode, a, k, b, sb, c, sc, bx, sbx, ax, sj
---     spelt-hold       the word of op, a, k, b, c, bx, sbx, ax, sj: each mode takes its own
+--     words_hold       opcode, mode, a, k, b, sb, c, sc, bx, sbx, ax, sj
+--     spelt_hold       the word of op, a, k, b, c, bx, sbx, ax, sj: each mode takes its own
 -- Told apart: two fields or two modes exchanged, a sign left out, a field taken that the mode does not use.
 -- Assumes nothing.
 use mathlib.Core.Path.{◌≡◌, refl}
@@ -10,7 +10,7 @@ use lib.IntN.{pos, negsuc}
 use Rattle.format.specs.declared.refusal.Refusal.TheVariants.{NoOpcode}
 use Rattle.word_fields.specs.Word.{decoded, encoded}
 use Rattle.c_boundary.specs.Status.{Answer, done, refuses}
-use Rattle.c_words.specs.Words.{wordNumbers, spelt, ofEncoded}
+use Rattle.c_words.specs.Words.{word_numbers, spelt, of_encoded}
 
 -- MOVE, LOADK, LOADI, EXTRAARG, JMP, and 83
 words : List (ℕ × List ℕ)
@@ -23,15 +23,15 @@ words =
     ∷ (0x0b0983d3, 83 ∷ 5 ∷ 7 ∷ 1 ∷ 9 ∷ (2 ^ 64 - 118) ∷ 11 ∷ (2 ^ 64 - 116) ∷ 5651 ∷ (2 ^ 64 - 59884) ∷ 1446663 ∷ (2 ^ 64 - 15330552) ∷ [])
     ∷ []
 
-words-hold : map (λ c. wordNumbers (decoded c.0)) words ≡ map (λ c. c.1) words
+words_hold : map (λ c. word_numbers (decoded c.0)) words ≡ map (λ c. c.1) words
 unfolding words decoded
-words-hold = refl
+words_hold = refl
 
 -- MOVE, LOADK, LOADI, EXTRAARG, JMP, and 83, each with the same nine numbers
 abbrev asked : ℕ → Answer
-asked op = ofEncoded (encoded (spelt op 1 1 2 3 4 (pos 5) 6 (negsuc 6)))
+asked op = of_encoded (encoded (spelt op 1 1 2 3 4 (pos 5) 6 (negsuc 6)))
 
-spelt-hold : map asked (0 ∷ 3 ∷ 1 ∷ 82 ∷ 56 ∷ 83 ∷ [])
+spelt_hold : map asked (0 ∷ 3 ∷ 1 ∷ 82 ∷ 56 ∷ 83 ∷ [])
     ≡ done ((0 + 0x80 * 1 + 0x8000 * 1 + 0x10000 * 2 + 0x1000000 * 3) ∷ [])
     ∷ done ((3 + 0x80 * 1 + 0x8000 * 4) ∷ [])
     ∷ done ((1 + 0x80 * 1 + 0x8000 * (65535 + 5)) ∷ [])
@@ -40,4 +40,4 @@ spelt-hold : map asked (0 ∷ 3 ∷ 1 ∷ 82 ∷ 56 ∷ 83 ∷ [])
     ∷ refuses NoOpcode
     ∷ []
 unfolding encoded
-spelt-hold = refl
+spelt_hold = refl

@@ -1,24 +1,24 @@
 -- The numbers of instruction words.
---     wordNumbers r        a word's fields: opcode, mode, a, k, b, sb, c, sc, bx, sbx, ax, sj
+--     word_numbers r        a word's fields: opcode, mode, a, k, b, sb, c, sc, bx, sbx, ax, sj
 --     spelt op a k ..      the fields of a word that is asked for (sb and sc are not looked at)
 use Rattle.std.specs.Prelude.{List, [], ◌∷◌, ℕ, ℤ, pos}
 use Rattle.word_opcodes.specs.declared.opcode.OptionOpcode54.{OptionOpcode54}
 use Rattle.word_opcodes.specs.declared.opcode.OptionOpcode54.TheVariants.{Some, None}
-use Rattle.word_opcodes.specs.Table.{opcodeAt, mode_of, modeNumber}
+use Rattle.word_opcodes.specs.Table.{opcode_at, mode_of, mode_number}
 use Rattle.word_fields.specs.declared.instruction.RawInstruction54.{RawInstruction54}
 use Rattle.word_fields.specs.declared.instruction.Encoded.{Encoded}
 use Rattle.word_fields.specs.declared.instruction.Encoded.TheVariants.{Word, Refused}
 use Rattle.c_boundary.specs.Status.{Answer, done, refuses, complement}
 
--- 0 iABC, 1 iABx, 2 iAsBx, 3 iAx, 4 isJ; 5 where there is no such opcode
-abbrev pub modeOrNone : OptionOpcode54 → ℕ
-modeOrNone (Some o) = modeNumber (mode_of o)
-modeOrNone None = 5
+-- 0 iABC, 1 iABx, 2 i_as_bx, 3 i_ax, 4 isJ; 5 where there is no such opcode
+abbrev pub mode_or_none : OptionOpcode54 → ℕ
+mode_or_none (Some o) = mode_number (mode_of o)
+mode_or_none None = 5
 
-abbrev pub wordNumbers : RawInstruction54 → List ℕ
-wordNumbers r =
+abbrev pub word_numbers : RawInstruction54 → List ℕ
+word_numbers r =
     r.opcode_num
-    ∷ modeOrNone r.opcode
+    ∷ mode_or_none r.opcode
     ∷ r.a
     ∷ r.k
     ∷ r.b
@@ -34,7 +34,7 @@ wordNumbers r =
 abbrev pub spelt : ℕ → ℕ → ℕ → ℕ → ℕ → ℕ → ℤ → ℕ → ℤ → RawInstruction54
 spelt op a k b c bx sbx ax sj = record {
   opcode_num = op;
-  opcode = opcodeAt op;
+  opcode = opcode_at op;
   a = a;
   k = k;
   b = b;
@@ -47,6 +47,6 @@ spelt op a k b c bx sbx ax sj = record {
   sj = sj;
 }
 
-abbrev pub ofEncoded : Encoded → Answer
-ofEncoded (Word w) = done (w ∷ [])
-ofEncoded (Refused q) = refuses q
+abbrev pub of_encoded : Encoded → Answer
+of_encoded (Word w) = done (w ∷ [])
+of_encoded (Refused q) = refuses q

@@ -1,14 +1,14 @@
 // The numbers of instruction words, as the calls behind C put them into their arrays (include/lafzimdo.h).
 ghost use Rattle.std.specs.Prelude.{◌≡◌};
-ghost use Rattle.word_opcodes.specs.Table.{modeNumber};
-ghost use Rattle.c_words.specs.Words.{modeOrNone, wordNumbers, spelt};
+ghost use Rattle.word_opcodes.specs.Table.{mode_number};
+ghost use Rattle.c_words.specs.Words.{mode_or_none, word_numbers, spelt};
 
 use c_boundary::signed::complement_of_i32;
 use word_fields::instruction::RawInstruction54;
 use word_opcodes::opcode::{OpMode54, Opcode54, OptionOpcode54};
 
 fn mode_number(m: OpMode54) -> u64
-    ensures { result ≡ modeNumber m }
+    ensures { result ≡ mode_number m }
 {
     match m {
         OpMode54::IABC => 0,
@@ -20,7 +20,7 @@ fn mode_number(m: OpMode54) -> u64
 }
 
 fn mode_or_none(opcode: OptionOpcode54) -> u64
-    ensures { result ≡ modeOrNone opcode }
+    ensures { result ≡ mode_or_none opcode }
 {
     let OptionOpcode54::Some(op) = opcode else {
         return 5;
@@ -30,7 +30,7 @@ fn mode_or_none(opcode: OptionOpcode54) -> u64
 
 // The fields of a word. Ruled out: a signed field without its offset, the opcode's number in place of its mode.
 pub fn word_numbers(r: RawInstruction54) -> [u64; 12]
-    ensures { result ≡ wordNumbers r }
+    ensures { result ≡ word_numbers r }
 {
     let opcode = r.opcode;
     [

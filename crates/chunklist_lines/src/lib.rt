@@ -1,8 +1,8 @@
 // The lines of a listing. Each printer answers how many bytes wait in the buffer then (crate text_print).
 ghost use Rattle.std.specs.Prelude.{◌≡◌, ◌++◌, length};
 ghost use Rattle.text_print.specs.Output.{Fits, waiting, puts};
-ghost use Rattle.validate_rules.specs.Findings.{verdictWord};
-ghost use Rattle.chunklist_lines.specs.Lines.{decimal, spaced, firstLine, at_place, refusalLine};
+ghost use Rattle.validate_rules.specs.Findings.{verdict_word};
+ghost use Rattle.chunklist_lines.specs.Lines.{decimal, spaced, first_line, at_place, refusal_line};
 ghost use Rattle.chunklist_lines.specs.Inner.Rows.{row_line};
 
 use format::refusal::{Place, Refusal};
@@ -60,7 +60,7 @@ pub fn function_line(out: &mut Out, used: usize, number: usize, row: Row) -> usi
 fn verdict_word(out: &mut Out, used: usize, verdict: Verdict) -> usize
     requires { Fits used }
     ensures fits { Fits result }
-    ensures result_after { waiting out.new result ≡ puts (verdictWord verdict) (waiting out.old used) }
+    ensures result_after { waiting out.new result ≡ puts (verdict_word verdict) (waiting out.old used) }
 {
     match verdict {
         Verdict::ValidForAnalysis => text_print::text(out, used, b"valid-for-analysis"),
@@ -80,7 +80,7 @@ pub fn first_line(
 ) -> usize
     requires { Fits used }
     ensures fits { Fits result }
-    ensures result_after { waiting out.new result ≡ puts (firstLine bytes functions trailing verdict) (waiting out.old used) }
+    ensures result_after { waiting out.new result ≡ puts (first_line bytes functions trailing verdict) (waiting out.old used) }
 {
     let at = labelled(out, used, b"chunk ", bytes as u64);
     let at = labelled(out, at, b" functions ", functions as u64);
@@ -106,7 +106,7 @@ fn at_place(out: &mut Out, used: usize, place: Place) -> usize
 pub fn refusal_line(out: &mut Out, used: usize, why: Refusal) -> usize
     requires { Fits used }
     ensures fits { Fits result }
-    ensures result_after { waiting out.new result ≡ puts (refusalLine why) (waiting out.old used) }
+    ensures result_after { waiting out.new result ≡ puts (refusal_line why) (waiting out.old used) }
 {
     let report = report_refusal(why);
     let place = report.place;

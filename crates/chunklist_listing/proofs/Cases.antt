@@ -7,8 +7,8 @@ use lib.ListN.{replicate, take}
 use Rattle.format.specs.Ascii.{ascii}
 use Rattle.format.specs.Form.{Bytes}
 use Rattle.format.specs.ReadChunk.{body, function, read}
-use Rattle.validate_rules.specs.Findings.{codeGroups, groups, limited, chunkFindings}
-use Rattle.chunklist_lines.specs.Lines.{digitsUpTo, firstLine, refusalLine}
+use Rattle.validate_rules.specs.Findings.{code_groups, groups, limited, chunk_findings}
+use Rattle.chunklist_lines.specs.Lines.{digits_up_to, first_line, refusal_line}
 use Rattle.chunklist_listing.specs.Listing.{listing}
 
 -- 01's 46 bytes
@@ -27,5 +27,5 @@ cases =
     ∷ []
 
 pub all_hold : map (λ c. listing c.0) cases ≡ map (λ c. c.1) cases
-unfolding cases small read body function codeGroups groups limited chunkFindings digitsUpTo firstLine refusalLine
+unfolding cases small read body function code_groups groups limited chunk_findings digits_up_to first_line refusal_line
 all_hold = refl

@@ -5,7 +5,7 @@ ghost use Rattle.std.specs.Prelude.{◌≡◌, ◌≤◌, length};
 ghost use Rattle.format.specs.Limits.{MOST};
 ghost use Rattle.text_print.specs.Output.{Fits, waiting, puts};
 ghost use Rattle.format.specs.ReadChunk.{read};
-ghost use Rattle.read_next.specs.Inner.Rows.{chunkRows};
+ghost use Rattle.read_next.specs.Inner.Rows.{chunk_rows};
 ghost use Rattle.chunklist_listing.specs.Listing as listings;
 ghost use Rattle.chunklist_listing.specs.Inner.Rows.{lines_of, row_lines};
 
@@ -23,7 +23,7 @@ use validate_verdict::verdict::{VerdictAnswer, chunk_verdict};
 const LONGEST: usize = 49152;
 
 fn list_limits() -> ResourceLimits
-    ensures { result ≡ listings.listLimits }
+    ensures { result ≡ listings.list_limits }
 {
     let top = ResourceLimits::ceilings();
     ResourceLimits {
@@ -48,10 +48,10 @@ fn function_lines(
     out: &mut Out,
     used: usize,
 ) -> usize
-    requires max_total_instructions_bound { (limits.max_total_instructions ≤ MOST) × (length (chunkRows limits s.now start.at) ≡ n) }
+    requires max_total_instructions_bound { (limits.max_total_instructions ≤ MOST) × (length (chunk_rows limits s.now start.at) ≡ n) }
     requires fits { Fits used }
     ensures fits_2 { Fits result }
-    ensures result_after { waiting out.new result ≡ puts (row_lines 0 (chunkRows limits s.now start.at)) (waiting out.old used) }
+    ensures result_after { waiting out.new result ≡ puts (row_lines 0 (chunk_rows limits s.now start.at)) (waiting out.old used) }
 {
     let mut left = [0; COUNTS];
     left[0] = 1;

@@ -15,10 +15,10 @@ use Rattle.format.specs.Reading.{Prototype, Reading}
 use Rattle.format.specs.GrammarChunk.{reading}
 use Rattle.format.specs.Read.{Read, ok, refused}
 use Rattle.format.specs.ReadChunk.{Outcome, shown, refusal, read}
-use Rattle.format.specs.Copy.{functionsBytes, copy}
+use Rattle.format.specs.Copy.{functions_bytes, copy}
 use Rattle.read_chunk.specs.declared.Opening.{Opening}
 use Rattle.read_chunk.specs.declared.OpeningResult.TheVariants as begins
-use Rattle.read_chunk.specs.Inner.Opening.{opened, openingResult}
+use Rattle.read_chunk.specs.Inner.Opening.{opened, opening_result}
 use Rattle.read_chunk.proofs.BeforeMain.{known, functions, functions-refused, shows}
 use Rattle.slice.specs.Inner.Splice.{splice}
 use Rattle.slice.proofs.Splices.{splice_front}
@@ -26,24 +26,24 @@ use Rattle.copy_put.specs.Inner.Put.{Put}
 use Rattle.copy_parts.proofs.PutParts.{put_as}
 use Rattle.copy.specs.declared.whole.CopyAnswer.{CopyAnswer}
 use Rattle.copy.specs.declared.whole.CopyAnswer.TheVariants as answer
-use Rattle.copy.specs.Copied.{lengthBy, shownBy, written_by, shownLength, shownCopy, copyWritten}
+use Rattle.copy.specs.Copied.{length_by, shown_by, written_by, shown_length, shown_copy, copy_written}
 use Rattle.copy.specs.Inner.Answers.{chunkBy, chunk_bytes, Answers, CopiesBy, Copies}
 
 -- ## The reading
-no-shown : {q : Refusal} {x : Reading} → refusal q ≡ shown x → ⊥
-no-shown e = let z : ◌≡◌ {A = ℕ} 0 1 = cc in omega arith
+no_shown : {q : Refusal} {x : Reading} → refusal q ≡ shown x → ⊥
+no_shown e = let z : ◌≡◌ {A = ℕ} 0 1 = cc in omega arith
 
 -- by what the copy of a reading is, and what the bytes of its functions are
 module _ (copied : Reading → Bytes) where
-  pub by-stopped : (o : Outcome) (q : Refusal) (l : Bytes) (l' : Bytes) → o ≡ refusal q → CopiesBy copied o l (answer.Err q) l'
-  by-stopped o q l l' e = record { is = sym (ap (lengthBy copied) e); wrote = λ x f _. absurd (no-shown (sym e ∙ f)) }
+  pub by_stopped : (o : Outcome) (q : Refusal) (l : Bytes) (l' : Bytes) → o ≡ refusal q → CopiesBy copied o l (answer.Err q) l'
+  by_stopped o q l l' e = record { is = sym (ap (length_by copied) e); wrote = λ x f _. absurd (no_shown (sym e ∙ f)) }
 
-  pub by-chunk-copied : (its : List Prototype → Bytes) → ((x : Reading) → chunkBy its x.functions x.trailing ≡ copied x)
-      → (L : ResourceLimits) (s : Bytes) (f : Opening) (e : begins.Ok f ≡ openingResult (opened L s)) (l l' : Bytes) (r : CopyAnswer) → Answers (chunkBy its) (functions L s f e) l r l' → CopiesBy copied (read L s) l r l'
-  by-chunk-copied its is L s f e l l' r a = from (functions L s f e) refl
+  pub by_chunk_copied : (its : List Prototype → Bytes) → ((x : Reading) → chunkBy its x.functions x.trailing ≡ copied x)
+      → (L : ResourceLimits) (s : Bytes) (f : Opening) (e : begins.Ok f ≡ opening_result (opened L s)) (l l' : Bytes) (r : CopyAnswer) → Answers (chunkBy its) (functions L s f e) l r l' → CopiesBy copied (read L s) l r l'
+  by_chunk_copied its is L s f e l l' r a = from (functions L s f e) refl
     where
       from : (o : Read (List Prototype)) → functions L s f e ≡ o → CopiesBy copied (read L s) l r l'
-      from (refused q) g = rw (a.stops q g) (by-stopped (read L s) q l l' (functions-refused L s f e q g))
+      from (refused q) g = rw (a.stops q g) (by_stopped (read L s) q l l' (functions-refused L s f e q g))
       from (ok ps to rest) g =
           let p = a.puts ps to rest g in
           let r₁ : Reading = reading L (record { headed = (known L s f e).value; functions = ps }) to rest in
@@ -58,24 +58,24 @@ module _ (copied : Reading → Bytes) where
 
   -- ## The exported calls
   module _ (old : Bytes) (o : Outcome) where
-    pub by-refused : (q : Refusal) → answer.Err q ≡ lengthBy copied o → (answer.Err q ≡ shownBy copied (length old) o) × (old ≡ written_by copied old o)
-    by-refused q e = from o e
+    pub by_refused : (q : Refusal) → answer.Err q ≡ length_by copied o → (answer.Err q ≡ shown_by copied (length old) o) × (old ≡ written_by copied old o)
+    by_refused q e = from o e
       where
-        from : (o : Outcome) → answer.Err q ≡ lengthBy copied o → (answer.Err q ≡ shownBy copied (length old) o) × (old ≡ written_by copied old o)
+        from : (o : Outcome) → answer.Err q ≡ length_by copied o → (answer.Err q ≡ shown_by copied (length old) o) × (old ≡ written_by copied old o)
         from (shown r) e = absurd (let z : ◌≡◌ {A = ℕ} 0 1 = cc in omega arith)
         from (refusal p) e = (e, refl)
 
-    pub by-short : (len : ℕ) → answer.Ok len ≡ lengthBy copied o → length old < len → (answer.Err LentSpace ≡ shownBy copied (length old) o) × (old ≡ written_by copied old o)
-    by-short len e h = from o e
+    pub by_short : (len : ℕ) → answer.Ok len ≡ length_by copied o → length old < len → (answer.Err LentSpace ≡ shown_by copied (length old) o) × (old ≡ written_by copied old o)
+    by_short len e h = from o e
       where
-        from : (o : Outcome) → answer.Ok len ≡ lengthBy copied o → (answer.Err LentSpace ≡ shownBy copied (length old) o) × (old ≡ written_by copied old o)
+        from : (o : Outcome) → answer.Ok len ≡ length_by copied o → (answer.Err LentSpace ≡ shown_by copied (length old) o) × (old ≡ written_by copied old o)
         from (shown r) e = let size : len ≡ length (copied r) = cc in let t = lt-leb (length (copied r)) (length old) (omega arith) in (rw t, rw t)
         from (refusal p) e = absurd (let z : ◌≡◌ {A = ℕ} 0 1 = cc in omega arith)
 
-    pub by_whole : (len : ℕ) {r : CopyAnswer} {new : Bytes} → answer.Ok len ≡ lengthBy copied o → len ≤ length old → CopiesBy copied o old r new → (answer.Ok len ≡ shownBy copied (length old) o) × (new ≡ written_by copied old o)
+    pub by_whole : (len : ℕ) {r : CopyAnswer} {new : Bytes} → answer.Ok len ≡ length_by copied o → len ≤ length old → CopiesBy copied o old r new → (answer.Ok len ≡ shown_by copied (length old) o) × (new ≡ written_by copied old o)
     by_whole len {r} {new} e h k = from o e k
       where
-        from : (o : Outcome) → answer.Ok len ≡ lengthBy copied o → CopiesBy copied o old r new → (answer.Ok len ≡ shownBy copied (length old) o) × (new ≡ written_by copied old o)
+        from : (o : Outcome) → answer.Ok len ≡ length_by copied o → CopiesBy copied o old r new → (answer.Ok len ≡ shown_by copied (length old) o) × (new ≡ written_by copied old o)
         from (shown x) e k =
             let size : len ≡ length (copied x) = cc in
             let fits : length (copied x) ≤ length old = omega arith in
@@ -85,19 +85,19 @@ module _ (copied : Reading → Bytes) where
 
 -- ## Of the archive copy
 pub stopped : (o : Outcome) (q : Refusal) (l : Bytes) (l' : Bytes) → o ≡ refusal q → Copies o l (answer.Err q) l'
-stopped = by-stopped copy
+stopped = by_stopped copy
 
-pub chunk-copied : (L : ResourceLimits) (s : Bytes) (f : Opening) (e : begins.Ok f ≡ openingResult (opened L s)) (l l' : Bytes) (r : CopyAnswer) → Answers chunk_bytes (functions L s f e) l r l' → Copies (read L s) l r l'
+pub chunk_copied : (L : ResourceLimits) (s : Bytes) (f : Opening) (e : begins.Ok f ≡ opening_result (opened L s)) (l l' : Bytes) (r : CopyAnswer) → Answers chunk_bytes (functions L s f e) l r l' → Copies (read L s) l r l'
 unfolding copy
-chunk-copied = by-chunk-copied copy functionsBytes (λ x. refl)
+chunk_copied = by_chunk_copied copy functions_bytes (λ x. refl)
 
-pub copy-refused : (old : Bytes) (o : Outcome) (q : Refusal) → answer.Err q ≡ shownLength o → (answer.Err q ≡ shownCopy (length old) o) × (old ≡ copyWritten old o)
-copy-refused = by-refused copy
+pub copy-refused : (old : Bytes) (o : Outcome) (q : Refusal) → answer.Err q ≡ shown_length o → (answer.Err q ≡ shown_copy (length old) o) × (old ≡ copy_written old o)
+copy-refused = by_refused copy
 
-pub copy-short : (old : Bytes) (o : Outcome) (len : ℕ) → answer.Ok len ≡ shownLength o → length old < len → (answer.Err LentSpace ≡ shownCopy (length old) o) × (old ≡ copyWritten old o)
-copy-short = by-short copy
+pub copy-short : (old : Bytes) (o : Outcome) (len : ℕ) → answer.Ok len ≡ shown_length o → length old < len → (answer.Err LentSpace ≡ shown_copy (length old) o) × (old ≡ copy_written old o)
+copy-short = by_short copy
 
-pub copy-whole : (old : Bytes) (o : Outcome) (len : ℕ) {r : CopyAnswer} {new : Bytes} → answer.Ok len ≡ shownLength o → len ≤ length old → Copies o old r new → (answer.Ok len ≡ shownCopy (length old) o) × (new ≡ copyWritten old o)
+pub copy-whole : (old : Bytes) (o : Outcome) (len : ℕ) {r : CopyAnswer} {new : Bytes} → answer.Ok len ≡ shown_length o → len ≤ length old → Copies o old r new → (answer.Ok len ≡ shown_copy (length old) o) × (new ≡ copy_written old o)
 copy-whole old o len e h k = by_whole copy old o len e h k
 
 -- the bytes of a slice

@@ -1,8 +1,8 @@
 -- What the copying calls answer, and what they leave of lent memory: of the archive copy here, of the full copy in crates/copy_full/specs/InFull.antt.
---     shownLength o            the length of the copy, where o was read
---     shownCopy space o        the same; 26 where the space is shorter, after every other refusal
---     copyWritten old o        what then stands in the lent memory that held `old`
---     lengthBy, shownBy, written_by     the same, by what the copy of a reading is
+--     shown_length o            the length of the copy, where o was read
+--     shown_copy space o        the same; 26 where the space is shorter, after every other refusal
+--     copy_written old o        what then stands in the lent memory that held `old`
+--     length_by, shown_by, written_by     the same, by what the copy of a reading is
 use Rattle.std.specs.Prelude.{cond, ℕ, leb, length}
 use Rattle.format.specs.declared.refusal.Refusal.TheVariants.{LentSpace}
 use Rattle.format.specs.Form.{Bytes}
@@ -13,24 +13,24 @@ use Rattle.slice.specs.Over.{over}
 use Rattle.copy.specs.declared.whole.CopyAnswer.{CopyAnswer}
 use Rattle.copy.specs.declared.whole.CopyAnswer.TheVariants as answer
 
-abbrev pub lengthBy : (Reading → Bytes) → Outcome → CopyAnswer
-lengthBy copied (shown r) = answer.Ok (length (copied r))
-lengthBy copied (refusal q) = answer.Err q
+abbrev pub length_by : (Reading → Bytes) → Outcome → CopyAnswer
+length_by copied (shown r) = answer.Ok (length (copied r))
+length_by copied (refusal q) = answer.Err q
 
-abbrev pub shownBy : (Reading → Bytes) → ℕ → Outcome → CopyAnswer
-shownBy copied space (shown r) = cond (leb (length (copied r)) space) (answer.Ok (length (copied r))) (answer.Err LentSpace)
-shownBy copied space (refusal q) = answer.Err q
+abbrev pub shown_by : (Reading → Bytes) → ℕ → Outcome → CopyAnswer
+shown_by copied space (shown r) = cond (leb (length (copied r)) space) (answer.Ok (length (copied r))) (answer.Err LentSpace)
+shown_by copied space (refusal q) = answer.Err q
 
 -- the copy, and behind it what stood there; on any refusal all that stood there
 abbrev pub written_by : (Reading → Bytes) → Bytes → Outcome → Bytes
 written_by copied old (shown r) = over (copied r) old
 written_by copied old (refusal q) = old
 
-abbrev pub shownLength : Outcome → CopyAnswer
-shownLength = lengthBy copy
+abbrev pub shown_length : Outcome → CopyAnswer
+shown_length = length_by copy
 
-abbrev pub shownCopy : ℕ → Outcome → CopyAnswer
-shownCopy = shownBy copy
+abbrev pub shown_copy : ℕ → Outcome → CopyAnswer
+shown_copy = shown_by copy
 
-abbrev pub copyWritten : Bytes → Outcome → Bytes
-copyWritten = written_by copy
+abbrev pub copy_written : Bytes → Outcome → Bytes
+copy_written = written_by copy

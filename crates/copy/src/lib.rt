@@ -6,7 +6,7 @@ pub mod whole;
 
 ghost use Rattle.std.specs.Prelude.{◌≡◌, length};
 ghost use Rattle.format.specs.ReadChunk as format;
-ghost use Rattle.copy.specs.Copied.{shownLength, shownCopy, copyWritten};
+ghost use Rattle.copy.specs.Copied.{shown_length, shown_copy, copy_written};
 
 use crate::plain::{begins_padded, is_plain, main_upvalues, put_plain};
 use crate::whole::{CopyAnswer, copy_chunk};
@@ -16,7 +16,7 @@ use read_chunk::summary::{SpeltResult, judge_spelling};
 
 // The length of a copy, by the walk.
 fn measure(s: &[u8], limits: ResourceLimits) -> CopyAnswer
-    ensures { result ≡ shownLength (format.read limits s.now) }
+    ensures { result ≡ shown_length (format.read limits s.now) }
 {
     let mut nowhere = [0u8; 1];
     copy_chunk(s, limits, &mut nowhere)
@@ -24,8 +24,8 @@ fn measure(s: &[u8], limits: ResourceLimits) -> CopyAnswer
 
 // A copy, by the walk: the first measures, the second writes.
 fn respell(s: &[u8], limits: ResourceLimits, out: &mut [u8]) -> CopyAnswer
-    ensures value { result ≡ shownCopy (length out.old) (format.read limits s.now) }
-    ensures out_after { out.new ≡ copyWritten out.old (format.read limits s.now) }
+    ensures value { result ≡ shown_copy (length out.old) (format.read limits s.now) }
+    ensures out_after { out.new ≡ copy_written out.old (format.read limits s.now) }
 {
     let judged = measure(s, limits);
     match judged {
@@ -42,7 +42,7 @@ fn respell(s: &[u8], limits: ResourceLimits, out: &mut [u8]) -> CopyAnswer
 
 // The length of a chunk's archive copy. Ruled out: the length of the chunk itself where its copy is spelt otherwise, a length for a chunk that is refused.
 pub fn copy_length(s: &[u8], limits: ResourceLimits) -> CopyAnswer
-    ensures { result ≡ shownLength (format.read limits s.now) }
+    ensures { result ≡ shown_length (format.read limits s.now) }
 {
     if begins_padded(s) {
         return measure(s, limits);
@@ -65,8 +65,8 @@ pub fn copy_length(s: &[u8], limits: ResourceLimits) -> CopyAnswer
 // Writes the archive copy of a chunk at the start of `out`. The first pass judges; then bytes are copied, or two walks measure and write.
 // Ruled out: the chunk handed back untouched, memory that is touched where the answer is a refusal.
 pub fn encode_chunk_lua54(s: &[u8], limits: ResourceLimits, out: &mut [u8]) -> CopyAnswer
-    ensures value { result ≡ shownCopy (length out.old) (format.read limits s.now) }
-    ensures out_after { out.new ≡ copyWritten out.old (format.read limits s.now) }
+    ensures value { result ≡ shown_copy (length out.old) (format.read limits s.now) }
+    ensures out_after { out.new ≡ copy_written out.old (format.read limits s.now) }
 {
     if begins_padded(s) {
         return respell(s, limits, out);

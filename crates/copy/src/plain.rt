@@ -2,7 +2,7 @@
 ghost use Rattle.std.specs.Prelude.{◌≡◌, cond, false, ◌++◌, eqb, ltb, length, drop, get_or};
 ghost use Rattle.format.specs.Reading.{Reading};
 ghost use Rattle.format.specs.ReadChunk as format;
-ghost use Rattle.format.specs.Copy.{fieldBytes, headerBytes, upvaluesOfMain};
+ghost use Rattle.format.specs.Copy.{field_bytes, header_bytes, upvalues_of_main};
 ghost use Rattle.format_spelling.specs.Spelling.{respelt};
 ghost use Rattle.copy_put.specs.Inner.Put.{Put};
 
@@ -39,7 +39,7 @@ pub fn begins_padded(s: &[u8]) -> bool
 
 // How many upvalues main has, of a chunk that is read; of any other nothing is said. Ruled out: another list's count, the upvalues of a nested function.
 pub fn main_upvalues(s: &[u8], limits: ResourceLimits) -> usize
-    ensures { (x : Reading) → format.read limits s.now ≡ format.shown x → result ≡ upvaluesOfMain x.functions }
+    ensures { (x : Reading) → format.read limits s.now ≡ format.shown x → result ≡ upvalues_of_main x.functions }
 {
     let mut unused = [0usize; 4];
     let begins = pass_head(s, limits, 0, Cursor { at: MAIN_AT }, &mut unused);
@@ -51,7 +51,7 @@ pub fn main_upvalues(s: &[u8], limits: ResourceLimits) -> usize
 
 // The front anew, and the rest as it is. Ruled out: the chunk's own format byte and byte 31, a byte of them among the rest.
 pub fn put_plain(s: &[u8], upvalues: usize, out: &mut [u8]) -> usize
-    ensures { Put (headerBytes 0 ++ (fieldBytes 1 upvalues ++ drop 32 s.now)) 0 out.old result out.new }
+    ensures { Put (header_bytes 0 ++ (field_bytes 1 upvalues ++ drop 32 s.now)) 0 out.old result out.new }
 {
     let behind = put_front(upvalues, out);
     let rest = remaining(s, Cursor { at: MAIN_AT });

@@ -21,18 +21,18 @@ use Rattle.format.specs.Read.{Read, ok, refused, Reader, next, ◌>>=◌, give, 
 use Rattle.format.specs.ReadFields.{field}
 use Rattle.format.specs.Shortest.{shortest}
 use Rattle.format.specs.ReadChunk.{upvalue}
-use Rattle.format.specs.Copy.{fieldBytes, stringBytes, optionBytes, upvalueBytes}
-use Rattle.format.proofs.Exact.{Exact, never, exact-run, exact-many}
-use Rattle.format.proofs.ExactFields.{exact-field, exact-number, exact-string}
+use Rattle.format.specs.Copy.{field_bytes, string_bytes, option_bytes, upvalue_bytes}
+use Rattle.format.proofs.Exact.{Exact, never, exact_run, exact_many}
+use Rattle.format.proofs.ExactFields.{exact_field, exact_number, exact_string}
 use Rattle.format.proofs.FieldBytes.{field_back}
 use Rattle.format.proofs.Below.{below_split}
-use Rattle.format.proofs.Located.{AtPlace, any, at_give, at_here, at-then, at-string, Stands, StandsIf}
-use Rattle.read_field.specs.Shown.{optionString}
+use Rattle.format.proofs.Located.{AtPlace, any, at_give, at_here, at_then, at-string, Stands, StandsIf}
+use Rattle.read_field.specs.Shown.{option_string}
 use Rattle.read_field.proofs.Shows.{Was}
-use Rattle.read_entry.specs.Readers.{RawLocal, rawLocal}
+use Rattle.read_entry.specs.Readers.{RawLocal, raw_local}
 use Rattle.read_entry.specs.Inner.Counts.{named}
 use Rattle.copy_put.specs.Inner.Put.{Put, Puts}
-use Rattle.copy_put.specs.Inner.Text.{There, spelt, speltName}
+use Rattle.copy_put.specs.Inner.Text.{There, spelt, spelt_name}
 
 module _ {A : Type 0} {bytes : A → Bytes} {o : Read A} {at : ℕ} {l : Bytes} {behind : ℕ} {l' : Bytes} where
   pub puts_of : {x : A} {to : ℕ} → Was o x to → Put (bytes x) at l behind l' → Puts bytes o at l to behind l'
@@ -46,27 +46,27 @@ module _ {A : Type 0} {bytes : A → Bytes} {o : Read A} {at : ℕ} {l : Bytes} 
 
 -- ## Strings
 module _ (s : Bytes) where
-  pub there-is : (t : Option LuaString) → StandsIf s t → There s (optionString t)
+  pub there-is : (t : Option LuaString) → StandsIf s t → There s (option_string t)
   there-is none h = tt
   there-is (some t) h = h.inside
 
-  pub spelt_is : (t : Option LuaString) → StandsIf s t → spelt s (optionString t) ≡ optionBytes t
+  pub spelt_is : (t : Option LuaString) → StandsIf s t → spelt s (option_string t) ≡ option_bytes t
   spelt_is none h = refl
   spelt_is (some t) h = ap (λ b. shortest (suc (length t.bytes)) ++ b) h.there
 
-  pub name-is : (l : RawLocal) → StandsIf s l.name → speltName s (optionString l.name) ≡ stringBytes (named l).name
+  pub name-is : (l : RawLocal) → StandsIf s l.name → spelt_name s (option_string l.name) ≡ string_bytes (named l).name
   name-is l h = from l.name h
     where
-      from : (t : Option LuaString) → StandsIf s t → speltName s (optionString t) ≡ stringBytes (get_or t (record { place = l.behind; bytes = 63 ∷ [] }))
+      from : (t : Option LuaString) → StandsIf s t → spelt_name s (option_string t) ≡ string_bytes (get_or t (record { place = l.behind; bytes = 63 ∷ [] }))
       from none h = refl
       from (some t) h = spelt_is (some t) h
 
-  pub at-rawLocal : {at : ℕ} (limit : ℕ) → AtPlace s at (rawLocal limit) (λ to l. StandsIf s l.name)
-  at-rawLocal limit =
-      at-then (exact-string limit) (at-string limit) λ name _ stands.
+  pub at-raw_local : {at : ℕ} (limit : ℕ) → AtPlace s at (raw_local limit) (λ to l. StandsIf s l.name)
+  at-raw_local limit =
+      at_then (exact_string limit) (at-string limit) λ name _ stands.
       at_here λ behind.
-      at-then exact-number any λ startpc _ _.
-      at-then exact-number any λ endpc _ _.
+      at_then exact_number any λ startpc _ _.
+      at_then exact_number any λ endpc _ _.
       at_give λ _. stands
 
 -- ## Entries of a fixed width
@@ -75,11 +75,11 @@ pub record Raw {A : Type 0} (s : Bytes) (bytes : A → Bytes) (width at to : ℕ
   pub inside : width ≤ length s - at
   pub same : bytes x ≡ take width (drop at s)
 
-take-join : (s : Bytes) (at a b : ℕ) → take a (drop at s) ++ take b (drop (at + a) s) ≡ take (a + b) (drop at s)
-take-join s at a b = sym (take-add a b (drop at s) ∙ ap (λ r. take a (drop at s) ++ take b r) (drop-drop a at s))
+take_join : (s : Bytes) (at a b : ℕ) → take a (drop at s) ++ take b (drop (at + a) s) ≡ take (a + b) (drop at s)
+take_join s at a b = sym (take-add a b (drop at s) ∙ ap (λ r. take a (drop at s) ++ take b r) (drop-drop a at s))
 
-pub below-part : (s : Bytes) (n at : ℕ) → Below 256 s → Below 256 (take n (drop at s))
-below-part s n at h =
+pub below_part : (s : Bytes) (n at : ℕ) → Below 256 s → Below 256 (take n (drop at s))
+below_part s n at h =
     let back = (below_split 256 (take at s) (drop at s) (rw take-append-drop h)).1 in
     (below_split 256 (take n (drop at s)) (drop n (drop at s)) (rw take-append-drop back)).0
 
@@ -91,26 +91,26 @@ at-run {s} {at} n = record { holds = λ {x} {to} {rest} e. from (leb n (length (
     from false t e = absurd (never e)
 
 module _ (s : Bytes) (bytes : Below 256 s) where
-  pub raw-field : (n at : ℕ) → AtPlace s at (field n) (λ to v. Raw s (fieldBytes n) n at to v)
-  raw-field n at =
-      at-then (exact-run n) (at-run n) λ b _ h.
+  pub raw_field : (n at : ℕ) → AtPlace s at (field n) (λ to v. Raw s (field_bytes n) n at to v)
+  raw_field n at =
+      at_then (exact_run n) (at-run n) λ b _ h.
       at_give (record {
         place = h.place;
         inside = h.inside;
         same =
             let size : length b ≡ n = ap length h.same ∙ length-take-le n (drop at s) (rw length-drop h.inside) in
-            ap (λ k. fieldBytes k (little b)) (sym size) ∙ field_back b (rw h.same (below-part s n at bytes)) ∙ h.same;
+            ap (λ k. field_bytes k (little b)) (sym size) ∙ field_back b (rw h.same (below_part s n at bytes)) ∙ h.same;
       })
 
   -- two, the second right behind the first
   pub joined : (at a mid b : ℕ) (x y : Bytes) → mid ≡ at + a → x ≡ take a (drop at s) → y ≡ take b (drop mid s) → x ++ y ≡ take (a + b) (drop at s)
-  joined at a mid b x y e p q = ap₂ ◌++◌ p q ∙ ap (λ k. take a (drop at s) ++ take b (drop k s)) e ∙ take-join s at a b
+  joined at a mid b x y e p q = ap₂ ◌++◌ p q ∙ ap (λ k. take a (drop at s) ++ take b (drop k s)) e ∙ take_join s at a b
 
-  pub raw-upvalue : (at : ℕ) → AtPlace s at upvalue (λ to u. Raw s upvalueBytes 3 at to u)
-  raw-upvalue at =
-      at-then (exact-field 1) (raw-field 1 at) λ instack _ h.
-      at-then (exact-field 1) (raw-field 1 _) λ idx _ k.
-      at-then (exact-field 1) (raw-field 1 _) λ kind _ m.
+  pub raw_upvalue : (at : ℕ) → AtPlace s at upvalue (λ to u. Raw s upvalue_bytes 3 at to u)
+  raw_upvalue at =
+      at_then (exact_field 1) (raw_field 1 at) λ instack _ h.
+      at_then (exact_field 1) (raw_field 1 _) λ idx _ k.
+      at_then (exact_field 1) (raw_field 1 _) λ kind _ m.
       at_give (record {
         place = m.place ∙ omega (arith, h.place, k.place);
         inside = omega (arith, h.place, k.place, h.inside, k.inside, m.inside);
@@ -118,13 +118,13 @@ module _ (s : Bytes) (bytes : Below 256 s) where
       })
 
   -- one law over all widths
-  pub raw-many : {A : Type 0} {r : Reader A} {F : Form A} {enc : A → Bytes} {width : ℕ} → Exact r F → ((at : ℕ) → AtPlace s at r (λ to x. Raw s enc width at to x))
+  pub raw_many : {A : Type 0} {r : Reader A} {F : Form A} {enc : A → Bytes} {width : ℕ} → Exact r F → ((at : ℕ) → AtPlace s at r (λ to x. Raw s enc width at to x))
       → (n at : ℕ) → AtPlace s at (many n r) (λ to xs. Raw s (λ xs. flatten (map enc xs)) (n * width) at to xs)
   unfolding flatten
-  raw-many {width = width} exact one zero at = let none : 0 * width ≡ 0 = omega arith in at_give (record { place = omega arith; inside = omega arith; same = ap (λ k. take k (drop at s)) (sym none) })
-  raw-many {width = width} exact one (suc n) at =
-      at-then exact (one at) λ x _ h.
-      at-then (exact-many n exact) (raw-many exact one n _) λ xs _ k.
+  raw_many {width = width} exact one zero at = let none : 0 * width ≡ 0 = omega arith in at_give (record { place = omega arith; inside = omega arith; same = ap (λ k. take k (drop at s)) (sym none) })
+  raw_many {width = width} exact one (suc n) at =
+      at_then exact (one at) λ x _ h.
+      at_then (exact_many n exact) (raw_many exact one n _) λ xs _ k.
       at_give (record {
         place = k.place ∙ rw (suc-mul n width, h.place) (omega arith);
         inside = rw (suc-mul n width) (omega (arith, h.place, h.inside, k.inside));

@@ -10,12 +10,12 @@ use lib.ListN.{length, drop}
 use Rattle.format.specs.Form.{Bytes, Form}
 use Rattle.format.specs.Read.{Read, ok, refused, Reader, next, give, many}
 use Rattle.format.specs.Shortest.{shortest}
-use Rattle.format.specs.Copy.{listBytes}
+use Rattle.format.specs.Copy.{list_bytes}
 use Rattle.format.proofs.Exact.{Exact, never}
 use Rattle.format.proofs.Left.{left}
-use Rattle.read_list.proofs.Listing.{many-sized}
+use Rattle.read_list.proofs.Listing.{many_sized}
 use Rattle.copy_put.specs.Inner.Put.{Put, Puts, PutsAll}
-use Rattle.copy_put.proofs.Writes.{put-nothing, put_then}
+use Rattle.copy_put.proofs.Writes.{put_nothing, put_then}
 
 -- entries without their count
 pub record Gives {A : Type 0} (bytes : A → Bytes) (o : Read (List A)) (at : ℕ) (l : Bytes) (behind : ℕ) (l' : Bytes) : Type 0 where
@@ -54,12 +54,12 @@ module _ {A : Type 0} (r : Reader A) {F : Form A} (bytes : A → Bytes) (exact :
     }
 
     pub ends : {before : ℕ} {old : Bytes} → Put (shortest count) before old at₀ l₀ → left ≤ 0 → PutsAll bytes (many count r place (drop place s)) before old at l
-    unfolding listBytes flatten
+    unfolding list_bytes flatten
     ends p none = record {
       put = λ xs to rest e.
-          let size : length xs ≡ count = (many-sized exact count).size place (drop place s) e in
+          let size : length xs ≡ count = (many_sized exact count).size place (drop place s) e in
           put_then {a = shortest (length xs)} (rw size p) ((k.goes (last (let z : left ≡ 0 = omega arith in z))).put xs to rest e);
     }
       where
         last : left ≡ 0 → Gives bytes (many left r from (drop from s)) at l at l
-        last z = rw z (record { put = λ xs to rest e. let none : [] ≡ xs = cc in rw (← none) put-nothing })
+        last z = rw z (record { put = λ xs to rest e. let none : [] ≡ xs = cc in rw (← none) put_nothing })

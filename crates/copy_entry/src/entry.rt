@@ -3,11 +3,11 @@ ghost use Rattle.std.specs.Prelude.{◌≡◌, drop};
 ghost use Rattle.format.specs.Form.{Below};
 ghost use Rattle.format.specs.ReadFields.{string};
 ghost use Rattle.format.specs.ReadChunk.{constant, anchor, local};
-ghost use Rattle.format.specs.Copy.{constant_bytes, anchorBytes, localBytes, optionBytes};
+ghost use Rattle.format.specs.Copy.{constant_bytes, anchor_bytes, local_bytes, option_bytes};
 ghost use Rattle.copy_put.specs.Inner.Put.{Put, Puts};
-ghost use Rattle.slice.specs.Inner.Results.{cursorResult};
+ghost use Rattle.slice.specs.Inner.Results.{cursor_result};
 ghost use Rattle.copy_entry.specs.Inner.Passed.{next_of};
-ghost use Rattle.copy_entry.specs.Inner.Value.{Stood, valueBytes};
+ghost use Rattle.copy_entry.specs.Inner.Value.{Stood, value_bytes};
 
 use copy_put::number::put_varint;
 use copy_put::raw::put_between;
@@ -32,8 +32,8 @@ pub fn copy_name(
     out: &mut [u8],
     at: usize,
 ) -> Passed
-    ensures read_value { result.read ≡ cursorResult (string max_string_bytes cursor.at (drop cursor.at s.now)) }
-    ensures puts { Puts optionBytes (string max_string_bytes cursor.at (drop cursor.at s.now)) at out.old (next_of result.read) result.behind out.new }
+    ensures read_value { result.read ≡ cursor_result (string max_string_bytes cursor.at (drop cursor.at s.now)) }
+    ensures puts { Puts option_bytes (string max_string_bytes cursor.at (drop cursor.at s.now)) at out.old (next_of result.read) result.behind out.new }
 {
     let read = read_string_lua54(s, cursor, max_string_bytes);
     match read {
@@ -53,8 +53,8 @@ pub fn copy_name(
 
 // Reads an anchor and puts its two numbers. Ruled out: pc and line exchanged, a padded number kept.
 pub fn copy_anchor(s: &[u8], cursor: Cursor, out: &mut [u8], at: usize) -> Passed
-    ensures read_value { result.read ≡ cursorResult (anchor cursor.at (drop cursor.at s.now)) }
-    ensures puts { Puts anchorBytes (anchor cursor.at (drop cursor.at s.now)) at out.old (next_of result.read) result.behind out.new }
+    ensures read_value { result.read ≡ cursor_result (anchor cursor.at (drop cursor.at s.now)) }
+    ensures puts { Puts anchor_bytes (anchor cursor.at (drop cursor.at s.now)) at out.old (next_of result.read) result.behind out.new }
 {
     let read = read_anchor(s, cursor);
     match read {
@@ -81,8 +81,8 @@ pub fn copy_local(
     out: &mut [u8],
     at: usize,
 ) -> Passed
-    ensures read_value { result.read ≡ cursorResult (local max_string_bytes cursor.at (drop cursor.at s.now)) }
-    ensures puts { Puts localBytes (local max_string_bytes cursor.at (drop cursor.at s.now)) at out.old (next_of result.read) result.behind out.new }
+    ensures read_value { result.read ≡ cursor_result (local max_string_bytes cursor.at (drop cursor.at s.now)) }
+    ensures puts { Puts local_bytes (local max_string_bytes cursor.at (drop cursor.at s.now)) at out.old (next_of result.read) result.behind out.new }
 {
     let read = read_local(s, cursor, max_string_bytes);
     match read {
@@ -116,7 +116,7 @@ fn put_value(
     out: &mut [u8],
     at: usize,
 ) -> usize
-    ensures { Stood s.now first end value → Put (valueBytes s.now first end value) at out.old result out.new }
+    ensures { Stood s.now first end value → Put (value_bytes s.now first end value) at out.old result out.new }
 {
     match value {
         ConstantValue::ShortString(string) => put_tagged(s, 4, string, out, at),
@@ -136,7 +136,7 @@ pub fn copy_constant(
     out: &mut [u8],
     at: usize,
 ) -> Passed
-    ensures read_value { result.read ≡ cursorResult (constant max_string_bytes cursor.at (drop cursor.at s.now)) }
+    ensures read_value { result.read ≡ cursor_result (constant max_string_bytes cursor.at (drop cursor.at s.now)) }
     ensures puts { Below 256 s.now → Puts constant_bytes (constant max_string_bytes cursor.at (drop cursor.at s.now)) at out.old (next_of result.read) result.behind out.new }
 {
     let read = read_constant(s, cursor, max_string_bytes);

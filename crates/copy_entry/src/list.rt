@@ -4,9 +4,9 @@ ghost use Rattle.format.specs.Form.{Below};
 ghost use Rattle.format.specs.Read.{many};
 ghost use Rattle.format.specs.ReadFields.{string};
 ghost use Rattle.format.specs.ReadChunk.{constant, anchor, local};
-ghost use Rattle.format.specs.Copy.{constant_bytes, anchorBytes, localBytes, optionBytes};
+ghost use Rattle.format.specs.Copy.{constant_bytes, anchor_bytes, local_bytes, option_bytes};
 ghost use Rattle.copy_put.specs.Inner.Put.{PutsAll};
-ghost use Rattle.slice.specs.Inner.Results.{cursorResult};
+ghost use Rattle.slice.specs.Inner.Results.{cursor_result};
 
 use crate::entry::{Passed, copy_anchor, copy_constant, copy_local, copy_name};
 use copy_put::number::put_varint;
@@ -21,7 +21,7 @@ pub fn copy_constants(
     out: &mut [u8],
     at: usize,
 ) -> Passed
-    ensures read_value { result.read ≡ cursorResult (many count (constant max_string_bytes) cursor.at (drop cursor.at s.now)) }
+    ensures read_value { result.read ≡ cursor_result (many count (constant max_string_bytes) cursor.at (drop cursor.at s.now)) }
     ensures puts_all { Below 256 s.now → PutsAll constant_bytes (many count (constant max_string_bytes) cursor.at (drop cursor.at s.now)) at out.old result.behind out.new }
 {
     let mut next = cursor;
@@ -52,8 +52,8 @@ pub fn copy_constants(
 
 // Puts the count, then reads so many anchors and puts each. Ruled out: as many numbers as the count says, the count padded.
 pub fn copy_anchors(s: &[u8], cursor: Cursor, count: usize, out: &mut [u8], at: usize) -> Passed
-    ensures read_value { result.read ≡ cursorResult (many count anchor cursor.at (drop cursor.at s.now)) }
-    ensures puts_all { PutsAll anchorBytes (many count anchor cursor.at (drop cursor.at s.now)) at out.old result.behind out.new }
+    ensures read_value { result.read ≡ cursor_result (many count anchor cursor.at (drop cursor.at s.now)) }
+    ensures puts_all { PutsAll anchor_bytes (many count anchor cursor.at (drop cursor.at s.now)) at out.old result.behind out.new }
 {
     let mut next = cursor;
     let mut behind = put_varint(out, at, count as u64);
@@ -90,8 +90,8 @@ pub fn copy_locals(
     out: &mut [u8],
     at: usize,
 ) -> Passed
-    ensures read_value { result.read ≡ cursorResult (many count (local max_string_bytes) cursor.at (drop cursor.at s.now)) }
-    ensures puts_all { PutsAll localBytes (many count (local max_string_bytes) cursor.at (drop cursor.at s.now)) at out.old result.behind out.new }
+    ensures read_value { result.read ≡ cursor_result (many count (local max_string_bytes) cursor.at (drop cursor.at s.now)) }
+    ensures puts_all { PutsAll local_bytes (many count (local max_string_bytes) cursor.at (drop cursor.at s.now)) at out.old result.behind out.new }
 {
     let mut next = cursor;
     let mut behind = put_varint(out, at, count as u64);
@@ -128,8 +128,8 @@ pub fn copy_names(
     out: &mut [u8],
     at: usize,
 ) -> Passed
-    ensures read_value { result.read ≡ cursorResult (many count (string max_string_bytes) cursor.at (drop cursor.at s.now)) }
-    ensures puts_all { PutsAll optionBytes (many count (string max_string_bytes) cursor.at (drop cursor.at s.now)) at out.old result.behind out.new }
+    ensures read_value { result.read ≡ cursor_result (many count (string max_string_bytes) cursor.at (drop cursor.at s.now)) }
+    ensures puts_all { PutsAll option_bytes (many count (string max_string_bytes) cursor.at (drop cursor.at s.now)) at out.old result.behind out.new }
 {
     let mut next = cursor;
     let mut behind = put_varint(out, at, count as u64);

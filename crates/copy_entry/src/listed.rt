@@ -4,8 +4,8 @@ ghost use Rattle.format.specs.declared.refusal.Refusal.TheVariants.{Constants};
 ghost use Rattle.format.specs.Form.{Below};
 ghost use Rattle.format.specs.ReadFields.{string};
 ghost use Rattle.format.specs.ReadChunk as spec;
-ghost use Rattle.format.specs.Copy.{constant_bytes, anchorBytes, localBytes, optionBytes};
-ghost use Rattle.read_list.specs.Inner.Shown.{listResult};
+ghost use Rattle.format.specs.Copy.{constant_bytes, anchor_bytes, local_bytes, option_bytes};
+ghost use Rattle.read_list.specs.Inner.Shown.{list_result};
 ghost use Rattle.copy_entry.specs.Inner.Passed.{PutsListed};
 
 use crate::list::{copy_anchors, copy_constants, copy_locals, copy_names};
@@ -31,7 +31,7 @@ pub fn copy_constants_list(
     out: &mut [u8],
     at: usize,
 ) -> Listed
-    ensures list_value { result.list ≡ listResult (spec.countedUpTo max_constants Constants (spec.constant max_string_bytes) cursor.at (drop cursor.at s.now)) }
+    ensures list_value { result.list ≡ list_result (spec.counted_up_to max_constants Constants (spec.constant max_string_bytes) cursor.at (drop cursor.at s.now)) }
     ensures puts_listed { Below 256 s.now → PutsListed (spec.constant max_string_bytes) constant_bytes s.now result.list at out.old result.behind out.new }
 {
     let mut unused = [0usize; 4];
@@ -62,8 +62,8 @@ pub fn copy_constants_list(
 
 // Reads the count of the anchors and copies the list. Ruled out: a limit on anchors.
 pub fn copy_anchors_list(s: &[u8], cursor: Cursor, out: &mut [u8], at: usize) -> Listed
-    ensures list_value { result.list ≡ listResult (spec.counted spec.anchor cursor.at (drop cursor.at s.now)) }
-    ensures puts_listed { PutsListed spec.anchor anchorBytes s.now result.list at out.old result.behind out.new }
+    ensures list_value { result.list ≡ list_result (spec.counted spec.anchor cursor.at (drop cursor.at s.now)) }
+    ensures puts_listed { PutsListed spec.anchor anchor_bytes s.now result.list at out.old result.behind out.new }
 {
     let read = read_value(s, cursor);
     match read {
@@ -92,8 +92,8 @@ pub fn copy_locals_list(
     out: &mut [u8],
     at: usize,
 ) -> Listed
-    ensures list_value { result.list ≡ listResult (spec.counted (spec.local max_string_bytes) cursor.at (drop cursor.at s.now)) }
-    ensures puts_listed { PutsListed (spec.local max_string_bytes) localBytes s.now result.list at out.old result.behind out.new }
+    ensures list_value { result.list ≡ list_result (spec.counted (spec.local max_string_bytes) cursor.at (drop cursor.at s.now)) }
+    ensures puts_listed { PutsListed (spec.local max_string_bytes) local_bytes s.now result.list at out.old result.behind out.new }
 {
     let read = read_value(s, cursor);
     match read {
@@ -122,8 +122,8 @@ pub fn copy_names_list(
     out: &mut [u8],
     at: usize,
 ) -> Listed
-    ensures list_value { result.list ≡ listResult (spec.counted (string max_string_bytes) cursor.at (drop cursor.at s.now)) }
-    ensures puts_listed { PutsListed (string max_string_bytes) optionBytes s.now result.list at out.old result.behind out.new }
+    ensures list_value { result.list ≡ list_result (spec.counted (string max_string_bytes) cursor.at (drop cursor.at s.now)) }
+    ensures puts_listed { PutsListed (string max_string_bytes) option_bytes s.now result.list at out.old result.behind out.new }
 {
     let read = read_value(s, cursor);
     match read {

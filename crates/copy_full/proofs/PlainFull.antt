@@ -1,8 +1,8 @@
 -- A chunk of which the full copy spells no place otherwise, in the code's terms: behind its first 32 bytes it is that copy (crates/format_copy/proofs/FullPlain.antt), so it is answered and written as a plain chunk's archive copy is (crates/copy/proofs/PlainChunks.antt).
---     full-refused     a refusal is the answer
---     full-answer      the chunk's length is the length of its full copy
---     full-short       so there is no room where less is lent
---     full-whole       where there is room, its front anew and its rest as it is are its full copy
+--     full_refused     a refusal is the answer
+--     full_answer      the chunk's length is the length of its full copy
+--     full_short       so there is no room where less is lent
+--     full_whole       where there is room, its front anew and its rest as it is are its full copy
 -- Assumes nothing.
 use mathlib.Core.Path.{◌≡◌, sym, ◌∙◌, ap}
 use mathlib.Core.Bool.{true}
@@ -19,34 +19,34 @@ use Rattle.format.specs.Form.{Bytes, Below}
 use Rattle.format.specs.Reading.{Reading}
 use Rattle.format.specs.GrammarChunk.{Chunk}
 use Rattle.format.specs.ReadChunk.{Outcome, shown, read}
-use Rattle.format.specs.Copy.{fieldBytes, headerBytes, upvaluesOfMain}
-use Rattle.format.specs.FullCopy.{fullCopy}
-use Rattle.format_spelling.specs.Spelling.{respeltFull, spellingOf}
+use Rattle.format.specs.Copy.{field_bytes, header_bytes, upvalues_of_main}
+use Rattle.format.specs.FullCopy.{full_copy}
+use Rattle.format_spelling.specs.Spelling.{respelt_full, spelling_of}
 use Rattle.format_spelling.specs.ReadSpelling.{spelling}
-use Rattle.format_copy.proofs.FullPlain.{plain-full}
+use Rattle.format_copy.proofs.FullPlain.{plain_full}
 use Rattle.read_chunk.specs.declared.summary.Summary.{Summary}
 use Rattle.read_chunk.specs.declared.summary.SpeltResult.TheVariants as spelt
-use Rattle.read_chunk.specs.Inner.Decoded.{speltResult}
+use Rattle.read_chunk.specs.Inner.Decoded.{spelt_result}
 use Rattle.read_chunk.proofs.Spelt.{not-spelt}
 use Rattle.copy_put.specs.Inner.Put.{Put}
 use Rattle.copy.specs.declared.whole.CopyAnswer.TheVariants as answer
-use Rattle.copy.proofs.PlainChunks.{by-plain-answer, by-plain-short, by-plain-whole}
-use Rattle.copy_full.specs.InFull.{shownFullLength, shownFull, fullWritten}
+use Rattle.copy.proofs.PlainChunks.{by_plain_answer, by_plain_short, by_plain_whole}
+use Rattle.copy_full.specs.InFull.{shown_full_length, shown_full, full_written}
 
-pub full-refused : (k : Spelling) (o : Outcome) (q : Refusal) → spelt.Err q ≡ speltResult k o → answer.Err q ≡ shownFullLength o
-full-refused k o q e = sym (ap shownFullLength (not-spelt k o q e))
+pub full_refused : (k : Spelling) (o : Outcome) (q : Refusal) → spelt.Err q ≡ spelt_result k o → answer.Err q ≡ shown_full_length o
+full_refused k o q e = sym (ap shown_full_length (not-spelt k o q e))
 
-module _ (s : Bytes) (L : ResourceLimits) (bytes : Below 256 s) (y : Summary) (k : Spelling) (e : spelt.Ok y k ≡ speltResult (spelling L s) (read L s)) (plain : eqb (respeltFull k) 0 ≡ true) where
-  so : (x : Reading) (c : Chunk L s x) → spellingOf c ≡ k → fullCopy x ≡ headerBytes 0 ++ (fieldBytes 1 (upvaluesOfMain x.functions) ++ drop 32 s)
-  so x c is = plain-full c bytes (ap respeltFull is ∙ eqb-true (respeltFull k) 0 plain)
+module _ (s : Bytes) (L : ResourceLimits) (bytes : Below 256 s) (y : Summary) (k : Spelling) (e : spelt.Ok y k ≡ spelt_result (spelling L s) (read L s)) (plain : eqb (respelt_full k) 0 ≡ true) where
+  so : (x : Reading) (c : Chunk L s x) → spelling_of c ≡ k → full_copy x ≡ header_bytes 0 ++ (field_bytes 1 (upvalues_of_main x.functions) ++ drop 32 s)
+  so x c is = plain_full c bytes (ap respelt_full is ∙ eqb-true (respelt_full k) 0 plain)
 
-  pub full-answer : answer.Ok (length s) ≡ shownFullLength (read L s)
-  full-answer = by-plain-answer fullCopy s L y k e so
+  pub full_answer : answer.Ok (length s) ≡ shown_full_length (read L s)
+  full_answer = by_plain_answer full_copy s L y k e so
 
   module _ (old : Bytes) where
-    pub full-short : length old < length s → (answer.Err LentSpace ≡ shownFull (length old) (read L s)) × (old ≡ fullWritten old (read L s))
-    full-short = by-plain-short fullCopy s L y k e so old
+    pub full_short : length old < length s → (answer.Err LentSpace ≡ shown_full (length old) (read L s)) × (old ≡ full_written old (read L s))
+    full_short = by_plain_short full_copy s L y k e so old
 
-    pub full-whole : length s ≤ length old → (u : ℕ) → ((x : Reading) → read L s ≡ shown x → u ≡ upvaluesOfMain x.functions) → {new : Bytes} {len : ℕ} → Put (headerBytes 0 ++ (fieldBytes 1 u ++ drop 32 s)) 0 old len new
-        → (answer.Ok (length s) ≡ shownFull (length old) (read L s)) × (new ≡ fullWritten old (read L s))
-    full-whole = by-plain-whole fullCopy s L y k e so old
+    pub full_whole : length s ≤ length old → (u : ℕ) → ((x : Reading) → read L s ≡ shown x → u ≡ upvalues_of_main x.functions) → {new : Bytes} {len : ℕ} → Put (header_bytes 0 ++ (field_bytes 1 u ++ drop 32 s)) 0 old len new
+        → (answer.Ok (length s) ≡ shown_full (length old) (read L s)) × (new ≡ full_written old (read L s))
+    full_whole = by_plain_whole full_copy s L y k e so old

@@ -1,19 +1,19 @@
 -- What the calls on the full copy answer, and what they leave of lent memory: as those on the archive copy (crates/copy/specs/Copied.antt), by the full copy.
---     shownFullLength o        the length of the full copy, where o was read
---     shownFull space o        the same; 26 where the space is shorter, after every other refusal
---     fullWritten old o        what then stands in the lent memory that held `old`
+--     shown_full_length o        the length of the full copy, where o was read
+--     shown_full space o        the same; 26 where the space is shorter, after every other refusal
+--     full_written old o        what then stands in the lent memory that held `old`
 use Rattle.std.specs.Prelude.{ℕ}
 use Rattle.format.specs.Form.{Bytes}
 use Rattle.format.specs.ReadChunk.{Outcome}
-use Rattle.format.specs.FullCopy.{fullCopy}
+use Rattle.format.specs.FullCopy.{full_copy}
 use Rattle.copy.specs.declared.whole.CopyAnswer.{CopyAnswer}
-use Rattle.copy.specs.Copied.{lengthBy, shownBy, written_by}
+use Rattle.copy.specs.Copied.{length_by, shown_by, written_by}
 
-abbrev pub shownFullLength : Outcome → CopyAnswer
-shownFullLength = lengthBy fullCopy
+abbrev pub shown_full_length : Outcome → CopyAnswer
+shown_full_length = length_by full_copy
 
-abbrev pub shownFull : ℕ → Outcome → CopyAnswer
-shownFull = shownBy fullCopy
+abbrev pub shown_full : ℕ → Outcome → CopyAnswer
+shown_full = shown_by full_copy
 
-abbrev pub fullWritten : Bytes → Outcome → Bytes
-fullWritten = written_by fullCopy
+abbrev pub full_written : Bytes → Outcome → Bytes
+full_written = written_by full_copy

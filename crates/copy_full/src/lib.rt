@@ -5,7 +5,7 @@ mod whole;
 
 ghost use Rattle.std.specs.Prelude.{◌≡◌, length};
 ghost use Rattle.format.specs.ReadChunk as format;
-ghost use Rattle.copy_full.specs.InFull.{shownFullLength, shownFull, fullWritten};
+ghost use Rattle.copy_full.specs.InFull.{shown_full_length, shown_full, full_written};
 
 use crate::plain::is_plain_in_full;
 use crate::whole::full_chunk;
@@ -17,7 +17,7 @@ use read_chunk::summary::{SpeltResult, judge_spelling};
 
 // The length of a full copy, by the walk.
 fn measure(s: &[u8], limits: ResourceLimits) -> CopyAnswer
-    ensures { result ≡ shownFullLength (format.read limits s.now) }
+    ensures { result ≡ shown_full_length (format.read limits s.now) }
 {
     let mut nowhere = [0u8; 1];
     full_chunk(s, limits, &mut nowhere)
@@ -25,8 +25,8 @@ fn measure(s: &[u8], limits: ResourceLimits) -> CopyAnswer
 
 // A full copy, by the walk: the first measures, the second writes.
 fn respell(s: &[u8], limits: ResourceLimits, out: &mut [u8]) -> CopyAnswer
-    ensures value { result ≡ shownFull (length out.old) (format.read limits s.now) }
-    ensures out_after { out.new ≡ fullWritten out.old (format.read limits s.now) }
+    ensures value { result ≡ shown_full (length out.old) (format.read limits s.now) }
+    ensures out_after { out.new ≡ full_written out.old (format.read limits s.now) }
 {
     let judged = measure(s, limits);
     match judged {
@@ -43,7 +43,7 @@ fn respell(s: &[u8], limits: ResourceLimits, out: &mut [u8]) -> CopyAnswer
 
 // The length of a chunk's full copy. Ruled out: the length of the archive copy where a nested source is kept, the length of the chunk itself where its copy is spelt otherwise.
 pub fn full_copy_length(s: &[u8], limits: ResourceLimits) -> CopyAnswer
-    ensures { result ≡ shownFullLength (format.read limits s.now) }
+    ensures { result ≡ shown_full_length (format.read limits s.now) }
 {
     if begins_padded(s) {
         return measure(s, limits);
@@ -65,8 +65,8 @@ pub fn full_copy_length(s: &[u8], limits: ResourceLimits) -> CopyAnswer
 
 // Writes the full copy of a chunk at the start of `out`. Ruled out: 26 judged by the archive copy's length, memory that is touched where the answer is a refusal.
 pub fn full_copy(s: &[u8], limits: ResourceLimits, out: &mut [u8]) -> CopyAnswer
-    ensures value { result ≡ shownFull (length out.old) (format.read limits s.now) }
-    ensures out_after { out.new ≡ fullWritten out.old (format.read limits s.now) }
+    ensures value { result ≡ shown_full (length out.old) (format.read limits s.now) }
+    ensures out_after { out.new ≡ full_written out.old (format.read limits s.now) }
 {
     if begins_padded(s) {
         return respell(s, limits, out);

@@ -4,7 +4,7 @@ ghost use Rattle.format.specs.Limits.{DEEPEST, MOST, Walkable};
 ghost use Rattle.format.specs.Form.{Below};
 ghost use Rattle.format.specs.GrammarChunk.{outermost};
 ghost use Rattle.format.specs.ReadChunk as format;
-ghost use Rattle.format.specs.FullCopy.{fullFunctions, fullCopy};
+ghost use Rattle.format.specs.FullCopy.{full_functions, full_copy};
 ghost use Rattle.copy.specs.Inner.Answers.{chunkBy, Answers, CopiesBy};
 
 use copy::whole::CopyAnswer;
@@ -20,7 +20,7 @@ use slice::cursor::{Cursor, remaining};
 // Main, which begins at the cursor and has no function around it (no source is spelt at the end of the slice), with all that nest in it, then the header, of which one byte depends on main, then the trailing bytes.
 fn full_functions(s: &[u8], limits: ResourceLimits, cursor: Cursor, out: &mut [u8]) -> CopyAnswer
     requires { (limits.max_nesting_depth ≤ DEEPEST) × Walkable limits }
-    ensures { Below 256 s.now → length s.now ≤ MOST → Answers (chunkBy fullFunctions) (format.function limits limits.max_nesting_depth outermost cursor.at (drop cursor.at s.now)) out.old result out.new }
+    ensures { Below 256 s.now → length s.now ≤ MOST → Answers (chunkBy full_functions) (format.function limits limits.max_nesting_depth outermost cursor.at (drop cursor.at s.now)) out.old result out.new }
 {
     let left = limits.max_nesting_depth;
     let from = Skimmed {
@@ -44,7 +44,7 @@ fn full_functions(s: &[u8], limits: ResourceLimits, cursor: Cursor, out: &mut [u
 
 // A chunk under limits, judged; and its full copy at the start of the lent memory, if it has room there. Ruled out: a length without the trailing bytes, a chunk above the input limit copied.
 pub fn full_chunk(s: &[u8], limits: ResourceLimits, out: &mut [u8]) -> CopyAnswer
-    ensures { CopiesBy fullCopy (format.read limits s.now) out.old result out.new }
+    ensures { CopiesBy full_copy (format.read limits s.now) out.old result out.new }
 {
     let begins = open_chunk(s, limits);
     match begins {

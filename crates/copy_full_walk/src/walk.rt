@@ -4,10 +4,10 @@ ghost use Rattle.format.specs.Limits.{MOST, Walkable};
 ghost use Rattle.format.specs.Form.{Below};
 ghost use Rattle.format.specs.GrammarChunk as grammar;
 ghost use Rattle.format.specs.ReadChunk.{function};
-ghost use Rattle.read_walk.specs.Inner.Skim.{skimResult};
+ghost use Rattle.read_walk.specs.Inner.Skim.{skim_result};
 ghost use Rattle.copy_walk.specs.Inner.Walk.{PutsFunction};
-ghost use Rattle.read_walk.specs.Inner.Source.{sourceAt};
-ghost use Rattle.copy_full_walk.specs.Inner.Walk.{fullBytes};
+ghost use Rattle.read_walk.specs.Inner.Source.{source_at};
+ghost use Rattle.copy_full_walk.specs.Inner.Walk.{full_bytes};
 
 use crate::source::source_of;
 use copy_parts::ends::{Copied, copy_end, stopped};
@@ -29,8 +29,8 @@ pub fn copy_in_full(
     out: &mut [u8],
 ) -> Copied
     requires { Walkable limits × (from.number ≤ MOST) }
-    ensures walk_value { (w : grammar.Where) → from.number ≡ w.number → from.instructions ≡ w.instructions → result.walk ≡ skimResult w (function limits left w from.next.at (drop from.next.at s.now)) }
-    ensures puts_function { (w : grammar.Where) → from.number ≡ w.number → from.instructions ≡ w.instructions → w.source ≡ sourceAt limits.max_string_bytes s.now parent → Below 256 s.now → PutsFunction (fullBytes w.source) (function limits left w from.next.at (drop from.next.at s.now)) out.old result.upvalues result.len out.new }
+    ensures walk_value { (w : grammar.Where) → from.number ≡ w.number → from.instructions ≡ w.instructions → result.walk ≡ skim_result w (function limits left w from.next.at (drop from.next.at s.now)) }
+    ensures puts_function { (w : grammar.Where) → from.number ≡ w.number → from.instructions ≡ w.instructions → w.source ≡ source_at limits.max_string_bytes s.now parent → Below 256 s.now → PutsFunction (full_bytes w.source) (function limits left w from.next.at (drop from.next.at s.now)) out.old result.upvalues result.len out.new }
 {
     let source = source_of(s, limits.max_string_bytes, parent, from.next.at);
     let own = source.own;

@@ -1,10 +1,10 @@
 // The end of a function, behind the functions that nest in it: read, and put into the copy.
 ghost use Rattle.std.specs.Prelude.{◌≡◌, drop};
 ghost use Rattle.slice.specs.declared.cursor.CursorResult.TheVariants as answer;
-ghost use Rattle.slice.specs.Inner.Results.{cursorResult};
+ghost use Rattle.slice.specs.Inner.Results.{cursor_result};
 ghost use Rattle.read_walk.specs.declared.walk.SkimResult.TheVariants as walk;
 ghost use Rattle.read_prototype.specs.Parts as parts;
-ghost use Rattle.copy_parts.specs.Inner.Ends.{PutsTail, endShown};
+ghost use Rattle.copy_parts.specs.Inner.Ends.{PutsTail, end_shown};
 
 use copy_entry::entry::Passed;
 use copy_entry::listed::{copy_anchors_list, copy_locals_list, copy_names_list};
@@ -46,7 +46,7 @@ fn refused(refusal: Refusal, at: usize) -> Passed
 
 // Reads a function behind the functions that nest in it, and puts its copy. Ruled out: the deltas behind the anchors, the names of the upvalues left out.
 fn copy_tail(s: &[u8], max_string_bytes: usize, cursor: Cursor, out: &mut [u8], at: usize) -> Passed
-    ensures read_value { result.read ≡ cursorResult (parts.tail max_string_bytes cursor.at (drop cursor.at s.now)) }
+    ensures read_value { result.read ≡ cursor_result (parts.tail max_string_bytes cursor.at (drop cursor.at s.now)) }
     ensures puts_tail { PutsTail (parts.tail max_string_bytes cursor.at (drop cursor.at s.now)) at out.old result.behind out.new }
 {
     let mut unused = [0usize; 4];
@@ -102,7 +102,7 @@ pub fn copy_end(
     at: usize,
 ) -> Copied
     ensures upvalues_value { result.upvalues ≡ upvalues }
-    ensures walk_value { result.walk ≡ endShown nested (parts.tail limits.max_string_bytes nested.next.at (drop nested.next.at s.now)) }
+    ensures walk_value { result.walk ≡ end_shown nested (parts.tail limits.max_string_bytes nested.next.at (drop nested.next.at s.now)) }
     ensures puts_tail { PutsTail (parts.tail limits.max_string_bytes nested.next.at (drop nested.next.at s.now)) at out.old result.len out.new }
 {
     let ends = copy_tail(s, limits.max_string_bytes, nested.next, out, at);

@@ -3,11 +3,11 @@
 ghost use Rattle.std.specs.Prelude.{◌≡◌, cond, [], ◌∷◌, drop};
 ghost use Rattle.format.specs.Shortest.{shortest};
 ghost use Rattle.read_prototype.specs.Front as spec;
-ghost use Rattle.read_prototype.specs.Inner.Results.{linesResult, sizesResult, frontResult};
+ghost use Rattle.read_prototype.specs.Inner.Results.{lines_result, sizes_result, front_result};
 ghost use Rattle.copy_put.specs.Inner.Put.{Put};
 ghost use Rattle.copy_put.specs.Inner.Text.{There, spelt};
-ghost use Rattle.copy_parts.specs.Inner.Parts.{linesBytes};
-ghost use Rattle.copy_parts.specs.Inner.Fronts.{lines_read, sizesRead, frontRead, PutsLines, PutsSizes, PutsFront};
+ghost use Rattle.copy_parts.specs.Inner.Parts.{lines_bytes};
+ghost use Rattle.copy_parts.specs.Inner.Fronts.{lines_read, sizes_read, front_read, PutsLines, PutsSizes, PutsFront};
 
 use copy_entry::entry::Passed;
 use copy_put::number::put_varint;
@@ -30,15 +30,15 @@ fn put_source(s: &[u8], named: bool, source: OptionString, out: &mut [u8]) -> us
 }
 
 fn put_lines(lines: Lines, out: &mut [u8], at: usize) -> usize
-    ensures { Put (linesBytes lines) at out.old result out.new }
+    ensures { Put (lines_bytes lines) at out.old result out.new }
 {
     let first = put_varint(out, at, lines.line_defined as u64);
     put_varint(out, first, lines.last_line_defined as u64)
 }
 
 fn copy_lines(s: &[u8], cursor: Cursor, out: &mut [u8], at: usize) -> Passed
-    ensures read_value { result.read ≡ lines_read (linesResult (spec.lines cursor.at (drop cursor.at s.now))) }
-    ensures puts_lines { PutsLines (linesResult (spec.lines cursor.at (drop cursor.at s.now))) at out.old result.behind out.new }
+    ensures read_value { result.read ≡ lines_read (lines_result (spec.lines cursor.at (drop cursor.at s.now))) }
+    ensures puts_lines { PutsLines (lines_result (spec.lines cursor.at (drop cursor.at s.now))) at out.old result.behind out.new }
 {
     let first = read_value(s, cursor);
     match first {
@@ -81,8 +81,8 @@ fn put_sizes(sizes: Sizes, out: &mut [u8], at: usize) -> usize
 }
 
 fn copy_sizes(s: &[u8], cursor: Cursor, out: &mut [u8], at: usize) -> Passed
-    ensures read_value { result.read ≡ sizesRead (sizesResult (spec.sizes cursor.at (drop cursor.at s.now))) }
-    ensures puts_sizes { PutsSizes (sizesResult (spec.sizes cursor.at (drop cursor.at s.now))) at out.old result.behind out.new }
+    ensures read_value { result.read ≡ sizes_read (sizes_result (spec.sizes cursor.at (drop cursor.at s.now))) }
+    ensures puts_sizes { PutsSizes (sizes_result (spec.sizes cursor.at (drop cursor.at s.now))) at out.old result.behind out.new }
 {
     let first = read_u8(s, cursor);
     match first {
@@ -137,8 +137,8 @@ pub fn copy_front(
     cursor: Cursor,
     out: &mut [u8],
 ) -> Passed
-    ensures read_value { result.read ≡ frontRead (frontResult (spec.front max_string_bytes cursor.at (drop cursor.at s.now))) }
-    ensures puts_front { PutsFront s.now named (frontResult (spec.front max_string_bytes cursor.at (drop cursor.at s.now))) out.old result.behind out.new }
+    ensures read_value { result.read ≡ front_read (front_result (spec.front max_string_bytes cursor.at (drop cursor.at s.now))) }
+    ensures puts_front { PutsFront s.now named (front_result (spec.front max_string_bytes cursor.at (drop cursor.at s.now))) out.old result.behind out.new }
 {
     let name = read_string_lua54(s, cursor, max_string_bytes);
     match name {

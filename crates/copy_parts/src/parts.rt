@@ -2,8 +2,8 @@
 ghost use Rattle.std.specs.Prelude.{◌≡◌, drop};
 ghost use Rattle.format.specs.Form.{Below};
 ghost use Rattle.read_prototype.specs.Parts as parts;
-ghost use Rattle.read_prototype.specs.PartsShown.{headListsResult, headResult};
-ghost use Rattle.copy_parts.specs.Inner.Heads.{listsCounted, headCounted, PutsLists, PutsHead};
+ghost use Rattle.read_prototype.specs.PartsShown.{head_lists_result, head_result};
+ghost use Rattle.copy_parts.specs.Inner.Heads.{lists_counted, head_counted, PutsLists, PutsHead};
 
 use crate::front::copy_front;
 use copy_entry::listed::copy_constants_list;
@@ -41,8 +41,8 @@ fn copy_lists(
     out: &mut [u8],
     at: usize,
 ) -> ListsCopied
-    ensures lists_value { result.lists ≡ listsCounted (headListsResult (parts.headLists limits before cursor.at (drop cursor.at s.now))) }
-    ensures puts_lists { PutsLists limits s.now (headListsResult (parts.headLists limits before cursor.at (drop cursor.at s.now))) at out.old result.behind out.new }
+    ensures lists_value { result.lists ≡ lists_counted (head_lists_result (parts.head_lists limits before cursor.at (drop cursor.at s.now))) }
+    ensures puts_lists { PutsLists limits s.now (head_lists_result (parts.head_lists limits before cursor.at (drop cursor.at s.now))) at out.old result.behind out.new }
 {
     let mut unused = [0usize; 4];
     let code = instructions_list(
@@ -138,7 +138,7 @@ pub fn copy_head(
     cursor: Cursor,
     out: &mut [u8],
 ) -> HeadCopied
-    ensures begins_value { result.begins ≡ headCounted (headResult (parts.head limits before cursor.at (drop cursor.at s.now))) }
+    ensures begins_value { result.begins ≡ head_counted (head_result (parts.head limits before cursor.at (drop cursor.at s.now))) }
     ensures puts_head { Below 256 s.now → PutsHead named (parts.head limits before cursor.at (drop cursor.at s.now)) out.old result.len out.new }
 {
     let first = copy_front(s, named, limits.max_string_bytes, cursor, out);

@@ -13,7 +13,7 @@ use lib.ListN.{length, take, drop, set, length-append, length-set, take-append-d
 use lib.Seq.{length-take-le, set_split, drop_at, take-set-le}
 use Rattle.format.specs.Shortest.{groups_of, shortest}
 use Rattle.slice.specs.Inner.Splice.{splice}
-use Rattle.slice.proofs.Splices.{splice-length, splice-set, splice-then}
+use Rattle.slice.proofs.Splices.{splice-length, splice_set, splice_then}
 use Rattle.copy_put.specs.Inner.Groups.{groups}
 
 length-groups : (n v : ℕ) → length (groups n v) ≡ n
@@ -21,8 +21,8 @@ unfolding groups
 length-groups zero v = refl
 length-groups (suc n) v = length-append (groups n (v / 128)) (v % 128 ∷ []) ∙ add-one (length (groups n (v / 128))) ∙ ap suc (length-groups n (v / 128))
 
-drop-set-here : (k a : ℕ) (l : List ℕ) → k < length l → drop k (set l k a) ≡ a ∷ drop (suc k) l
-drop-set-here k a l h = ap (drop k) (set_split l k a h) ∙ drop_at (take k l) (a ∷ drop (suc k) l) k (length-take-le k l (omega arith))
+drop_set_here : (k a : ℕ) (l : List ℕ) → k < length l → drop k (set l k a) ≡ a ∷ drop (suc k) l
+drop_set_here k a l h = ap (drop k) (set_split l k a h) ∙ drop_at (take k l) (a ∷ drop (suc k) l) k (length-take-le k l (omega arith))
 
 pub record Stored (at n v : ℕ) (l : List ℕ) (i rest : ℕ) (out : List ℕ) : Type 0 where
   pub low : at ≤ i
@@ -49,7 +49,7 @@ stored_next at n v l (suc k) rest out fits s more =
       same = length-set out k (rest % 128) ∙ s.same;
       before = take-set-le at out k (rest % 128) (omega arith) ∙ s.before;
       behind =
-          ap (λ (x : List ℕ). groups (k - at) (rest / 128) ++ x) (drop-set-here k (rest % 128) out inside)
+          ap (λ (x : List ℕ). groups (k - at) (rest / 128) ++ x) (drop_set_here k (rest % 128) out inside)
           ∙ sym (append_assoc (groups (k - at) (rest / 128)) (rest % 128 ∷ []) (drop (suc k) out))
           ∙ ap (λ (m : ℕ). groups m rest ++ drop (suc k) out) (sym f)
           ∙ s.behind;
@@ -71,25 +71,25 @@ groups-of zero v = refl
 groups-of (suc f) zero = refl
 groups-of (suc f) (suc v) = rw (length-append, add-one) (ap (λ l. l ++ (suc v % 128 ∷ [])) (groups-of f (suc v / 128)))
 
-pub size-pos : (v : ℕ) → 0 < length (shortest v)
+pub size_pos : (v : ℕ) → 0 < length (shortest v)
 unfolding shortest
-size-pos v = rw length-append (omega arith)
+size_pos v = rw length-append (omega arith)
 
-as-groups : (v high : ℕ) → high ≡ length (shortest v) - 1 → groups high (v / 128) ++ ((v % 128 + 128) ∷ []) ≡ shortest v
+as_groups : (v high : ℕ) → high ≡ length (shortest v) - 1 → groups high (v / 128) ++ ((v % 128 + 128) ∷ []) ≡ shortest v
 unfolding shortest
-as-groups v high e =
+as_groups v high e =
     let size : length (groups_of v (v / 128) ++ (128 + v % 128) ∷ []) ≡ length (groups_of v (v / 128)) + 1 = length-append (groups_of v (v / 128)) ((128 + v % 128) ∷ []) in
     let same : high ≡ length (groups_of v (v / 128)) = omega arith in
     ap (λ k. groups k (v / 128) ++ ((v % 128 + 128) ∷ [])) same ∙ ap (λ k. groups (length (groups_of v (v / 128))) (v / 128) ++ (k ∷ [])) (add_comm (v % 128) 128) ∙ ap (λ l. l ++ ((128 + v % 128) ∷ [])) (groups-of v (v / 128))
 
 pub number-stored : (at v high : ℕ) (l out : List ℕ) → at + length (shortest v) ≤ length l → high ≡ length (shortest v) - 1 → out ≡ splice at (groups high (v / 128)) l → set out (at + high) (v % 128 + 128) ≡ splice at (shortest v) l
 number-stored at v high l out fits e was =
-    let some : 0 < length (shortest v) = size-pos v in
+    let some : 0 < length (shortest v) = size_pos v in
     let long : length (groups high (v / 128)) ≡ high = length-groups high (v / 128) in
     let room : at + length (groups high (v / 128)) ≤ length l = omega arith in
     let inside : at + high < length out = omega (arith, ap length was, splice-length at (groups high (v / 128)) l room) in
-    splice-set (at + high) (v % 128 + 128) out inside
+    splice_set (at + high) (v % 128 + 128) out inside
     ∙ ap (λ (x : List ℕ). splice (at + high) ((v % 128 + 128) ∷ []) x) was
     ∙ ap (λ (k : ℕ). splice (at + k) ((v % 128 + 128) ∷ []) (splice at (groups high (v / 128)) l)) (sym long)
-    ∙ splice-then at (groups high (v / 128)) ((v % 128 + 128) ∷ []) l room
-    ∙ ap (λ b. splice at b l) (as-groups v high e)
+    ∙ splice_then at (groups high (v / 128)) ((v % 128 + 128) ∷ []) l room
+    ∙ ap (λ b. splice at b l) (as_groups v high e)

@@ -1,6 +1,6 @@
 -- The table of lengths (`specs/Lengths.antt`) has the length of every number's shortest spelling.
---     by-rule          the table is its rule at 0 to 64: one test, which antt computes
---     table-rule       so at the leading zeros of v it has the length of v's shortest spelling
+--     by_rule          the table is its rule at 0 to 64: one test, which antt computes
+--     table_rule       so at the leading zeros of v it has the length of v's shortest spelling
 --     told, passed     what an arm of a match knows of its number: it is the arm's, or none of those before
 -- Assumes nothing.
 use mathlib.Core.Path.{◌≡◌, refl, sym, ◌∙◌, ap}
@@ -35,17 +35,17 @@ rules-at (suc n) i (suc k) h =
     let next : suc i + k ≡ i + suc k = omega arith in
     rules-at n (suc i) k (omega arith) ∙ ap (λ m. some (rule m)) next
 
-by-rule : lengths ≡ rules 0 65
+by_rule : lengths ≡ rules 0 65
 unfolding lengths
-by-rule = refl
+by_rule = refl
 
 entry : (zeros : ℕ) → zeros ≤ 64 → get_elem? lengths zeros ≡ some (rule zeros)
-entry zeros h = rw by-rule (rules-at 65 0 zeros (omega arith) ∙ ap (λ m. some (rule m)) (omega arith))
+entry zeros h = rw by_rule (rules-at 65 0 zeros (omega arith) ∙ ap (λ m. some (rule m)) (omega arith))
 
 -- ## The lengths
-pub table-rule : (v : ℕ) → v < 2 ^ 64 → get_elem? lengths (count_leading_zeros 64 v) ≡ some (length (shortest v))
-table-rule zero h = ap (get_elem? lengths) (leading_of_zero 64) ∙ entry 64 (omega arith) ∙ ap some (sym length-zero)
-table-rule (suc n) h =
+pub table_rule : (v : ℕ) → v < 2 ^ 64 → get_elem? lengths (count_leading_zeros 64 v) ≡ some (length (shortest v))
+table_rule zero h = ap (get_elem? lengths) (leading_of_zero 64) ∙ entry 64 (omega arith) ∙ ap some (sym length-zero)
+table_rule (suc n) h =
     let top = leading_top 64 (suc n) (omega arith) h in
     let few : count_leading_zeros 64 (suc n) < 64 = omega (arith, top.1) in
     entry (count_leading_zeros 64 (suc n)) (omega (arith, few)) ∙ ap some (rounded (count_leading_zeros 64 (suc n)) few ∙ length-bits (suc n) (λ z. omega (arith, z)) h)

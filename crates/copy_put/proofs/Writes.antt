@@ -11,7 +11,7 @@ use lib.ListN.{length, take, drop, length-append, length-drop}
 use lib.Seq.{length-take-le}
 use Rattle.format.specs.Form.{Bytes}
 use Rattle.slice.specs.Inner.Splice.{splice}
-use Rattle.slice.proofs.Splices.{splice-none, splice-length, splice-then}
+use Rattle.slice.proofs.Splices.{splice-none, splice-length, splice_then}
 use Rattle.copy_put.specs.Inner.Put.{Put}
 
 module _ {b : Bytes} {at : ℕ} {l : Bytes} {behind : ℕ} where
@@ -21,8 +21,8 @@ module _ {b : Bytes} {at : ℕ} {l : Bytes} {behind : ℕ} where
   pub put-none : length l < at + length b → (at + length b ≤ 4294967296 → behind ≡ at + length b) → Put b at l behind l
   put-none short e = record { long = refl; reach = e; wrote = λ _ fits. absurd (omega arith) }
 
-pub put-nothing : {at : ℕ} {l : Bytes} → Put [] at l at l
-put-nothing {at} {l} = record { long = refl; reach = λ _. omega arith; wrote = λ _ _. sym (splice-none at l) }
+pub put_nothing : {at : ℕ} {l : Bytes} → Put [] at l at l
+put_nothing {at} {l} = record { long = refl; reach = λ _. omega arith; wrote = λ _ _. sym (splice-none at l) }
 
 pub put_then : {a b : Bytes} {at behind after : ℕ} {l l' l'' : Bytes} → Put a at l behind l' → Put b behind l' after l'' → Put (a ++ b) at l after l''
 put_then {a} {b} {at} {behind} {after} {l} {l'} {l''} p q = record {
@@ -33,7 +33,7 @@ put_then {a} {b} {at} {behind} {after} {l} {l'} {l''} p q = record {
       let k = size fits in
       let e = p.reach (omega arith) in
       let long = p.long in
-      q.wrote (omega arith) (omega arith) ∙ (λ i. splice (e i) b (p.wrote (omega arith) (omega arith) i)) ∙ splice-then at a b l (omega arith);
+      q.wrote (omega arith) (omega arith) ∙ (λ i. splice (e i) b (p.wrote (omega arith) (omega arith) i)) ∙ splice_then at a b l (omega arith);
 }
   where
     size : {n : ℕ} → at + length (a ++ b) ≤ n → at + length a + length b ≤ n
@@ -55,5 +55,5 @@ module _ (count width rest there : ℕ) (some : 0 < width) (same : rest ≡ ther
   pub too_few : rest / width < count → count * width ≤ there → ⊥
   too_few short h = let k : count ≤ rest / width = (le-div_iff_mul-le some).1 (rw same h) in omega arith
 
-  pub in-there : count ≤ rest / width → count * width ≤ there
-  in-there h = rw (← same) ((le-div_iff_mul-le some).0 h)
+  pub in_there : count ≤ rest / width → count * width ≤ there
+  in_there h = rw (← same) ((le-div_iff_mul-le some).0 h)

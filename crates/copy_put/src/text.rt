@@ -2,7 +2,7 @@
 ghost use Rattle.std.specs.Prelude.{◌≡◌, [], ◌∷◌, ◌++◌, suc, ◌-◌, ◌≤◌, length, take, drop};
 ghost use Rattle.format.specs.Shortest.{shortest};
 ghost use Rattle.copy_put.specs.Inner.Put.{Put};
-ghost use Rattle.copy_put.specs.Inner.Text.{There, spelt, speltName};
+ghost use Rattle.copy_put.specs.Inner.Text.{There, spelt, spelt_name};
 
 use crate::number::put_varint;
 use crate::raw::{put_byte, put_bytes};
@@ -34,7 +34,7 @@ pub fn put_string(s: &[u8], string: OptionString, out: &mut [u8], at: usize) -> 
 
 // The name of a local variable: `?` where it is absent. Ruled out: an absent name written as absent, or as empty.
 pub fn put_name(s: &[u8], name: OptionString, out: &mut [u8], at: usize) -> usize
-    ensures { There s.now name → Put (speltName s.now name) at out.old result out.new }
+    ensures { There s.now name → Put (spelt_name s.now name) at out.old result out.new }
 {
     match name {
         OptionString::None => {

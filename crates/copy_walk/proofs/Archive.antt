@@ -15,44 +15,44 @@ use Rattle.format.specs.GrammarFields.{LuaString}
 use Rattle.format.specs.Reading.{Prototype}
 use Rattle.format.specs.GrammarChunk.{inherit, Where}
 use Rattle.format.specs.ReadChunk.{function}
-use Rattle.format.specs.Copy.{optionBytes, behindSource, nest}
+use Rattle.format.specs.Copy.{option_bytes, behind_source, nest}
 use Rattle.format.proofs.Sources.{inherit-none}
 use Rattle.format.proofs.Located.{AtPlace}
 use Rattle.read_prototype.specs.Parts.{Head, Tail}
-use Rattle.read_prototype.specs.Inner.Whole.{prototypeOf}
-use Rattle.copy_parts.specs.Inner.Parts.{sourceBytes, headBytes, tail_bytes, functionBytes}
+use Rattle.read_prototype.specs.Inner.Whole.{prototype_of}
+use Rattle.copy_parts.specs.Inner.Parts.{source_bytes, head_bytes, tail_bytes, function_bytes}
 use Rattle.copy_parts.proofs.Lengths.{Short}
 use Rattle.copy_walk.proofs.Nests.{Way, Single, Parts, function-parts}
 
 -- ## The bytes of a function of its parts
-source-made : (named : Bool) (spelt outer : Option LuaString) → (named ≡ true → outer ≡ none) → sourceBytes named (inherit spelt outer) ≡ sourceBytes named spelt
-source-made true spelt outer main = ap optionBytes (ap (inherit spelt) (main refl) ∙ inherit-none spelt)
-source-made false spelt outer main = refl
+source_made : (named : Bool) (spelt outer : Option LuaString) → (named ≡ true → outer ≡ none) → source_bytes named (inherit spelt outer) ≡ source_bytes named spelt
+source_made true spelt outer main = ap option_bytes (ap (inherit spelt) (main refl) ∙ inherit-none spelt)
+source_made false spelt outer main = refl
 
 pub made : (named : Bool) (w : Where) (start : ℕ) (h : Head) (t : Tail) (end : ℕ) (inner : List Prototype) → (named ≡ true → w.source ≡ none)
-    → functionBytes named (prototypeOf w start h t end ∷ inner) ≡ headBytes named h ++ (flatten (foldr nest [] inner) ++ tail_bytes t)
-unfolding behindSource
-made named w start h t end inner main = ap (λ b. b ++ behindSource (prototypeOf w start h t end) (flatten (foldr nest [] inner))) (source-made named h.front.source w.source main) ∙ simp append_assoc
+    → function_bytes named (prototype_of w start h t end ∷ inner) ≡ head_bytes named h ++ (flatten (foldr nest [] inner) ++ tail_bytes t)
+unfolding behind_source
+made named w start h t end inner main = ap (λ b. b ++ behind_source (prototype_of w start h t end) (flatten (foldr nest [] inner))) (source_made named h.front.source w.source main) ∙ simp append_assoc
 
 -- ## The way of the archive copy
-pub none-nested : (source : Option LuaString) → flatten {A = ℕ} [] ≡ []
+pub none_nested : (source : Option LuaString) → flatten {A = ℕ} [] ≡ []
 unfolding flatten
-none-nested source = refl
+none_nested source = refl
 
 abbrev pub archive : Way
-archive = record { Piece = Bytes; nest = nest; all = λ source. flatten; one = λ source. functionBytes false; nothing = none-nested }
+archive = record { Piece = Bytes; nest = nest; all = λ source. flatten; one = λ source. function_bytes false; nothing = none_nested }
 
-short-made : (named : Bool) (w : Where) (ps : List Prototype) (at to : ℕ) → (named ≡ true → w.source ≡ none) → Parts archive w ps at to → Short (functionBytes named ps) at to
-short-made named w ps at to main a = rw (a.is, made named w a.start a.head a.tail a.end a.inner main, a.stack [], append-nil) (a.short named)
+short_made : (named : Bool) (w : Where) (ps : List Prototype) (at to : ℕ) → (named ≡ true → w.source ≡ none) → Parts archive w ps at to → Short (function_bytes named ps) at to
+short_made named w ps at to main a = rw (a.is, made named w a.start a.head a.tail a.end a.inner main, a.stack [], append-nil) (a.short named)
 
 pub single : (w : Where) (ps : List Prototype) (at to : ℕ) → Parts archive w ps at to → Single archive w.source ps at to
 unfolding flatten
 single w ps at to a = record {
-  piece = functionBytes false ps;
+  piece = function_bytes false ps;
   stack = λ later. rw (a.is, a.stack later, take_at a.pieces later a.head.protos.count a.count, drop_at a.pieces later a.head.protos.count a.count, a.stack [], append-nil);
   joins = λ later. refl;
-  short = short-made false w ps at to (λ f. absurd (true≢false (sym f))) a;
+  short = short_made false w ps at to (λ f. absurd (true≢false (sym f))) a;
 }
 
-pub main-short : (s : Bytes) → Below 256 s → (L : ResourceLimits) (left : ℕ) (w : Where) (at : ℕ) → w.source ≡ none → AtPlace s at (function L left w) (λ to ps. Short (functionBytes true ps) at to)
-main-short s bytes L left w at e = record { holds = λ {x} {to} f. short-made true w x at to (λ _. e) ((function-parts archive s bytes L single left w at).holds f) }
+pub main-short : (s : Bytes) → Below 256 s → (L : ResourceLimits) (left : ℕ) (w : Where) (at : ℕ) → w.source ≡ none → AtPlace s at (function L left w) (λ to ps. Short (function_bytes true ps) at to)
+main-short s bytes L left w at e = record { holds = λ {x} {to} f. short_made true w x at to (λ _. e) ((function-parts archive s bytes L single left w at).holds f) }

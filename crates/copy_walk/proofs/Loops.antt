@@ -1,7 +1,7 @@
 -- The loop of a copying walk over the nested functions: those passed so far, and their copy.
 --     Copied           the copy of functions one after the other stands at a place, whatever is nested behind them
 --     Copies           in the loop: those passed are read (read_walk's `SoFar.antt`), and copied if what is asked of the function holds
---     copies-none, copies-one, copies-all      before the first; behind one more; where none is left
+--     copies_none, copies_one, copies_all      before the first; behind one more; where none is left
 -- Assumes nothing.
 use mathlib.Core.Path.{◌≡◌, refl, sym, ◌∙◌, ap}
 use mathlib.Core.List.{List, [], ◌∷◌, ◌++◌, append_assoc, append-nil, foldr, foldr-append}
@@ -17,12 +17,12 @@ use Rattle.format.specs.Read.{ok}
 use Rattle.format.specs.ReadChunk.{function}
 use Rattle.read_walk.specs.declared.walk.Skimmed.{Skimmed}
 use Rattle.read_walk.specs.declared.walk.SkimResult.TheVariants as skim
-use Rattle.read_walk.specs.Inner.Skim.{entered, on, skimResult}
-use Rattle.read_walk.proofs.SoFar.{SoFar, starts, next-read, goes_on}
+use Rattle.read_walk.specs.Inner.Skim.{entered, on, skim_result}
+use Rattle.read_walk.proofs.SoFar.{SoFar, starts, next-read, goes_on_lem}
 use Rattle.copy_put.specs.Inner.Put.{Put}
-use Rattle.copy_put.proofs.Writes.{put-nothing, put_then}
+use Rattle.copy_put.proofs.Writes.{put_nothing, put_then}
 use Rattle.copy_parts.proofs.PutParts.{put_as}
-use Rattle.copy_walk.proofs.Nests.{Way, Single, Parts, function-single}
+use Rattle.copy_walk.proofs.Nests.{Way, Single, Parts, function_single}
 
 pub record Copied (way : Way) (source : Option LuaString) (ps : List Prototype) (at₀ : ℕ) (l₀ : Bytes) (at : ℕ) (l : Bytes) : Type 0 where
   pub bytes : Bytes
@@ -30,11 +30,11 @@ pub record Copied (way : Way) (source : Option LuaString) (ps : List Prototype) 
   pub put : Put bytes at₀ l₀ at l
 
 module _ {way : Way} {source : Option LuaString} where
-  none-copied : {at : ℕ} {l : Bytes} → Copied way source [] at l at l
-  none-copied = record { bytes = []; flat = λ later. refl; put = put-nothing }
+  none_copied : {at : ℕ} {l : Bytes} → Copied way source [] at l at l
+  none_copied = record { bytes = []; flat = λ later. refl; put = put_nothing }
 
-  one-copied : {ps qs : List Prototype} {at₀ at at' : ℕ} {l₀ l l' : Bytes} {from to : ℕ} → Copied way source ps at₀ l₀ at l → Single way source qs from to → Put (way.one source qs) at l at' l' → Copied way source (ps ++ qs) at₀ l₀ at' l'
-  one-copied {ps} {qs} a one p = record {
+  one_copied : {ps qs : List Prototype} {at₀ at at' : ℕ} {l₀ l l' : Bytes} {from to : ℕ} → Copied way source ps at₀ l₀ at l → Single way source qs from to → Put (way.one source qs) at l at' l' → Copied way source (ps ++ qs) at₀ l₀ at' l'
+  one_copied {ps} {qs} a one p = record {
     bytes = a.bytes ++ way.one source qs;
     flat = λ later.
         ap (way.all source) (foldr-append way.nest later ps qs ∙ ap (λ l. foldr way.nest l ps) (one.stack later))
@@ -44,29 +44,29 @@ module _ {way : Way} {source : Option LuaString} where
     put = put_then a.put p;
   }
 
-  all-copied : {ps : List Prototype} {at₀ at : ℕ} {l₀ l : Bytes} → Copied way source ps at₀ l₀ at l → Put (way.all source (foldr way.nest [] ps)) at₀ l₀ at l
-  all-copied a = put_as (sym (a.flat [] ∙ ap (λ b. a.bytes ++ b) (way.nothing source) ∙ append-nil a.bytes)) a.put
+  all_copied : {ps : List Prototype} {at₀ at : ℕ} {l₀ l : Bytes} → Copied way source ps at₀ l₀ at l → Put (way.all source (foldr way.nest [] ps)) at₀ l₀ at l
+  all_copied a = put_as (sym (a.flat [] ∙ ap (λ b. a.bytes ++ b) (way.nothing source) ∙ append-nil a.bytes)) a.put
 
 pub record Copies (way : Way) (If : Type 0) (s : Bytes) (L : ResourceLimits) (left : ℕ) (w : Where) (n from : ℕ) (at₀ : ℕ) (l₀ : Bytes) (k : Skimmed) (more at : ℕ) (l : Bytes) : Type 0 where
   pub passed : List Prototype
   pub so_far : SoFar (entered L left) s w n from k more passed
   pub copied : If → Copied way w.source passed at₀ l₀ at l
 
-pub copies-none : (way : Way) (If : Type 0) (s : Bytes) (L : ResourceLimits) (left : ℕ) (w : Where) (n : ℕ) (k : Skimmed) (at : ℕ) (l : Bytes) → k.number ≡ w.number → k.instructions ≡ w.instructions → Copies way If s L left w n k.next.at at l k n at l
-copies-none way If s L left w n k at l e i = record { passed = []; so_far = starts (entered L left) s w n k e i; copied = λ _. none-copied }
+pub copies_none : (way : Way) (If : Type 0) (s : Bytes) (L : ResourceLimits) (left : ℕ) (w : Where) (n : ℕ) (k : Skimmed) (at : ℕ) (l : Bytes) → k.number ≡ w.number → k.instructions ≡ w.instructions → Copies way If s L left w n k.next.at at l k n at l
+copies_none way If s L left w n k at l e i = record { passed = []; so_far = starts (entered L left) s w n k e i; copied = λ _. none_copied }
 
 module _ {way : Way} {If : Type 0} {s : Bytes} (L : ResourceLimits) (left : ℕ) {w : Where} {n from at₀ : ℕ} {l₀ : Bytes} {k : Skimmed} {more at : ℕ} {l : Bytes} (a : Copies way If s L left w n from at₀ l₀ k more at l) where
-  pub copies-all : If → Put (way.all w.source (foldr way.nest [] a.passed)) at₀ l₀ at l
-  copies-all holds = all-copied (a.copied holds)
+  pub copies_all : If → Put (way.all w.source (foldr way.nest [] a.passed)) at₀ l₀ at l
+  copies_all holds = all_copied (a.copied holds)
 
   module _ (made : (w : Where) (ps : List Prototype) (at to : ℕ) → Parts way w ps at to → Single way w.source ps at to) (bytes : If → Below 256 s) (some : 0 < more) (level : 0 < left) (few : k.number ≤ L.max_total_prototypes)
-      (later : Skimmed) (e : skim.Ok later ≡ skimResult (on w k) (function L (left - 1) (on w k) k.next.at (drop k.next.at s))) where
-    pub copies-one : {at' : ℕ} {l' : Bytes} → (If → (ps : List Prototype) (to : ℕ) (rest : Bytes) → function L (left - 1) (on w k) k.next.at (drop k.next.at s) ≡ ok ps to rest → Put (way.one w.source ps) at l at' l')
+      (later : Skimmed) (e : skim.Ok later ≡ skim_result (on w k) (function L (left - 1) (on w k) k.next.at (drop k.next.at s))) where
+    pub copies_one : {at' : ℕ} {l' : Bytes} → (If → (ps : List Prototype) (to : ℕ) (rest : Bytes) → function L (left - 1) (on w k) k.next.at (drop k.next.at s) ≡ ok ps to rest → Put (way.one w.source ps) at l at' l')
         → Copies way If s L left w n from at₀ l₀ later (more - 1) at' l'
-    copies-one its =
+    copies_one its =
         let one = next-read L left a.so_far some level few later e in
         record {
           passed = a.passed ++ one.value;
-          so_far = goes_on L left a.so_far some level few later e;
-          copied = λ holds. one-copied (a.copied holds) ((function-single way s (bytes holds) L made (left - 1) (on w k) k.next.at).holds one.is) (its holds one.value later.next.at _ one.is);
+          so_far = goes_on_lem L left a.so_far some level few later e;
+          copied = λ holds. one_copied (a.copied holds) ((function_single way s (bytes holds) L made (left - 1) (on w k) k.next.at).holds one.is) (its holds one.value later.next.at _ one.is);
         }

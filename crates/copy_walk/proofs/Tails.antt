@@ -20,13 +20,13 @@ tail-inside at n from e = by (leb at n) refl
     by true h = let k = leb-true at n h in let f : from ≡ at = e ∙ rw h in omega arith
     by false h = let f : from ≡ n = e ∙ rw h in omega arith
 
-pub part-kept : (at from : ℕ) (l z : Bytes) → from ≡ cond (leb at (length l)) at (length l) → length z ≡ length (take (length l - from) (drop from l)) → length (put_mid from (length l - from) l z) ≡ length l
-part-kept at from l z begins e = put-length from l z (tail-inside at (length l) from begins) (e ∙ part_length from l)
+pub part_kept : (at from : ℕ) (l z : Bytes) → from ≡ cond (leb at (length l)) at (length l) → length z ≡ length (take (length l - from) (drop from l)) → length (put_mid from (length l - from) l z) ≡ length l
+part_kept at from l z begins e = put-length from l z (tail-inside at (length l) from begins) (e ∙ part_length from l)
 
-pub put-part : (b : Bytes) (at from : ℕ) (l : Bytes) (len after : ℕ) (z : Bytes) → from ≡ cond (leb at (length l)) at (length l) → Put b 0 (take (length l - from) (drop from l)) len z → (at + len ≤ 4294967296 → after ≡ at + len)
+pub put_part : (b : Bytes) (at from : ℕ) (l : Bytes) (len after : ℕ) (z : Bytes) → from ≡ cond (leb at (length l)) at (length l) → Put b 0 (take (length l - from) (drop from l)) len z → (at + len ≤ 4294967296 → after ≡ at + len)
     → Put b at l after (put_mid from (length l - from) l z)
-put-part b at from l len after z begins p sum = record {
-  long = part-kept at from l z begins p.long;
+put_part b at from l len after z begins p sum = record {
+  long = part_kept at from l z begins p.long;
   reach = λ small. let e = p.reach (omega arith) in sum (omega arith) ∙ omega arith;
   wrote = λ small fits.
       let here : from ≡ at = begins ∙ rw (le-leb at (length l) (omega arith)) in

@@ -5,8 +5,8 @@ ghost use Rattle.format.specs.Limits.{MOST, Walkable};
 ghost use Rattle.format.specs.Form.{Below};
 ghost use Rattle.format.specs.GrammarChunk as grammar;
 ghost use Rattle.format.specs.ReadChunk.{function};
-ghost use Rattle.read_walk.specs.Inner.Skim.{skimResult};
-ghost use Rattle.copy_parts.specs.Inner.Parts.{functionBytes};
+ghost use Rattle.read_walk.specs.Inner.Skim.{skim_result};
+ghost use Rattle.copy_parts.specs.Inner.Parts.{function_bytes};
 ghost use Rattle.copy_walk.specs.Inner.Walk.{PutsFunction};
 
 use copy_parts::ends::{Copied, copy_end, stopped};
@@ -34,8 +34,8 @@ pub fn copy_function(
     out: &mut [u8],
 ) -> Copied
     requires { Walkable limits × (from.number ≤ MOST) }
-    ensures walk_value { (w : grammar.Where) → from.number ≡ w.number → from.instructions ≡ w.instructions → result.walk ≡ skimResult w (function limits left w from.next.at (drop from.next.at s.now)) }
-    ensures puts_function { (w : grammar.Where) → from.number ≡ w.number → from.instructions ≡ w.instructions → (named ≡ true → w.source ≡ none) → Below 256 s.now → PutsFunction (functionBytes named) (function limits left w from.next.at (drop from.next.at s.now)) out.old result.upvalues result.len out.new }
+    ensures walk_value { (w : grammar.Where) → from.number ≡ w.number → from.instructions ≡ w.instructions → result.walk ≡ skim_result w (function limits left w from.next.at (drop from.next.at s.now)) }
+    ensures puts_function { (w : grammar.Where) → from.number ≡ w.number → from.instructions ≡ w.instructions → (named ≡ true → w.source ≡ none) → Below 256 s.now → PutsFunction (function_bytes named) (function limits left w from.next.at (drop from.next.at s.now)) out.old result.upvalues result.len out.new }
 {
     let begun = copy_head(s, limits, named, from.instructions, from.next, out);
     let begins = begun.begins;

@@ -19,71 +19,71 @@ use Rattle.read_field.specs.declared.string.OptionString.{OptionString}
 use Rattle.read_field.specs.declared.string.OptionString.TheVariants as option
 use Rattle.read_entry.specs.declared.constant.ConstantValue.{ConstantValue}
 use Rattle.read_entry.specs.declared.constant.ConstantValue.TheVariants as constant
-use Rattle.show_row.specs.Asked.{functionOf, entry_of}
+use Rattle.show_row.specs.Asked.{function_of, entry_of}
 use Rattle.show_chunk.specs.declared.summary.SummaryAnswer.{SummaryAnswer}
 use Rattle.show_chunk.specs.declared.summary.SummaryAnswer.TheVariants as summary-answer
 use Rattle.show_chunk.specs.declared.fields.FieldsAnswer.{FieldsAnswer}
 use Rattle.show_chunk.specs.declared.fields.FieldsAnswer.TheVariants as fields-answer
-use Rattle.show_chunk.specs.Summaries.{shownSummary, trailingOf}
-use Rattle.show_chunk.specs.Fields.{shownFields}
+use Rattle.show_chunk.specs.Summaries.{shown_summary, trailing_of}
+use Rattle.show_chunk.specs.Fields.{shown_fields}
 use Rattle.show_entry.specs.declared.ConstantAnswer.{ConstantAnswer}
 use Rattle.show_entry.specs.declared.ConstantAnswer.TheVariants as constant-answer
 use Rattle.show_entry.specs.declared.NameAnswer.{NameAnswer}
 use Rattle.show_entry.specs.declared.NameAnswer.TheVariants as name-answer
-use Rattle.show_entry.specs.Entries.{shownWord, shownConstant, shownUpvalue, shownDelta, shownAnchor, shownName}
-use Rattle.show_local.specs.Locals.{shownLocal, nameWritten}
-use Rattle.index.specs.Index.{shownIndex, indexWritten}
+use Rattle.show_entry.specs.Entries.{shown_word, shown_constant, shown_upvalue, shown_delta, shown_anchor, shown_name}
+use Rattle.show_local.specs.Locals.{shown_local, name_written}
+use Rattle.index.specs.Index.{shown_index, index_written}
 use Rattle.demands.proofs.Same.{Pairwise, SameLocal}
 
 -- ## What `string_bytes` shows by the place and length in an answer; of an answer without a string nothing
-abbrev pub stringShown : Bytes → StringAt → Bytes
-stringShown s a = take a.len (drop a.place s)
+abbrev pub string_shown : Bytes → StringAt → Bytes
+string_shown s a = take a.len (drop a.place s)
 
-abbrev pub optionShown : Bytes → OptionString → Bytes
-optionShown s (option.Some a) = stringShown s a
-optionShown s option.None = []
+abbrev pub option_shown : Bytes → OptionString → Bytes
+option_shown s (option.Some a) = string_shown s a
+option_shown s option.None = []
 
-abbrev pub valueShown : Bytes → ConstantValue → Bytes
-valueShown s constant.Nil = []
-valueShown s (constant.Boolean b) = []
-valueShown s (constant.Integer z) = []
-valueShown s (constant.Float n) = []
-valueShown s (constant.ShortString a) = stringShown s a
-valueShown s (constant.LongString a) = stringShown s a
+abbrev pub value_shown : Bytes → ConstantValue → Bytes
+value_shown s constant.Nil = []
+value_shown s (constant.Boolean b) = []
+value_shown s (constant.Integer z) = []
+value_shown s (constant.Float n) = []
+value_shown s (constant.ShortString a) = string_shown s a
+value_shown s (constant.LongString a) = string_shown s a
 
-abbrev pub sourceShown : Bytes → FieldsAnswer → Bytes
-sourceShown s (fields-answer.Ok f) = optionShown s f.source_name
-sourceShown s (fields-answer.Err q) = []
+abbrev pub source_shown : Bytes → FieldsAnswer → Bytes
+source_shown s (fields-answer.Ok f) = option_shown s f.source_name
+source_shown s (fields-answer.Err q) = []
 
-abbrev pub constantShown : Bytes → ConstantAnswer → Bytes
-constantShown s (constant-answer.Ok v) = valueShown s v
-constantShown s (constant-answer.Err q) = []
+abbrev pub constant_shown : Bytes → ConstantAnswer → Bytes
+constant_shown s (constant-answer.Ok v) = value_shown s v
+constant_shown s (constant-answer.Err q) = []
 
-abbrev pub nameShown : Bytes → NameAnswer → Bytes
-nameShown s (name-answer.Ok t) = optionShown s t
-nameShown s (name-answer.Err q) = []
+abbrev pub name_shown : Bytes → NameAnswer → Bytes
+name_shown s (name-answer.Ok t) = option_shown s t
+name_shown s (name-answer.Err q) = []
 
 -- ## A summary without the number of padded numbers: it is no part of the reading (02, item 1), and two chunks of one reading may differ in it (`Request01.antt`)
-abbrev pub withoutCount : SummaryAnswer → SummaryAnswer
-withoutCount (summary-answer.Ok y) = summary-answer.Ok (record { summary = y.summary; padded_numbers = 0 })
-withoutCount (summary-answer.Err q) = summary-answer.Err q
+abbrev pub without_count : SummaryAnswer → SummaryAnswer
+without_count (summary-answer.Ok y) = summary-answer.Ok (record { summary = y.summary; padded_numbers = 0 })
+without_count (summary-answer.Err q) = summary-answer.Err q
 
 -- ## The calls answer alike
 pub record AnswerAlike (L : ResourceLimits) (s : Bytes) (M : ResourceLimits) (t : Bytes) : Type 0 where
-  pub summary : withoutCount (shownSummary (spelling L s) (read L s)) ≡ withoutCount (shownSummary (spelling M t) (read M t))
-  pub trailing : trailingOf (read L s) ≡ trailingOf (read M t)
-  pub fields : (f : ℕ) → shownFields (functionOf f (read L s)) ≡ shownFields (functionOf f (read M t))
-  pub source-bytes : (f : ℕ) → sourceShown s (shownFields (functionOf f (read L s))) ≡ sourceShown t (shownFields (functionOf f (read M t)))
-  pub instruction : (f i : ℕ) → shownWord (entry_of (λ p. p.instructions) f i (read L s)) ≡ shownWord (entry_of (λ p. p.instructions) f i (read M t))
-  pub constant : (f i : ℕ) → shownConstant (entry_of (λ p. p.constants) f i (read L s)) ≡ shownConstant (entry_of (λ p. p.constants) f i (read M t))
-  pub constant-bytes : (f i : ℕ) → constantShown s (shownConstant (entry_of (λ p. p.constants) f i (read L s))) ≡ constantShown t (shownConstant (entry_of (λ p. p.constants) f i (read M t)))
-  pub upvalue : (f i : ℕ) → shownUpvalue (entry_of (λ p. p.upvalues) f i (read L s)) ≡ shownUpvalue (entry_of (λ p. p.upvalues) f i (read M t))
-  pub delta : (f i : ℕ) → shownDelta (entry_of (λ p. p.line-info) f i (read L s)) ≡ shownDelta (entry_of (λ p. p.line-info) f i (read M t))
-  pub anchor : (f i : ℕ) → shownAnchor (entry_of (λ p. p.abs-line-info) f i (read L s)) ≡ shownAnchor (entry_of (λ p. p.abs-line-info) f i (read M t))
-  pub upvalue-name : (f i : ℕ) → shownName (entry_of (λ p. p.upvalue-names) f i (read L s)) ≡ shownName (entry_of (λ p. p.upvalue-names) f i (read M t))
-  pub upvalue-name-bytes : (f i : ℕ) → nameShown s (shownName (entry_of (λ p. p.upvalue-names) f i (read L s))) ≡ nameShown t (shownName (entry_of (λ p. p.upvalue-names) f i (read M t)))
-  pub local : (f i : ℕ) (old : Bytes) → shownLocal (length old) (entry_of (λ p. p.loc-vars) f i (read L s)) ≡ shownLocal (length old) (entry_of (λ p. p.loc-vars) f i (read M t))
-  pub local-name : (f i : ℕ) (old : Bytes) → nameWritten old (entry_of (λ p. p.loc-vars) f i (read L s)) ≡ nameWritten old (entry_of (λ p. p.loc-vars) f i (read M t))
+  pub summary : without_count (shown_summary (spelling L s) (read L s)) ≡ without_count (shown_summary (spelling M t) (read M t))
+  pub trailing : trailing_of (read L s) ≡ trailing_of (read M t)
+  pub fields : (f : ℕ) → shown_fields (function_of f (read L s)) ≡ shown_fields (function_of f (read M t))
+  pub source-bytes : (f : ℕ) → source_shown s (shown_fields (function_of f (read L s))) ≡ source_shown t (shown_fields (function_of f (read M t)))
+  pub instruction : (f i : ℕ) → shown_word (entry_of (λ p. p.instructions) f i (read L s)) ≡ shown_word (entry_of (λ p. p.instructions) f i (read M t))
+  pub constant : (f i : ℕ) → shown_constant (entry_of (λ p. p.constants) f i (read L s)) ≡ shown_constant (entry_of (λ p. p.constants) f i (read M t))
+  pub constant-bytes : (f i : ℕ) → constant_shown s (shown_constant (entry_of (λ p. p.constants) f i (read L s))) ≡ constant_shown t (shown_constant (entry_of (λ p. p.constants) f i (read M t)))
+  pub upvalue : (f i : ℕ) → shown_upvalue (entry_of (λ p. p.upvalues) f i (read L s)) ≡ shown_upvalue (entry_of (λ p. p.upvalues) f i (read M t))
+  pub delta : (f i : ℕ) → shown_delta (entry_of (λ p. p.line_info_lem) f i (read L s)) ≡ shown_delta (entry_of (λ p. p.line_info_lem) f i (read M t))
+  pub anchor : (f i : ℕ) → shown_anchor (entry_of (λ p. p.abs_line_info) f i (read L s)) ≡ shown_anchor (entry_of (λ p. p.abs_line_info) f i (read M t))
+  pub upvalue-name : (f i : ℕ) → shown_name (entry_of (λ p. p.upvalue_names_lem) f i (read L s)) ≡ shown_name (entry_of (λ p. p.upvalue_names_lem) f i (read M t))
+  pub upvalue-name-bytes : (f i : ℕ) → name_shown s (shown_name (entry_of (λ p. p.upvalue_names_lem) f i (read L s))) ≡ name_shown t (shown_name (entry_of (λ p. p.upvalue_names_lem) f i (read M t)))
+  pub local : (f i : ℕ) (old : Bytes) → shown_local (length old) (entry_of (λ p. p.loc_vars) f i (read L s)) ≡ shown_local (length old) (entry_of (λ p. p.loc_vars) f i (read M t))
+  pub local-name : (f i : ℕ) (old : Bytes) → name_written old (entry_of (λ p. p.loc_vars) f i (read L s)) ≡ name_written old (entry_of (λ p. p.loc_vars) f i (read M t))
 
 -- ## The readings are equal but for what these calls do not show
 pub record EqualFunction (p q : Prototype) : Type 0 where
@@ -91,18 +91,18 @@ pub record EqualFunction (p q : Prototype) : Type 0 where
   pub parent : p.parent ≡ q.parent
   pub source_name : p.source_name ≡ q.source_name
   pub line_defined : p.line_defined ≡ q.line_defined
-  pub last-line-defined : p.last-line-defined ≡ q.last-line-defined
+  pub last-line_defined : p.last-line_defined ≡ q.last-line_defined
   pub numparams : p.numparams ≡ q.numparams
-  pub is-vararg : p.is-vararg ≡ q.is-vararg
+  pub is_vararg : p.is_vararg ≡ q.is_vararg
   pub maxstacksize : p.maxstacksize ≡ q.maxstacksize
   pub instructions : p.instructions ≡ q.instructions
   pub constants : p.constants ≡ q.constants
   pub upvalues : p.upvalues ≡ q.upvalues
   pub protos : p.protos ≡ q.protos
-  pub line-info : p.line-info ≡ q.line-info
-  pub abs-line-info : p.abs-line-info ≡ q.abs-line-info
-  pub loc-vars : Pairwise SameLocal p.loc-vars q.loc-vars
-  pub upvalue-names : p.upvalue-names ≡ q.upvalue-names
+  pub line_info_lem : p.line_info_lem ≡ q.line_info_lem
+  pub abs_line_info : p.abs_line_info ≡ q.abs_line_info
+  pub loc_vars : Pairwise SameLocal p.loc_vars q.loc_vars
+  pub upvalue_names_lem : p.upvalue_names_lem ≡ q.upvalue_names_lem
 
 pub record EqualAsShown (r q : Reading) : Type 0 where
   pub header : r.header ≡ q.header
@@ -119,5 +119,5 @@ pub record SamePlaces (p q : Prototype) : Type 0 where
   pub constants-at : p.places.constants ≡ q.places.constants
 
 pub record IndexAlike (L : ResourceLimits) (s : Bytes) (M : ResourceLimits) (t : Bytes) : Type 0 where
-  pub answer : (old : List ℕ) → shownIndex (length old) (read L s) ≡ shownIndex (length old) (read M t)
-  pub rows : (old : List ℕ) → indexWritten old (read L s) ≡ indexWritten old (read M t)
+  pub answer : (old : List ℕ) → shown_index (length old) (read L s) ≡ shown_index (length old) (read M t)
+  pub rows : (old : List ℕ) → index_written old (read L s) ≡ index_written old (read M t)

@@ -1,7 +1,7 @@
 -- Wrong readers, which report limits against the order of the bytes; and that they are not in byte order (Order.antt).
 --     backwards        two lists, whose limits are tested when both are read, the second one first
 --     latest           two numbers, each tested as soon as it is read, as it should be; but where the first is above the limit a second one that is, too, is reported instead
---     not-backwards, not-the-latest
+--     not_backwards, not_the_latest
 -- (What `backwards` refuses it does not refuse at the front that ends with the cause, and what `latest` refuses there it does not refuse with any bytes behind: each part of `Decided` is wanted.)
 -- Assumes nothing.
 use mathlib.Core.Path.{◌≡◌, refl, ap}
@@ -37,8 +37,8 @@ backwards limit = do
 pub later_first : backwards 0 0 (0x81 ∷ 0 ∷ 0x81 ∷ 0 ∷ []) ≡ refused (Upvalues 2)
 later_first = refl
 
-pub not-backwards : (L : ResourceLimits) → InByteOrder L (backwards 0) → ⊥
-not-backwards L ordered = let d = ordered (0x81 ∷ 0 ∷ 0x81 ∷ 0 ∷ []) (Upvalues 2) refl in go d.front d.rest d.whole d.already d.ends
+pub not_backwards : (L : ResourceLimits) → InByteOrder L (backwards 0) → ⊥
+not_backwards L ordered = let d = ordered (0x81 ∷ 0 ∷ 0x81 ∷ 0 ∷ []) (Upvalues 2) refl in go d.front d.rest d.whole d.already d.ends
   where
     -- a shorter front is cut short
     cut : (front known : Bytes) (place : ℕ) → front ≡ known → backwards 0 0 known ≡ refused (Truncated place) → backwards 0 0 front ≡ refused (Upvalues 2) → ⊥
@@ -63,11 +63,11 @@ latest limit = do
   n ← number
   λ place s. second limit first n place (number place s)
 
-pub later-instead : (latest 0 0 (0x81 ∷ []) ≡ refused (Constants 0)) × (latest 0 0 (0x81 ∷ 0x81 ∷ []) ≡ refused (Upvalues 1))
-later-instead = (refl, refl)
+pub later_instead : (latest 0 0 (0x81 ∷ []) ≡ refused (Constants 0)) × (latest 0 0 (0x81 ∷ 0x81 ∷ []) ≡ refused (Upvalues 1))
+later_instead = (refl, refl)
 
-pub not-the-latest : (L : ResourceLimits) → InByteOrder L (latest 0) → ⊥
-not-the-latest L ordered = let d = ordered (0x81 ∷ []) (Constants 0) refl in go d.front d.rest d.whole d.already (d.whatever (omega arith) (0x81 ∷ []))
+pub not_the_latest : (L : ResourceLimits) → InByteOrder L (latest 0) → ⊥
+not_the_latest L ordered = let d = ordered (0x81 ∷ []) (Constants 0) refl in go d.front d.rest d.whole d.already (d.whatever (omega arith) (0x81 ∷ []))
   where
     go : (front rest : Bytes) → 0x81 ∷ [] ≡ front ++ rest → latest 0 0 front ≡ refused (Constants 0) → latest 0 0 (front ++ 0x81 ∷ []) ≡ refused (Constants 0) → ⊥
     go [] rest e s t = let z : ◌≡◌ {A = ℕ} 0 1 = cc in omega arith

@@ -2,12 +2,12 @@
 -- stays under all limits that are as high; one with 13 to 20 stays as long as the limit that its number names stays,
 -- however much the others are raised. So no reader that names another limit than the one that is passed is ours,
 -- though the count be above that one too. One law for each way to make a reader.
---     namedLimit n L   the limit that the number n names
+--     named_limit n L   the limit that the number n names
 --     Raised L M       each limit of M is at least L's
 --     Stays L M r r'   what r, under L, accepts, r', under M, accepts alike; what r refuses r' refuses alike, where
 --                      the limit that is named is the same in both
 --     blames           the reader of a chunk
---     not-misnamed     the wrong reader of Misnamed.antt, which passes the other laws, is not so
+--     not_misnamed     the wrong reader of Misnamed.antt, which passes the other laws, is not so
 -- Assumes nothing.
 use mathlib.Core.Path.{◌≡◌, refl, sym, ◌∙◌, ap, subst}
 use mathlib.Core.Bool.{Bool, true, false, cond}
@@ -27,14 +27,14 @@ use Rattle.format.specs.GrammarChunk.{inherit, Where, after, within}
 use Rattle.format.specs.Read.{Read, ok, refused, Reader, next, ◌>>=◌, ◌>>◌, give, here, refuse, test, at_most, run, many}
 use Rattle.format.specs.ReadFields.{field, number, content, string}
 use Rattle.format.specs.ReadHeader.{header}
-use Rattle.format.specs.ReadChunk.{counted, countedUpTo, always, constant, upvalue, anchor, local, forest, body, function, main}
+use Rattle.format.specs.ReadChunk.{counted, counted_up_to, always, constant, upvalue, anchor, local, forest, body, function, main}
 use Rattle.demands.proofs.Early.{never, was}
 use Rattle.demands.proofs.AtOneByte.{enter}
 use Rattle.demands.proofs.Misnamed.{misnamed, none}
 
 -- 18 and 20 name one limit
-abbrev pub namedLimit : ℕ → ResourceLimits → ℕ
-namedLimit n L =
+abbrev pub named_limit : ℕ → ResourceLimits → ℕ
+named_limit n L =
     cond (eqb n 13) L.max_string_bytes
     (cond (eqb n 14) L.max_instructions_per_proto
     (cond (eqb n 15) L.max_total_instructions
@@ -55,7 +55,7 @@ pub record Raised (L M : ResourceLimits) : Type 0 where
 -- the limit that is named, if one is, is the same
 abbrev pub SameNamed : ResourceLimits → ResourceLimits → Refusal → Type 0
 SameNamed L M p =
-    13 ≤ (reported p).number → (reported p).number ≤ 20 → namedLimit (reported p).number L ≡ namedLimit (reported p).number M
+    13 ≤ (reported p).number → (reported p).number ≤ 20 → named_limit (reported p).number L ≡ named_limit (reported p).number M
 
 pub record Stays {A : Type 0} (L M : ResourceLimits) (r r' : Reader A) : Type 0 where
   pub accepts : (at : ℕ) (s : Bytes) (x : A) (to : ℕ) (rest : Bytes) → r at s ≡ ok x to rest → r' at s ≡ ok x to rest
@@ -87,15 +87,15 @@ module _ (L M : ResourceLimits) where
           let h : p' ≡ p = was e in
           ap (λ o. next o f') (one.refuses at s p' is (subst (SameNamed L M) (sym h) k)) ∙ ap refused h
 
-  pub stays-pick : {A : Type 0} {r r' s s' : Reader A} (b : Bool) → Stays L M r r' → Stays L M s s'
+  pub stays_pick : {A : Type 0} {r r' s s' : Reader A} (b : Bool) → Stays L M r r' → Stays L M s s'
       → Stays L M (cond b r s) (cond b r' s')
-  stays-pick true one two = one
-  stays-pick false one two = two
+  stays_pick true one two = one
+  stays_pick false one two = two
 
   -- the limit is as high, and the same where the refusal names it
-  pub stays-atMost : (n m m' : ℕ) (p : Refusal) → m ≤ m' → (SameNamed L M p → m ≡ m')
+  pub stays_at_most : (n m m' : ℕ) (p : Refusal) → m ≤ m' → (SameNamed L M p → m ≡ m')
       → Stays L M (at_most n m p) (at_most n m' p)
-  stays-atMost n m m' p low held = record { accepts = λ at s x to rest e. on at s x to rest (leb n m) refl e; refuses = λ at s p' e k. off at s p' k (leb n m) refl e }
+  stays_at_most n m m' p low held = record { accepts = λ at s x to rest e. on at s x to rest (leb n m) refl e; refuses = λ at s p' e k. off at s p' k (leb n m) refl e }
     where
       on : (at : ℕ) (s : Bytes) (x : Unit {0}) (to : ℕ) (rest : Bytes) (b : Bool) → leb n m ≡ b
           → test b p at s ≡ ok x to rest → at_most n m' p at s ≡ ok x to rest
@@ -110,82 +110,82 @@ module _ (L M : ResourceLimits) where
           let limit : m ≡ m' = held (subst (SameNamed L M) (sym h) k) in
           ap (λ l. test (leb n l) p at s) (sym limit) ∙ ap (λ b. test b p at s) t ∙ e
 
-  pub stays-many : {A : Type 0} {r r' : Reader A} (n : ℕ) → Stays L M r r' → Stays L M (many n r) (many n r')
-  stays-many zero one = same (give [])
-  stays-many (suc n) one = stays_then one λ x. stays_then (stays-many n one) λ xs. same (give (x ∷ xs))
+  pub stays_many : {A : Type 0} {r r' : Reader A} (n : ℕ) → Stays L M r r' → Stays L M (many n r) (many n r')
+  stays_many zero one = same (give [])
+  stays_many (suc n) one = stays_then one λ x. stays_then (stays_many n one) λ xs. same (give (x ∷ xs))
 
   module _ (wide : Raised L M) where
     -- ## Strings, lists and entries
-    pub stays-string : Stays L M (string L.max_string_bytes) (string M.max_string_bytes)
-    stays-string = stays_here λ first. stays_then (same number) λ size. by first size
+    pub stays_string : Stays L M (string L.max_string_bytes) (string M.max_string_bytes)
+    stays_string = stays_here λ first. stays_then (same number) λ size. by first size
       where
         by : (first size : ℕ) → Stays L M (content L.max_string_bytes first size) (content M.max_string_bytes first size)
         by first zero = same (give _)
-        by first (suc n) = stays_then (stays-atMost n L.max_string_bytes M.max_string_bytes (q.StringBytes first) wide.strings (λ k. k (omega arith) (omega arith))) λ _. stays_here λ place. stays_then (same (run n)) λ bytes. same (give _)
+        by first (suc n) = stays_then (stays_at_most n L.max_string_bytes M.max_string_bytes (q.StringBytes first) wide.strings (λ k. k (omega arith) (omega arith))) λ _. stays_here λ place. stays_then (same (run n)) λ bytes. same (give _)
 
-    pub stays-always : (instead : Bytes) → Stays L M (always L.max_string_bytes instead) (always M.max_string_bytes instead)
-    stays-always instead = stays_then stays-string λ t. stays_here λ place. same (give _)
+    pub stays_always : (instead : Bytes) → Stays L M (always L.max_string_bytes instead) (always M.max_string_bytes instead)
+    stays_always instead = stays_then stays_string λ t. stays_here λ place. same (give _)
 
-    stays-constant : Stays L M (constant L.max_string_bytes) (constant M.max_string_bytes)
-    stays-constant = stays_here λ place. stays_then (same (field 1)) λ tag.
-        stays-pick (eqb tag 0) (same (give _))
-        (stays-pick (eqb tag 1) (same (give _))
-        (stays-pick (eqb tag 17) (same (give _))
-        (stays-pick (eqb tag 3) (stays_then (same (field 8)) λ n. same (give _))
-        (stays-pick (eqb tag 19) (stays_then (same (field 8)) λ n. same (give _))
-        (stays-pick (eqb tag 4) (stays_then (stays-always []) λ t. same (give _))
-        (stays-pick (eqb tag 20) (stays_then (stays-always []) λ t. same (give _)) (same (refuse (q.ConstantTag place)))))))))
+    stays_constant : Stays L M (constant L.max_string_bytes) (constant M.max_string_bytes)
+    stays_constant = stays_here λ place. stays_then (same (field 1)) λ tag.
+        stays_pick (eqb tag 0) (same (give _))
+        (stays_pick (eqb tag 1) (same (give _))
+        (stays_pick (eqb tag 17) (same (give _))
+        (stays_pick (eqb tag 3) (stays_then (same (field 8)) λ n. same (give _))
+        (stays_pick (eqb tag 19) (stays_then (same (field 8)) λ n. same (give _))
+        (stays_pick (eqb tag 4) (stays_then (stays_always []) λ t. same (give _))
+        (stays_pick (eqb tag 20) (stays_then (stays_always []) λ t. same (give _)) (same (refuse (q.ConstantTag place)))))))))
 
-    pub stays-local : Stays L M (local L.max_string_bytes) (local M.max_string_bytes)
-    stays-local =
-        stays_then (stays-always (63 ∷ [])) λ name. stays_then (same number) λ startpc. stays_then (same number) λ endpc. same (give _)
+    pub stays_local : Stays L M (local L.max_string_bytes) (local M.max_string_bytes)
+    stays_local =
+        stays_then (stays_always (63 ∷ [])) λ name. stays_then (same number) λ startpc. stays_then (same number) λ endpc. same (give _)
 
-    stays-counted : {A : Type 0} {r r' : Reader A} → Stays L M r r' → Stays L M (counted r) (counted r')
-    stays-counted one =
-        stays_then (same number) λ n. stays_here λ place. stays_then (stays-many n one) λ items. same (give _)
+    stays_counted : {A : Type 0} {r r' : Reader A} → Stays L M r r' → Stays L M (counted r) (counted r')
+    stays_counted one =
+        stays_then (same number) λ n. stays_here λ place. stays_then (stays_many n one) λ items. same (give _)
 
-    stays-countedUpTo : {A : Type 0} {r r' : Reader A} (m m' : ℕ) (over : ℕ → Refusal) → m ≤ m'
+    stays_counted_up_to : {A : Type 0} {r r' : Reader A} (m m' : ℕ) (over : ℕ → Refusal) → m ≤ m'
         → ((first : ℕ) → SameNamed L M (over first) → m ≡ m') → Stays L M r r'
-        → Stays L M (countedUpTo m over r) (countedUpTo m' over r')
-    stays-countedUpTo m m' over low held one = stays_here λ first. stays_then (same number) λ n. stays_then (stays-atMost n m m' (over first) low (held first)) λ _. stays_here λ place. stays_then (stays-many n one) λ items. same (give _)
+        → Stays L M (counted_up_to m over r) (counted_up_to m' over r')
+    stays_counted_up_to m m' over low held one = stays_here λ first. stays_then (same number) λ n. stays_then (stays_at_most n m m' (over first) low (held first)) λ _. stays_here λ place. stays_then (stays_many n one) λ items. same (give _)
 
     -- ## Functions
-    pub stays-forest : (n : ℕ) {r r' : Where → Reader (List Prototype)} (w : Where)
+    pub stays_forest : (n : ℕ) {r r' : Where → Reader (List Prototype)} (w : Where)
         → ((w : Where) → Stays L M (r w) (r' w)) → Stays L M (forest n r w) (forest n r' w)
-    stays-forest zero w one = same (give [])
-    stays-forest (suc n) w one =
-        stays_then (one w) λ ps. stays_then (stays-forest n (after ps w) one) λ more. same (give (ps ++ more))
+    stays_forest zero w one = same (give [])
+    stays_forest (suc n) w one =
+        stays_then (one w) λ ps. stays_then (stays_forest n (after ps w) one) λ more. same (give (ps ++ more))
 
-    stays-body : {r r' : Where → Reader (List Prototype)} → ((w : Where) → Stays L M (r w) (r' w)) → (w : Where)
+    stays_body : {r r' : Where → Reader (List Prototype)} → ((w : Where) → Stays L M (r w) (r' w)) → (w : Where)
         → Stays L M (body L r w) (body M r' w)
     unfolding body
-    stays-body one w =
+    stays_body one w =
         stays_here λ start.
-        stays_then stays-string λ spelt.
+        stays_then stays_string λ spelt.
         stays_then (same number) λ line_defined.
-        stays_then (same number) λ last-line-defined.
+        stays_then (same number) λ last-line_defined.
         stays_then (same (field 1)) λ numparams.
-        stays_then (same (field 1)) λ is-vararg.
+        stays_then (same (field 1)) λ is_vararg.
         stays_then (same (field 1)) λ maxstacksize.
         stays_here λ first.
         stays_then (same number) λ size.
-        stays_then (stays-atMost size L.max_instructions_per_proto M.max_instructions_per_proto (q.Instructions first) wide.instructions (λ k. k (omega arith) (omega arith))) λ _.
-        stays_then (stays-atMost (w.instructions + size) L.max_total_instructions M.max_total_instructions (q.TotalInstructions first) wide.all-instructions (λ k. k (omega arith) (omega arith))) λ _.
+        stays_then (stays_at_most size L.max_instructions_per_proto M.max_instructions_per_proto (q.Instructions first) wide.instructions (λ k. k (omega arith) (omega arith))) λ _.
+        stays_then (stays_at_most (w.instructions + size) L.max_total_instructions M.max_total_instructions (q.TotalInstructions first) wide.all-instructions (λ k. k (omega arith) (omega arith))) λ _.
         stays_here λ instructions-at.
         stays_then (same (many size (field 4))) λ instructions.
-        stays_then (stays-countedUpTo L.max_constants_per_proto M.max_constants_per_proto q.Constants wide.constants (λ first k. k (omega arith) (omega arith)) stays-constant) λ constants.
-        stays_then (stays-countedUpTo L.max_upvalues_per_proto M.max_upvalues_per_proto q.Upvalues wide.upvalues (λ first k. k (omega arith) (omega arith)) (same upvalue)) λ upvalues.
+        stays_then (stays_counted_up_to L.max_constants_per_proto M.max_constants_per_proto q.Constants wide.constants (λ first k. k (omega arith) (omega arith)) stays_constant) λ constants.
+        stays_then (stays_counted_up_to L.max_upvalues_per_proto M.max_upvalues_per_proto q.Upvalues wide.upvalues (λ first k. k (omega arith) (omega arith)) (same upvalue)) λ upvalues.
         stays_here λ first.
         stays_then (same number) λ protos.
-        stays_then (stays-atMost protos L.max_total_prototypes M.max_total_prototypes (q.Prototypes first) wide.functions (λ k. k (omega arith) (omega arith))) λ _.
+        stays_then (stays_at_most protos L.max_total_prototypes M.max_total_prototypes (q.Prototypes first) wide.functions (λ k. k (omega arith) (omega arith))) λ _.
         stays_here λ protos-at.
-        stays_then (stays-forest protos (within w (inherit spelt w.source) (length instructions)) one) λ nested.
+        stays_then (stays_forest protos (within w (inherit spelt w.source) (length instructions)) one) λ nested.
         stays_then (same number) λ line-info-size.
         stays_here λ line-info-at.
-        stays_then (same (run line-info-size)) λ line-info.
-        stays_then (same (counted anchor)) λ abs-line-info.
-        stays_then (stays-counted stays-local) λ loc-vars.
-        stays_then (stays-counted stays-string) λ upvalue-names.
+        stays_then (same (run line-info-size)) λ line_info_lem.
+        stays_then (same (counted anchor)) λ abs_line_info.
+        stays_then (stays_counted stays_local) λ loc_vars.
+        stays_then (stays_counted stays_string) λ upvalue_names_lem.
         stays_here λ end.
         same (give _)
 
@@ -202,23 +202,23 @@ module _ (L M : ResourceLimits) where
         → Stays L M (enter L (suc left) w) (enter M (suc left') w)
     entered left left' w one =
         stays_here λ place.
-        stays_then (stays-atMost w.number L.max_total_prototypes M.max_total_prototypes (q.TotalPrototypes place) wide.functions (λ k. k (omega arith) (omega arith))) λ _.
+        stays_then (stays_at_most w.number L.max_total_prototypes M.max_total_prototypes (q.TotalPrototypes place) wide.functions (λ k. k (omega arith) (omega arith))) λ _.
         one
 
-    stays-function : (left left' : ℕ) (w : Where) → left ≤ left'
+    stays_function : (left left' : ℕ) (w : Where) → left ≤ left'
         → (L.max_nesting_depth ≡ M.max_nesting_depth → left ≡ left')
         → Stays L M (function L left w) (function M left' w)
     unfolding function
-    stays-function zero zero w low held =
-        stays-body {r = enter L zero} {r' = enter M zero} (λ w. same (enter L zero w)) w
-    stays-function zero (suc left') w low held =
-        stays-body {r = enter L zero} {r' = enter M (suc left')} (λ w. deeper left' w (λ e. let h = held e in omega arith)) w
-    stays-function (suc left) zero w low held = absurd (omega arith)
-    stays-function (suc left) (suc left') w low held = stays-body {r = enter L (suc left)} {r' = enter M (suc left')} (λ w. entered left left' w (stays-function left left' w (omega arith) (λ e. let h = held e in omega arith))) w
+    stays_function zero zero w low held =
+        stays_body {r = enter L zero} {r' = enter M zero} (λ w. same (enter L zero w)) w
+    stays_function zero (suc left') w low held =
+        stays_body {r = enter L zero} {r' = enter M (suc left')} (λ w. deeper left' w (λ e. let h = held e in omega arith)) w
+    stays_function (suc left) zero w low held = absurd (omega arith)
+    stays_function (suc left) (suc left') w low held = stays_body {r = enter L (suc left)} {r' = enter M (suc left')} (λ w. entered left left' w (stays_function left left' w (omega arith) (λ e. let h = held e in omega arith))) w
 
     -- ## Chunks
     pub blames : Stays L M (main L) (main M)
-    blames = stays_then (same header) λ headed. stays_then (same (field 1)) λ forgotten. stays_then (stays-function L.max_nesting_depth M.max_nesting_depth _ wide.nesting (λ e. e)) λ functions. same (give _)
+    blames = stays_then (same header) λ headed. stays_then (same (field 1)) λ forgotten. stays_then (stays_function L.max_nesting_depth M.max_nesting_depth _ wide.nesting (λ e. e)) λ functions. same (give _)
 
 -- ## The wrong reader
 -- the limit of upvalues is raised, that of instructions, which it names, is not
@@ -235,5 +235,5 @@ more = record {
   max_diagnostics = 9;
 }
 
-pub not-misnamed : Stays none more (misnamed none) (misnamed more) → ⊥
-not-misnamed stays = let e : ◌≡◌ {A = Read ℕ} (ok 1 1 []) (refused (q.Instructions 0)) = stays.refuses 0 (0x81 ∷ []) (q.Instructions 0) refl (λ h h'. refl) in let z : ◌≡◌ {A = ℕ} 0 1 = cc in omega arith
+pub not_misnamed : Stays none more (misnamed none) (misnamed more) → ⊥
+not_misnamed stays = let e : ◌≡◌ {A = Read ℕ} (ok 1 1 []) (refused (q.Instructions 0)) = stays.refuses 0 (0x81 ∷ []) (q.Instructions 0) refl (λ h h'. refl) in let z : ◌≡◌ {A = ℕ} 0 1 = cc in omega arith

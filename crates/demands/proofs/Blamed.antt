@@ -9,7 +9,7 @@
 --                      and that under these is mild
 --         mended       what is refused with 4 to 12 (31 to 33) is refused for the bytes that begin at its place: with
 --                      the right ones there (Mends.antt, `right`) the file up to their end is mild
---     read_named, strict-named     both readings are so
+--     read_named, strict_named     both readings are so
 -- Limits are here within their ceilings; the laws of the readers have no ceilings, and so say more of counts that are
 -- above these. What all of them leave open is told in docs/PROOF.md, 'Outside the proof'.
 -- Assumes nothing.
@@ -23,20 +23,20 @@ use lib.ListN.{length, length-append}
 use Rattle.format.specs.declared.limits.ResourceLimits.{ResourceLimits}
 use Rattle.format.specs.declared.refusal.Refusal.{Refusal}
 use Rattle.format.specs.Form.{Bytes}
-use Rattle.format.specs.Limits.{withinCeilings}
+use Rattle.format.specs.Limits.{within_ceilings}
 use Rattle.format.specs.Refusals.{reported}
 use Rattle.format.specs.GrammarChunk.{Loaded}
 use Rattle.format.specs.Read.{Read, ok, refused, Reader}
 use Rattle.format.specs.ReadChunk.{Outcome, shown, refusal, outcome, main, read}
-use Rattle.format_strict.specs.ReadStrict.{strictMain, strictRead}
-use Rattle.demands.proofs.Order.{by-refusal, by-main}
-use Rattle.demands.proofs.StrictOrder.{by-strictMain}
+use Rattle.format_strict.specs.ReadStrict.{strict_main, strict_read}
+use Rattle.demands.proofs.Order.{by_refusal, by_main}
+use Rattle.demands.proofs.StrictOrder.{by_strict_main}
 use Rattle.demands.proofs.Blame.{Raised, SameNamed, Stays, blames}
-use Rattle.demands.proofs.Fault.{limited, faulty, NoFault, Mild, Cures, limits-only}
+use Rattle.demands.proofs.Fault.{limited, faulty, NoFault, Mild, Cures, limits_only}
 use Rattle.demands.proofs.Mends.{right, Begins, Mends, mends}
-use Rattle.demands.proofs.StrictBlame.{strict-blames}
-use Rattle.demands.proofs.StrictFault.{strict-limits-only}
-use Rattle.demands.proofs.StrictMends.{strict-mends}
+use Rattle.demands.proofs.StrictBlame.{strict_blames}
+use Rattle.demands.proofs.StrictFault.{strict_limits_only}
+use Rattle.demands.proofs.StrictMends.{strict_mends}
 
 abbrev pub MildOutcome : Outcome → Type 0
 MildOutcome (shown r) = r.trailing ≡ []
@@ -44,7 +44,7 @@ MildOutcome (refusal p) = NoFault p
 
 -- limits within their ceilings, and a file that is not longer than they allow: so neither 21 nor 22
 pub record Allows (L : ResourceLimits) (s : Bytes) : Type 0 where
-  pub ceilings : withinCeilings L ≡ true
+  pub ceilings : within_ceilings L ≡ true
   pub input : length s ≤ L.max_input_bytes
 
 pub record Cured (reads : ResourceLimits → Bytes → Outcome) (L M : ResourceLimits) (s : Bytes) (p : Refusal) : Type 0 where
@@ -73,9 +73,9 @@ pub record Named (reads : ResourceLimits → Bytes → Outcome) : Type 0 where
       → Mended reads L s p
 
 -- ## From a reader to what begins with 21 and 22 and goes on with it
-mild-by : (L : ResourceLimits) (o : Read Loaded) → Mild o → MildOutcome (outcome L o)
-mild-by L (ok m to rest) e = e
-mild-by L (refused p) h = h
+mild_by : (L : ResourceLimits) (o : Read Loaded) → Mild o → MildOutcome (outcome L o)
+mild_by L (ok m to rest) e = e
+mild_by L (refused p) h = h
 
 shorter : (L : ResourceLimits) (s front rest : Bytes) → s ≡ front ++ rest → Allows L s → Allows L front
 shorter L s front rest whole a = record { ceilings = a.ceilings; input = omega (arith, a.input, ap length whole, length-append front rest) }
@@ -86,19 +86,19 @@ module _ (reads : ResourceLimits → Bytes → Outcome) (main : ResourceLimits �
       → Named reads
   named_by stay cure mend = record {
     stays =
-        λ L M wide s a b p e named. by M s b ∙ ap (outcome M) ((stay L M wide).refuses 0 s p (by-refusal L p (main L 0 s) (sym (by L s a) ∙ e)) named);
+        λ L M wide s a b p e named. by M s b ∙ ap (outcome M) ((stay L M wide).refuses 0 s p (by_refusal L p (main L 0 s) (sym (by L s a) ∙ e)) named);
     cured = λ L M wide s a b p e h.
-        let c = (cure L M wide).cured 0 s p (by-refusal L p (main L 0 s) (sym (by L s a) ∙ e)) h in
+        let c = (cure L M wide).cured 0 s p (by_refusal L p (main L 0 s) (sym (by L s a) ∙ e)) h in
         record {
           front = c.front;
           rest = c.rest;
           whole = c.whole;
           same = by L c.front (shorter L s c.front c.rest c.whole a) ∙ ap (outcome L) c.same;
           mild =
-              subst MildOutcome (sym (by M c.front (shorter M s c.front c.rest c.whole b))) (mild-by M (main M 0 c.front) c.mild);
+              subst MildOutcome (sym (by M c.front (shorter M s c.front c.rest c.whole b))) (mild_by M (main M 0 c.front) c.mild);
         };
     mended = λ L s a p e h.
-        let c = (mend L).mended 0 s p (by-refusal L p (main L 0 s) (sym (by L s a) ∙ e)) h in
+        let c = (mend L).mended 0 s p (by_refusal L p (main L 0 s) (sym (by L s a) ∙ e)) h in
         let up_to : Allows L (c.before ++ c.wrong) = record {
           ceilings = a.ceilings;
           input = omega (arith, a.input, ap length c.whole, length-append c.before (c.wrong ++ c.rest), length-append c.wrong c.rest, length-append c.before c.wrong);
@@ -110,14 +110,14 @@ module _ (reads : ResourceLimits → Bytes → Outcome) (main : ResourceLimits �
           whole = c.whole;
           same = by L (c.before ++ c.wrong) up_to ∙ ap (outcome L) c.same;
           begins = rw zero-add at c.begins;
-          mild = λ fits. subst MildOutcome (sym (by L (c.before ++ right (reported p).number) fits)) (mild-by L (main L 0 (c.before ++ right (reported p).number)) c.mild);
+          mild = λ fits. subst MildOutcome (sym (by L (c.before ++ right (reported p).number) fits)) (mild_by L (main L 0 (c.before ++ right (reported p).number)) c.mild);
         };
   }
 
 -- ## Both readings
 pub read_named : Named read
 read_named =
-    named_by read main (λ L s a. by-main L a.ceilings s a.input) (λ L M wide. blames L M wide) (λ L M wide. limits-only L M wide) (λ L. mends L)
+    named_by read main (λ L s a. by_main L a.ceilings s a.input) (λ L M wide. blames L M wide) (λ L M wide. limits_only L M wide) (λ L. mends L)
 
-pub strict-named : Named strictRead
-strict-named = named_by strictRead strictMain (λ L s a. by-strictMain L a.ceilings s a.input) (λ L M wide. strict-blames L M wide) (λ L M wide. strict-limits-only L M wide) (λ L. strict-mends L)
+pub strict_named : Named strict_read
+strict_named = named_by strict_read strict_main (λ L s a. by_strict_main L a.ceilings s a.input) (λ L M wide. strict_blames L M wide) (λ L M wide. strict_limits_only L M wide) (λ L. strict_mends L)

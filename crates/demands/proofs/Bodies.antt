@@ -15,15 +15,15 @@ use Rattle.format.specs.Read.{Reader, ◌>>=◌, ◌>>◌, give, here, at_most, 
 use Rattle.format.specs.ReadFields.{field, byte, string}
 use Rattle.format.specs.ReadChunk.{upvalue, forest}
 
-abbrev pub bodyBy : Reader ℕ → Reader ConstantValue → Reader AbsLineInfo → Reader LocalVar → ResourceLimits
+abbrev pub body_by : Reader ℕ → Reader ConstantValue → Reader AbsLineInfo → Reader LocalVar → ResourceLimits
     → (Where → Reader (List Prototype)) → Where → Reader (List Prototype)
-bodyBy num con anc loc L r w = do
+body_by num con anc loc L r w = do
   start ← here
   spelt ← string L.max_string_bytes
   line_defined ← num
-  last-line-defined ← num
+  last-line_defined ← num
   numparams ← byte
-  is-vararg ← byte
+  is_vararg ← byte
   maxstacksize ← byte
   first ← here
   size ← num
@@ -40,9 +40,9 @@ bodyBy num con anc loc L r w = do
   nested ← forest protos r (within w (inherit spelt w.source) (length instructions))
   line-info-size ← num
   line-info-at ← here
-  line-info ← run line-info-size
-  abs-line-info ← num >>= λ k. here >>= λ place. many k anc >>= λ items. give {A = Listed AbsLineInfo} (record { place = place; items = items })
-  loc-vars ← num >>= λ k. here >>= λ place. many k loc >>= λ items. give {A = Listed LocalVar} (record { place = place; items = items })
-  upvalue-names ← num >>= λ k. here >>= λ place. many k (string L.max_string_bytes) >>= λ items. give {A = Listed (Option LuaString)} (record { place = place; items = items })
+  line_info_lem ← run line-info-size
+  abs_line_info ← num >>= λ k. here >>= λ place. many k anc >>= λ items. give {A = Listed AbsLineInfo} (record { place = place; items = items })
+  loc_vars ← num >>= λ k. here >>= λ place. many k loc >>= λ items. give {A = Listed LocalVar} (record { place = place; items = items })
+  upvalue_names_lem ← num >>= λ k. here >>= λ place. many k (string L.max_string_bytes) >>= λ items. give {A = Listed (Option LuaString)} (record { place = place; items = items })
   end ← here
-  give (prototype w start spelt line_defined last-line-defined numparams is-vararg maxstacksize (record { place = instructions-at; items = instructions }) constants upvalues protos-at protos (record { place = line-info-at; items = line-info }) abs-line-info loc-vars upvalue-names end ∷ nested)
+  give (prototype w start spelt line_defined last-line_defined numparams is_vararg maxstacksize (record { place = instructions-at; items = instructions }) constants upvalues protos-at protos (record { place = line-info-at; items = line_info_lem }) abs_line_info loc_vars upvalue_names_lem end ∷ nested)

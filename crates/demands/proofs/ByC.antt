@@ -3,7 +3,7 @@
 --     InC a qs             so it is of a call whose answer is a and whose conditions are qs, in 01's order
 --     law                  it is enough that the refusal in the answer is the first of the conditions
 --     findings-kept        a call that refuses leaves its list as it was. (Rows, copies and name: Demand1.antt, `index_kept`, `copy-kept`, `full-kept`, `local-kept`, of the same definitions.)
---     coded-chunk          what stands for a refusal of a chunk is its number and 256 times the place and one, which below 2^32 is never left out (Demand1.antt, `places`)
+--     coded_chunk          what stands for a refusal of a chunk is its number and 256 times the place and one, which below 2^32 is never left out (Demand1.antt, `places`)
 -- (crates/c_boundary/proofs/Numbers.antt: 0 is returned nowhere else, and number and place can be got back.)
 -- Assumes nothing.
 use mathlib.Core.Path.{◌≡◌, refl, sym, ◌∙◌, ap}
@@ -26,25 +26,25 @@ use Rattle.format.specs.Refusals.{reported}
 use Rattle.format.specs.Form.{Bytes}
 use Rattle.format.specs.ReadChunk.{Outcome, shown, refusal, read}
 use Rattle.format.specs.Copy.{copy}
-use Rattle.format.specs.FullCopy.{fullCopy}
+use Rattle.format.specs.FullCopy.{full_copy}
 use Rattle.format_spelling.specs.ReadSpelling.{spelling}
-use Rattle.show_row.specs.Asked.{functionOf, entry_of}
+use Rattle.show_row.specs.Asked.{function_of, entry_of}
 use Rattle.index.specs.declared.IndexAnswer.{IndexAnswer}
 use Rattle.index.specs.declared.IndexAnswer.TheVariants as index-answer
-use Rattle.index.specs.Index.{index, shownIndex}
+use Rattle.index.specs.Index.{index, shown_index}
 use Rattle.line_lookup.specs.declared.line.LineAnswer.{LineAnswer}
 use Rattle.line_lookup.specs.declared.line.LineAnswer.TheVariants as line-answer
-use Rattle.line_lookup.specs.Lines.{shownLine}
+use Rattle.line_lookup.specs.Lines.{shown_line}
 use Rattle.copy.specs.declared.whole.CopyAnswer.{CopyAnswer}
 use Rattle.copy.specs.declared.whole.CopyAnswer.TheVariants as copy-answer
-use Rattle.copy.specs.Copied.{shownLength, shownCopy}
-use Rattle.copy_full.specs.InFull.{shownFullLength, shownFull}
+use Rattle.copy.specs.Copied.{shown_length, shown_copy}
+use Rattle.copy_full.specs.InFull.{shown_full_length, shown_full}
 use Rattle.show_chunk.specs.declared.summary.SummaryAnswer.{SummaryAnswer}
 use Rattle.show_chunk.specs.declared.summary.SummaryAnswer.TheVariants as summary-answer
 use Rattle.show_chunk.specs.declared.fields.FieldsAnswer.{FieldsAnswer}
 use Rattle.show_chunk.specs.declared.fields.FieldsAnswer.TheVariants as fields-answer
-use Rattle.show_chunk.specs.Summaries.{shownSummary}
-use Rattle.show_chunk.specs.Fields.{shownFields}
+use Rattle.show_chunk.specs.Summaries.{shown_summary}
+use Rattle.show_chunk.specs.Fields.{shown_fields}
 use Rattle.show_entry.specs.declared.WordAnswer.{WordAnswer}
 use Rattle.show_entry.specs.declared.WordAnswer.TheVariants as word-answer
 use Rattle.show_entry.specs.declared.ConstantAnswer.{ConstantAnswer}
@@ -57,11 +57,11 @@ use Rattle.show_entry.specs.declared.AnchorAnswer.{AnchorAnswer}
 use Rattle.show_entry.specs.declared.AnchorAnswer.TheVariants as anchor-answer
 use Rattle.show_entry.specs.declared.NameAnswer.{NameAnswer}
 use Rattle.show_entry.specs.declared.NameAnswer.TheVariants as name-answer
-use Rattle.show_entry.specs.Entries.{shownWord, shownConstant, shownUpvalue, shownDelta, shownAnchor, shownName}
+use Rattle.show_entry.specs.Entries.{shown_word, shown_constant, shown_upvalue, shown_delta, shown_anchor, shown_name}
 use Rattle.show_local.specs.declared.LocalAnswer.{LocalAnswer}
 use Rattle.show_local.specs.declared.LocalAnswer.TheVariants as local-answer
-use Rattle.show_local.specs.Locals.{shownLocal}
-use Rattle.validate_rules.specs.Findings.{chunkFindings, verdict}
+use Rattle.show_local.specs.Locals.{shown_local}
+use Rattle.validate_rules.specs.Findings.{chunk_findings, verdict}
 use Rattle.validate_verdict.specs.declared.verdict.VerdictAnswer.{VerdictAnswer}
 use Rattle.validate_verdict.specs.declared.verdict.VerdictAnswer.TheVariants as verdict-answer
 use Rattle.validate_verdict.specs.declared.verdict.CountAnswer.{CountAnswer}
@@ -69,16 +69,16 @@ use Rattle.validate_verdict.specs.declared.verdict.CountAnswer.TheVariants as co
 use Rattle.validate_verdict.specs.Answers.{shownVerdict, shownCount}
 use Rattle.validate_plan.specs.declared.FindingsAnswer.{FindingsAnswer}
 use Rattle.validate_plan.specs.declared.FindingsAnswer.TheVariants as findings-answer
-use Rattle.validate_plan.specs.Validated.{shownFindings}
+use Rattle.validate_plan.specs.Validated.{shown_findings}
 use Rattle.word_fields.specs.declared.instruction.Encoded.{Encoded}
 use Rattle.word_fields.specs.declared.instruction.Encoded.TheVariants as encoded-answer
 use Rattle.word_fields.specs.Word.{decoded, encoded}
-use Rattle.c_boundary.specs.Status.{limitsOf, withPlace, coded, Answer, done, refuses, status, written}
-use Rattle.lafzimdo.specs.Answers.{ofSummary, of_fields, ofLine, ofWord, ofConstant, ofUpvalue, ofDelta, ofAnchor, ofLocal, ofName, ofIndex, ofCopy, ofVerdict, ofCount}
-use Rattle.c_words.specs.Words.{wordNumbers, spelt, ofEncoded}
-use Rattle.c_findings.specs.FindingNumbers.{listNumbers, ofFindings, numbersWritten}
-use Rattle.demands.proofs.Refused.{first, forChunk, forSpace, forFunction, forLine, forEntry, forLocal, forWord}
-use Rattle.demands.proofs.Refused.{inSummary, inFields, in_word, inConstant, inUpvalue, inDelta, inAnchor, inName, inLocal, inLine, inIndex, inCopy, inVerdict, inCount, inFindings, inEncoded}
+use Rattle.c_boundary.specs.Status.{limits_of, with_place, coded, Answer, done, refuses, status, written}
+use Rattle.lafzimdo.specs.Answers.{ofSummary, of_fields, ofLine, ofWord, ofConstant, ofUpvalue, ofDelta, ofAnchor, of_local, ofName, ofIndex, ofCopy, ofVerdict, ofCount}
+use Rattle.c_words.specs.Words.{word_numbers, spelt, of_encoded}
+use Rattle.c_findings.specs.FindingNumbers.{list_numbers, of_findings, numbers_written}
+use Rattle.demands.proofs.Refused.{first, for_chunk, for_space, for_function, for_line, for_entry, for_local, for_word}
+use Rattle.demands.proofs.Refused.{in_summary, in_fields, in_word, in_constant, in_upvalue, in_delta, in_anchor, in_name, in_local, in_line, in_index, in_copy, in_verdict, in_count, in_findings, in_encoded}
 use Rattle.demands.proofs.InOrder.{Inside}
 use Rattle.demands.proofs.Demand1 as calls
 use Rattle.c_findings.proofs.Numbered.{all-or-none}
@@ -87,83 +87,83 @@ use Rattle.c_findings.proofs.Numbered.{all-or-none}
 -- what is returned for a refusal, or for none
 abbrev pub code : Option Report → ℕ
 code none = 0
-code (some r) = withPlace r.number r.place
+code (some r) = with_place r.number r.place
 
-abbrev pub inAnswer : Answer → Option Report
-inAnswer (done l) = none
-inAnswer (refuses q) = some (reported q)
+abbrev pub in_answer : Answer → Option Report
+in_answer (done l) = none
+in_answer (refuses q) = some (reported q)
 
 pub record InC (a : Answer) (qs : List (Option Report)) : Type 0 where
   pub returns : status a ≡ code (first qs)
   pub kept : (q : Report) (old : List ℕ) → first qs ≡ some q → written a old ≡ old
   pub answers : (old : List ℕ) → first qs ≡ none → a ≡ done (written a old)
 
-pub law : (a : Answer) (qs : List (Option Report)) → inAnswer a ≡ first qs → InC a qs
+pub law : (a : Answer) (qs : List (Option Report)) → in_answer a ≡ first qs → InC a qs
 law (done l) qs e = record { returns = ap code e; kept = λ q old h. absurd (let z : ◌≡◌ {A = ℕ} 0 1 = cc in omega arith); answers = λ old h. refl }
 law (refuses q) qs e = record { returns = ap code e; kept = λ q old h. refl; answers = λ old h. absurd (let z : ◌≡◌ {A = ℕ} 0 1 = cc in omega arith) }
 
 -- ## The refusal in each answer is the one in its numbers
-pub of-summary : (a : SummaryAnswer) → inAnswer (ofSummary a) ≡ inSummary a
-of-summary (summary-answer.Ok x) = refl
-of-summary (summary-answer.Err q) = refl
+pub of_summary : (a : SummaryAnswer) → in_answer (ofSummary a) ≡ in_summary a
+of_summary (summary-answer.Ok x) = refl
+of_summary (summary-answer.Err q) = refl
 
-of-fields : (a : FieldsAnswer) → inAnswer (of_fields a) ≡ inFields a
-of-fields (fields-answer.Ok x) = refl
-of-fields (fields-answer.Err q) = refl
+of_fields_lem : (a : FieldsAnswer) → in_answer (of_fields a) ≡ in_fields a
+of_fields_lem (fields-answer.Ok x) = refl
+of_fields_lem (fields-answer.Err q) = refl
 
-of-line : (a : LineAnswer) → inAnswer (ofLine a) ≡ inLine a
+of-line : (a : LineAnswer) → in_answer (ofLine a) ≡ in_line a
 of-line (line-answer.Ok x) = refl
 of-line (line-answer.Err q) = refl
 
-of_word : (a : WordAnswer) → inAnswer (ofWord a) ≡ in_word a
+of_word : (a : WordAnswer) → in_answer (ofWord a) ≡ in_word a
 of_word (word-answer.Ok x) = refl
 of_word (word-answer.Err q) = refl
 
-of-constant : (a : ConstantAnswer) → inAnswer (ofConstant a) ≡ inConstant a
+of-constant : (a : ConstantAnswer) → in_answer (ofConstant a) ≡ in_constant a
 of-constant (constant-answer.Ok x) = refl
 of-constant (constant-answer.Err q) = refl
 
-of-upvalue : (a : UpvalueAnswer) → inAnswer (ofUpvalue a) ≡ inUpvalue a
+of-upvalue : (a : UpvalueAnswer) → in_answer (ofUpvalue a) ≡ in_upvalue a
 of-upvalue (upvalue-answer.Ok x) = refl
 of-upvalue (upvalue-answer.Err q) = refl
 
-of-delta : (a : DeltaAnswer) → inAnswer (ofDelta a) ≡ inDelta a
-of-delta (delta-answer.Ok x) = refl
-of-delta (delta-answer.Err q) = refl
+of_delta : (a : DeltaAnswer) → in_answer (ofDelta a) ≡ in_delta a
+of_delta (delta-answer.Ok x) = refl
+of_delta (delta-answer.Err q) = refl
 
-of-anchor : (a : AnchorAnswer) → inAnswer (ofAnchor a) ≡ inAnchor a
+of-anchor : (a : AnchorAnswer) → in_answer (ofAnchor a) ≡ in_anchor a
 of-anchor (anchor-answer.Ok x) = refl
 of-anchor (anchor-answer.Err q) = refl
 
-of-name : (a : NameAnswer) → inAnswer (ofName a) ≡ inName a
+of-name : (a : NameAnswer) → in_answer (ofName a) ≡ in_name a
 of-name (name-answer.Ok x) = refl
 of-name (name-answer.Err q) = refl
 
-of-local : (a : LocalAnswer) → inAnswer (ofLocal a) ≡ inLocal a
+of-local : (a : LocalAnswer) → in_answer (of_local a) ≡ in_local a
 of-local (local-answer.Ok x y z) = refl
 of-local (local-answer.Err q) = refl
 
-of-index : (a : IndexAnswer) → inAnswer (ofIndex a) ≡ inIndex a
+of-index : (a : IndexAnswer) → in_answer (ofIndex a) ≡ in_index a
 of-index (index-answer.Ok x) = refl
 of-index (index-answer.Err q) = refl
 
-of-copy : (a : CopyAnswer) → inAnswer (ofCopy a) ≡ inCopy a
+of-copy : (a : CopyAnswer) → in_answer (ofCopy a) ≡ in_copy a
 of-copy (copy-answer.Ok x) = refl
 of-copy (copy-answer.Err q) = refl
 
-of-verdict : (a : VerdictAnswer) → inAnswer (ofVerdict a) ≡ inVerdict a
+of-verdict : (a : VerdictAnswer) → in_answer (ofVerdict a) ≡ in_verdict a
 of-verdict (verdict-answer.Ok x) = refl
 of-verdict (verdict-answer.Err q) = refl
 
-of-count : (a : CountAnswer) → inAnswer (ofCount a) ≡ inCount a
+of-count : (a : CountAnswer) → in_answer (ofCount a) ≡ in_count a
 of-count (count-answer.Ok x) = refl
 of-count (count-answer.Err q) = refl
 
-of-findings : (a : FindingsAnswer) → inAnswer (ofFindings a) ≡ inFindings a
+of-findings : (a : FindingsAnswer) → in_answer (of_findings a) ≡ in_findings a
 of-findings (findings-answer.Ok x y) = refl
 of-findings (findings-answer.Err q) = refl
 
-of-encoded : (a : Encoded) → inAnswer (ofEncoded a) ≡ inEncoded a
+of-encoded : (a : Encoded) → in_answer (of_encoded a) ≡ in_encoded a
 of-encoded (encoded-answer.Word w) = refl
 of-encoded (encoded-answer.Refused q) = refl
 
@@ -171,95 +171,95 @@ of-encoded (encoded-answer.Refused q) = refl
 -- limits are an array of nine numbers
 module _ (limits : List ℕ) (s : Bytes) where
   abbrev L : ResourceLimits
-  L = limitsOf limits
+  L = limits_of limits
 
-  pub lafzimdo-summary : InC (ofSummary (shownSummary (spelling L s) (read L s))) (forChunk L s)
-  lafzimdo-summary = law _ _ (of-summary (shownSummary (spelling L s) (read L s)) ∙ calls.summary L s)
+  pub lafzimdo_summary : InC (ofSummary (shown_summary (spelling L s) (read L s))) (for_chunk L s)
+  lafzimdo_summary = law _ _ (of_summary (shown_summary (spelling L s) (read L s)) ∙ calls.summary L s)
 
-  pub lafzimdo-copy-length : InC (ofCopy (shownLength (read L s))) (forChunk L s)
-  lafzimdo-copy-length = law _ _ (of-copy (shownLength (read L s)) ∙ calls.copy-length L s)
+  pub lafzimdo_copy-length : InC (ofCopy (shown_length (read L s))) (for_chunk L s)
+  lafzimdo_copy-length = law _ _ (of-copy (shown_length (read L s)) ∙ calls.copy-length L s)
 
-  pub lafzimdo-full-copy-length : InC (ofCopy (shownFullLength (read L s))) (forChunk L s)
-  lafzimdo-full-copy-length = law _ _ (of-copy (shownFullLength (read L s)) ∙ calls.full-length L s)
+  pub lafzimdo_full_copy-length : InC (ofCopy (shown_full_length (read L s))) (for_chunk L s)
+  lafzimdo_full_copy-length = law _ _ (of-copy (shown_full_length (read L s)) ∙ calls.full_length L s)
 
-  pub lafzimdo-verdict : InC (ofVerdict (shownVerdict (read L s))) (forChunk L s)
-  lafzimdo-verdict = law _ _ (of-verdict (shownVerdict (read L s)) ∙ calls.verdict L s)
+  pub lafzimdo_verdict : InC (ofVerdict (shownVerdict (read L s))) (for_chunk L s)
+  lafzimdo_verdict = law _ _ (of-verdict (shownVerdict (read L s)) ∙ calls.verdict L s)
 
-  pub lafzimdo-finding-count : InC (ofCount (shownCount (read L s))) (forChunk L s)
-  lafzimdo-finding-count = law _ _ (of-count (shownCount (read L s)) ∙ calls.count L s)
+  pub lafzimdo_finding_count : InC (ofCount (shownCount (read L s))) (for_chunk L s)
+  lafzimdo_finding_count = law _ _ (of-count (shownCount (read L s)) ∙ calls.count L s)
 
-  pub lafzimdo-index : (space : ℕ) → InC (ofIndex (shownIndex space (read L s))) (forSpace L s (λ r. index r.functions) space)
-  lafzimdo-index space = law _ _ (of-index (shownIndex space (read L s)) ∙ calls.index-rows L s space)
+  pub lafzimdo_index : (space : ℕ) → InC (ofIndex (shown_index space (read L s))) (for_space L s (λ r. index r.functions) space)
+  lafzimdo_index space = law _ _ (of-index (shown_index space (read L s)) ∙ calls.index_rows L s space)
 
-  pub lafzimdo-copy : (space : ℕ) → InC (ofCopy (shownCopy space (read L s))) (forSpace L s copy space)
-  lafzimdo-copy space = law _ _ (of-copy (shownCopy space (read L s)) ∙ calls.copied L s space)
+  pub lafzimdo_copy : (space : ℕ) → InC (ofCopy (shown_copy space (read L s))) (for_space L s copy space)
+  lafzimdo_copy space = law _ _ (of-copy (shown_copy space (read L s)) ∙ calls.copied L s space)
 
-  pub lafzimdo-full-copy : (space : ℕ) → InC (ofCopy (shownFull space (read L s))) (forSpace L s fullCopy space)
-  lafzimdo-full-copy space = law _ _ (of-copy (shownFull space (read L s)) ∙ calls.full-copied L s space)
+  pub lafzimdo_full_copy : (space : ℕ) → InC (ofCopy (shown_full space (read L s))) (for_space L s full_copy space)
+  lafzimdo_full_copy space = law _ _ (of-copy (shown_full space (read L s)) ∙ calls.full_copied L s space)
 
   -- four numbers for each finding
-  pub lafzimdo-findings : (list : List ℕ) → InC (ofFindings (shownFindings (length list / 4) (read L s))) (forSpace L s (λ r. (chunkFindings r).findings) (length list / 4))
-  lafzimdo-findings list = law _ _ (of-findings (shownFindings (length list / 4) (read L s)) ∙ calls.findings L s (length list / 4))
+  pub lafzimdo_findings : (list : List ℕ) → InC (of_findings (shown_findings (length list / 4) (read L s))) (for_space L s (λ r. (chunk_findings r).findings) (length list / 4))
+  lafzimdo_findings list = law _ _ (of-findings (shown_findings (length list / 4) (read L s)) ∙ calls.findings L s (length list / 4))
 
-  pub lafzimdo-function : (f : ℕ) → InC (of_fields (shownFields (functionOf f (read L s)))) (forFunction L s f)
-  lafzimdo-function f = law _ _ (of-fields (shownFields (functionOf f (read L s))) ∙ calls.fields L s f)
+  pub lafzimdo_function : (f : ℕ) → InC (of_fields (shown_fields (function_of f (read L s)))) (for_function L s f)
+  lafzimdo_function f = law _ _ (of_fields_lem (shown_fields (function_of f (read L s))) ∙ calls.fields L s f)
 
-  pub lafzimdo-line : (f pc : ℕ) → InC (ofLine (shownLine pc (functionOf f (read L s)))) (forLine L s f)
-  lafzimdo-line f pc = law _ _ (of-line (shownLine pc (functionOf f (read L s))) ∙ calls.line L s f pc)
+  pub lafzimdo_line : (f pc : ℕ) → InC (ofLine (shown_line pc (function_of f (read L s)))) (for_line L s f)
+  lafzimdo_line f pc = law _ _ (of-line (shown_line pc (function_of f (read L s))) ∙ calls.line L s f pc)
 
   module _ (f i : ℕ) where
-    pub lafzimdo-instruction : InC (ofWord (shownWord (entry_of (λ p. p.instructions) f i (read L s)))) (forEntry L s (λ p. p.instructions) f i)
-    lafzimdo-instruction = law _ _ (of_word (shownWord (entry_of (λ p. p.instructions) f i (read L s))) ∙ calls.instruction L s f i)
+    pub lafzimdo_instruction : InC (ofWord (shown_word (entry_of (λ p. p.instructions) f i (read L s)))) (for_entry L s (λ p. p.instructions) f i)
+    lafzimdo_instruction = law _ _ (of_word (shown_word (entry_of (λ p. p.instructions) f i (read L s))) ∙ calls.instruction L s f i)
 
-    pub lafzimdo-constant : InC (ofConstant (shownConstant (entry_of (λ p. p.constants) f i (read L s)))) (forEntry L s (λ p. p.constants) f i)
-    lafzimdo-constant = law _ _ (of-constant (shownConstant (entry_of (λ p. p.constants) f i (read L s))) ∙ calls.constant L s f i)
+    pub lafzimdo_constant : InC (ofConstant (shown_constant (entry_of (λ p. p.constants) f i (read L s)))) (for_entry L s (λ p. p.constants) f i)
+    lafzimdo_constant = law _ _ (of-constant (shown_constant (entry_of (λ p. p.constants) f i (read L s))) ∙ calls.constant L s f i)
 
-    pub lafzimdo-upvalue : InC (ofUpvalue (shownUpvalue (entry_of (λ p. p.upvalues) f i (read L s)))) (forEntry L s (λ p. p.upvalues) f i)
-    lafzimdo-upvalue = law _ _ (of-upvalue (shownUpvalue (entry_of (λ p. p.upvalues) f i (read L s))) ∙ calls.upvalue L s f i)
+    pub lafzimdo_upvalue : InC (ofUpvalue (shown_upvalue (entry_of (λ p. p.upvalues) f i (read L s)))) (for_entry L s (λ p. p.upvalues) f i)
+    lafzimdo_upvalue = law _ _ (of-upvalue (shown_upvalue (entry_of (λ p. p.upvalues) f i (read L s))) ∙ calls.upvalue L s f i)
 
-    pub lafzimdo-delta : InC (ofDelta (shownDelta (entry_of (λ p. p.line-info) f i (read L s)))) (forEntry L s (λ p. p.line-info) f i)
-    lafzimdo-delta = law _ _ (of-delta (shownDelta (entry_of (λ p. p.line-info) f i (read L s))) ∙ calls.delta L s f i)
+    pub lafzimdo_delta : InC (ofDelta (shown_delta (entry_of (λ p. p.line_info_lem) f i (read L s)))) (for_entry L s (λ p. p.line_info_lem) f i)
+    lafzimdo_delta = law _ _ (of_delta (shown_delta (entry_of (λ p. p.line_info_lem) f i (read L s))) ∙ calls.delta L s f i)
 
-    pub lafzimdo-anchor : InC (ofAnchor (shownAnchor (entry_of (λ p. p.abs-line-info) f i (read L s)))) (forEntry L s (λ p. p.abs-line-info) f i)
-    lafzimdo-anchor = law _ _ (of-anchor (shownAnchor (entry_of (λ p. p.abs-line-info) f i (read L s))) ∙ calls.anchor L s f i)
+    pub lafzimdo_anchor : InC (ofAnchor (shown_anchor (entry_of (λ p. p.abs_line_info) f i (read L s)))) (for_entry L s (λ p. p.abs_line_info) f i)
+    lafzimdo_anchor = law _ _ (of-anchor (shown_anchor (entry_of (λ p. p.abs_line_info) f i (read L s))) ∙ calls.anchor L s f i)
 
-    pub lafzimdo-upvalue-name : InC (ofName (shownName (entry_of (λ p. p.upvalue-names) f i (read L s)))) (forEntry L s (λ p. p.upvalue-names) f i)
-    lafzimdo-upvalue-name = law _ _ (of-name (shownName (entry_of (λ p. p.upvalue-names) f i (read L s))) ∙ calls.upvalue-name L s f i)
+    pub lafzimdo_upvalue-name : InC (ofName (shown_name (entry_of (λ p. p.upvalue_names_lem) f i (read L s)))) (for_entry L s (λ p. p.upvalue_names_lem) f i)
+    lafzimdo_upvalue-name = law _ _ (of-name (shown_name (entry_of (λ p. p.upvalue_names_lem) f i (read L s))) ∙ calls.upvalue-name L s f i)
 
-    pub lafzimdo-local : (space : ℕ) → InC (ofLocal (shownLocal space (entry_of (λ p. p.loc-vars) f i (read L s)))) (forLocal L s f i space)
-    lafzimdo-local space = law _ _ (of-local (shownLocal space (entry_of (λ p. p.loc-vars) f i (read L s))) ∙ calls.local L s f i space)
+    pub lafzimdo_local : (space : ℕ) → InC (of_local (shown_local space (entry_of (λ p. p.loc_vars) f i (read L s)))) (for_local L s f i space)
+    lafzimdo_local space = law _ _ (of-local (shown_local space (entry_of (λ p. p.loc_vars) f i (read L s))) ∙ calls.local L s f i space)
 
 -- decoding has no condition
-pub lafzimdo-decode : (w : ℕ) → InC (done (wordNumbers (decoded w))) []
-lafzimdo-decode w = law _ _ refl
+pub lafzimdo_decode : (w : ℕ) → InC (done (word_numbers (decoded w))) []
+lafzimdo_decode w = law _ _ refl
 
 -- 28 where the opcode is above 82, then 27
-pub lafzimdo-encode : (op a k b c bx : ℕ) (sbx : ℤ) (ax : ℕ) (sj : ℤ) → InC (ofEncoded (encoded (spelt op a k b c bx sbx ax sj))) (forWord (spelt op a k b c bx sbx ax sj))
-lafzimdo-encode op a k b c bx sbx ax sj = law _ _ (of-encoded (encoded (spelt op a k b c bx sbx ax sj)) ∙ calls.encode (spelt op a k b c bx sbx ax sj))
+pub lafzimdo_encode : (op a k b c bx : ℕ) (sbx : ℤ) (ax : ℕ) (sj : ℤ) → InC (of_encoded (encoded (spelt op a k b c bx sbx ax sj))) (for_word (spelt op a k b c bx sbx ax sj))
+lafzimdo_encode op a k b c bx sbx ax sj = law _ _ (of-encoded (encoded (spelt op a k b c bx sbx ax sj)) ∙ calls.encode (spelt op a k b c bx sbx ax sj))
 
 -- ## The list of findings
-pub findings-kept : (old : List ℕ) (o : Outcome) (q : Report) → inFindings (shownFindings (length old / 4) o) ≡ some q → numbersWritten old o ≡ old
-unfolding listNumbers
-findings-kept old (shown r) q e = sym (all-or-none old (shown r)) ∙ by (leb (length (chunkFindings r).findings) (length old / 4)) e
+pub findings-kept : (old : List ℕ) (o : Outcome) (q : Report) → in_findings (shown_findings (length old / 4) o) ≡ some q → numbers_written old o ≡ old
+unfolding list_numbers
+findings-kept old (shown r) q e = sym (all-or-none old (shown r)) ∙ by (leb (length (chunk_findings r).findings) (length old / 4)) e
   where
-    by : (b : Bool) → inFindings (cond b (findings-answer.Ok (verdict (chunkFindings r)) (length (chunkFindings r).findings)) (findings-answer.Err LentSpace)) ≡ some q
-        → listNumbers (cond b (chunkFindings r).findings []) ++ drop (length (listNumbers (cond b (chunkFindings r).findings []))) old ≡ old
+    by : (b : Bool) → in_findings (cond b (findings-answer.Ok (verdict (chunk_findings r)) (length (chunk_findings r).findings)) (findings-answer.Err LentSpace)) ≡ some q
+        → list_numbers (cond b (chunk_findings r).findings []) ++ drop (length (list_numbers (cond b (chunk_findings r).findings []))) old ≡ old
     by true e = absurd (let z : ◌≡◌ {A = ℕ} 0 1 = cc in omega arith)
     by false e = refl
 findings-kept old (refusal p) q e = refl
 
 -- ## Number and place in one
-abbrev pub inOne : ℕ → Place → ℕ
-inOne n None = n
-inOne n (At place) = n + 256 * (place + 1)
+abbrev pub in_one : ℕ → Place → ℕ
+in_one n None = n
+in_one n (At place) = n + 256 * (place + 1)
 
 -- a place that lies in a file, or is its end, is below 2^32
-pub coded-inside : (q : Refusal) → Inside 16777216 (reported q).place → coded q ≡ inOne (reported q).number (reported q).place
+pub coded-inside : (q : Refusal) → Inside 16777216 (reported q).place → coded q ≡ in_one (reported q).number (reported q).place
 coded-inside q h = by (reported q).place h
   where
-    by : (p : Place) → Inside 16777216 p → withPlace (reported q).number p ≡ inOne (reported q).number p
+    by : (p : Place) → Inside 16777216 p → with_place (reported q).number p ≡ in_one (reported q).number p
     by None h = refl
     by (At place) h = ap (λ b. cond b (reported q).number ((reported q).number + 256 * (place + 1))) (lt-leb (2 ^ 32) place (omega arith))
 
-pub coded-chunk : (L : ResourceLimits) (s : Bytes) (q : Refusal) → read L s ≡ refusal q → coded q ≡ inOne (reported q).number (reported q).place
-coded-chunk L s q e = coded-inside q (calls.places L s q e).1
+pub coded_chunk : (L : ResourceLimits) (s : Bytes) (q : Refusal) → read L s ≡ refusal q → coded q ≡ in_one (reported q).number (reported q).place
+coded_chunk L s q e = coded-inside q (calls.places L s q e).1

@@ -1,9 +1,9 @@
 -- DEMAND 3 of the calls themselves: each theorem is a promise of the routine that a call's source is compiled to
 -- (Promise.antt), and no reader stands in it: who believes it has read the grammar, the reading, what is shown of it,
 -- and what is set aside (Same.antt), and need not read the reader.
---     reads-exactly        "A script is read exactly when its bytes belong, under the limits, to the chunk grammar":
+--     reads_exactly        "A script is read exactly when its bytes belong, under the limits, to the chunk grammar":
 --                          `chunk_summary` answers with a summary exactly where they do
---     summary-shown ..     "what is shown is its reading by that grammar": the summary, a function's fields, each
+--     summary_shown_lem ..     "what is shown is its reading by that grammar": the summary, a function's fields, each
 --                          entry of it, the trailing bytes; and where there is nothing to show, the refusal: 23, 24,
 --                          26 with lent memory as it was, and of a script that does not belong always one (which:
 --                          demand 1; `trailing_bytes` has none, and shows no bytes then)
@@ -11,7 +11,7 @@
 --     written_read         "Its archive copy is read again with the same reading": what `encode_chunk_lua54` writes
 --                          belongs, with the same reading but for what the demand sets aside
 --     written-copy         and it is the copy of the reading, of which Demand3.antt has the rest: copy-of-copy,
---                          equal-copies
+--                          equal_copies
 -- Assumes nothing.
 use mathlib.Core.Path.{◌≡◌, refl, sym, ◌∙◌, ap, subst}
 use mathlib.Core.Logic.{◌↔◌}
@@ -30,10 +30,10 @@ use Rattle.format.specs.GrammarFields.{LuaString}
 use Rattle.format.specs.Reading.{Reading, Prototype, ConstantValue, short-string, long-string, LocalVar}
 use Rattle.format.specs.ReadChunk.{Outcome, shown, refusal, read}
 use Rattle.format.specs.Copy.{copy}
-use Rattle.format.proofs.ReadChunkLaws.{read-complete}
+use Rattle.format.proofs.ReadChunkLaws.{read_complete}
 use Rattle.format.proofs.Located.{Stands, StandsIf}
 use Rattle.read_nth.proofs.Strings.{ConstantStands}
-use Rattle.show_row.specs.Asked.{Asked, found, refused, orRefuse, functionOf, entryIn, entry_of}
+use Rattle.show_row.specs.Asked.{Asked, found, refused, or_refuse, function_of, entry_in, entry_of}
 use Rattle.show_chunk.specs.declared.summary.ChunkSummary.{ChunkSummary}
 use Rattle.show_chunk.specs.declared.summary.SummaryAnswer.{SummaryAnswer}
 use Rattle.show_chunk.specs.declared.summary.SummaryAnswer.TheVariants as summary-answer
@@ -47,10 +47,10 @@ use Rattle.show_entry.specs.declared.AnchorAnswer.TheVariants as anchor-answer
 use Rattle.show_entry.specs.declared.NameAnswer.TheVariants as name-answer
 use Rattle.show_local.specs.declared.LocalAnswer.{LocalAnswer}
 use Rattle.show_local.specs.declared.LocalAnswer.TheVariants as local-answer
-use Rattle.show_entry.specs.Entries.{shownWord, shownConstant, shownUpvalue, shownDelta, shownAnchor, shownName}
-use Rattle.read_field.specs.Shown.{optionString}
-use Rattle.read_entry.specs.Shown.{constantValue}
-use Rattle.read_chunk.specs.Decoded.{summaryOf}
+use Rattle.show_entry.specs.Entries.{shown_word, shown_constant, shown_upvalue, shown_delta, shown_anchor, shown_name}
+use Rattle.read_field.specs.Shown.{option_string}
+use Rattle.read_entry.specs.Shown.{constant_value}
+use Rattle.read_chunk.specs.Decoded.{summary_of}
 use Rattle.show_chunk.specs.Fields.{fields_of}
 use Rattle.copy.specs.declared.whole.CopyAnswer.{CopyAnswer}
 use Rattle.copy.specs.declared.whole.CopyAnswer.TheVariants as copy-answer
@@ -67,11 +67,11 @@ use Rattle.show_entry.proofs.anchor as anchor-call
 use Rattle.show_entry.proofs.upvalue_name as upvalue-name-call
 use Rattle.copy.proofs.encode_chunk_lua54 as copy-call
 use Rattle.demands.proofs.Promise.{Promise}
-use Rattle.demands.proofs.Slices.{bytes-known}
+use Rattle.demands.proofs.Slices.{bytes_known}
 use Rattle.demands.proofs.Written.{both}
 use Rattle.demands.proofs.Same.{SameButFor}
-use Rattle.demands.proofs.Calls.{Shows, entry-is, Refuses, refuses}
-use Rattle.demands.proofs.Demand3.{Belongs, read-exactly, summary-exactly, shown-is-the-reading, written-is-read}
+use Rattle.demands.proofs.Calls.{Shows, entry_is, Refuses, refuses}
+use Rattle.demands.proofs.Demand3.{Belongs, read_exactly, summary_exactly, shown-is_the_reading, written-is-read}
 
 -- ## What an answer says, by cases
 -- it answers with a summary
@@ -80,7 +80,7 @@ Answers r = (x : ChunkSummary) × (r ≡ summary-answer.Ok x)
 
 -- whatever the count of padded numbers is, which is no part of the reading (02, item 1)
 pub record SummaryShown (L : ResourceLimits) (chunk : Bytes) (r : SummaryAnswer) : Type 0 where
-  pub given : (b : Belongs L chunk) → (n : ℕ) × (r ≡ summary-answer.Ok (record { summary = summaryOf b.reading; padded_numbers = n }))
+  pub given : (b : Belongs L chunk) → (n : ℕ) × (r ≡ summary-answer.Ok (record { summary = summary_of b.reading; padded_numbers = n }))
   pub else : ¬ Belongs L chunk → (q : Refusal) × (r ≡ summary-answer.Err q)
 
 -- of a script that does not belong none are shown: the call has no refusal, `chunk_summary` has it
@@ -91,29 +91,29 @@ pub record TrailingShown (L : ResourceLimits) (chunk bytes : Bytes) : Type 0 whe
 pub record FieldsShown (L : ResourceLimits) (chunk : Bytes) (f : ℕ) (r : FieldsAnswer) : Type 0 where
   pub given : (b : Belongs L chunk) (p : Prototype) → get_elem? b.reading.functions f ≡ some p
       → r ≡ fields-answer.Ok (fields_of p)
-  pub no-function : (b : Belongs L chunk) → get_elem? b.reading.functions f ≡ none → r ≡ fields-answer.Err NoFunction
+  pub no_function_lem : (b : Belongs L chunk) → get_elem? b.reading.functions f ≡ none → r ≡ fields-answer.Err NoFunction
   pub else : ¬ Belongs L chunk → (q : Refusal) × (r ≡ fields-answer.Err q)
 
 -- entry i of a list of function f: `ok` of it, or `err` of a refusal
 pub record EntryShown {E X : Type 0} (list : Prototype → List E) (ok : E → X) (err : Refusal → X) (L : ResourceLimits) (chunk : Bytes) (f i : ℕ) (r : X) : Type 0 where
   pub given : (b : Belongs L chunk) (p : Prototype) → get_elem? b.reading.functions f ≡ some p → (x : E)
       → get_elem? (list p) i ≡ some x → r ≡ ok x
-  pub no-entry : (b : Belongs L chunk) (p : Prototype) → get_elem? b.reading.functions f ≡ some p
+  pub no_entry_lem : (b : Belongs L chunk) (p : Prototype) → get_elem? b.reading.functions f ≡ some p
       → get_elem? (list p) i ≡ none → r ≡ err NoEntry
-  pub no-function : (b : Belongs L chunk) → get_elem? b.reading.functions f ≡ none → r ≡ err NoFunction
+  pub no_function_lem : (b : Belongs L chunk) → get_elem? b.reading.functions f ≡ none → r ≡ err NoFunction
   pub else : ¬ Belongs L chunk → (q : Refusal) × (r ≡ err q)
 
 -- a local variable: its name in lent memory that held `old` and then holds `new`
 pub record LocalShown (L : ResourceLimits) (chunk : Bytes) (f i : ℕ) (old new : Bytes) (r : LocalAnswer) : Type 0 where
   pub given : (b : Belongs L chunk) (p : Prototype) → get_elem? b.reading.functions f ≡ some p → (l : LocalVar)
-      → get_elem? p.loc-vars i ≡ some l → length l.name.bytes ≤ length old
+      → get_elem? p.loc_vars i ≡ some l → length l.name.bytes ≤ length old
       → (r ≡ local-answer.Ok (length l.name.bytes) l.startpc l.endpc) × (new ≡ l.name.bytes ++ drop (length l.name.bytes) old)
   pub too_long : (b : Belongs L chunk) (p : Prototype) → get_elem? b.reading.functions f ≡ some p → (l : LocalVar)
-      → get_elem? p.loc-vars i ≡ some l → length old < length l.name.bytes
+      → get_elem? p.loc_vars i ≡ some l → length old < length l.name.bytes
       → (r ≡ local-answer.Err LentSpace) × (new ≡ old)
-  pub no-entry : (b : Belongs L chunk) (p : Prototype) → get_elem? b.reading.functions f ≡ some p
-      → get_elem? p.loc-vars i ≡ none → (r ≡ local-answer.Err NoEntry) × (new ≡ old)
-  pub no-function : (b : Belongs L chunk) → get_elem? b.reading.functions f ≡ none
+  pub no_entry_lem : (b : Belongs L chunk) (p : Prototype) → get_elem? b.reading.functions f ≡ some p
+      → get_elem? p.loc_vars i ≡ none → (r ≡ local-answer.Err NoEntry) × (new ≡ old)
+  pub no_function_lem : (b : Belongs L chunk) → get_elem? b.reading.functions f ≡ none
       → (r ≡ local-answer.Err NoFunction) × (new ≡ old)
   pub else : ¬ Belongs L chunk → (q : Refusal) × ((r ≡ local-answer.Err q) × (new ≡ old))
 
@@ -132,7 +132,7 @@ pub record StringShown (chunk : Bytes) (place len : ℕ) (bytes : Bytes) : Type 
       → place ≡ t.place → len ≡ length t.bytes → bytes ≡ t.bytes
   pub upvalue-name : (L : ResourceLimits) (b : Belongs L chunk) (f : ℕ) (p : Prototype)
       → get_elem? b.reading.functions f ≡ some p → (i : ℕ) (t : LuaString)
-      → get_elem? p.upvalue-names i ≡ some (some t)
+      → get_elem? p.upvalue_names_lem i ≡ some (some t)
       → place ≡ t.place → len ≡ length t.bytes → bytes ≡ t.bytes
 
 -- the archive copy, in lent memory that held `old` and then holds `new`
@@ -146,32 +146,32 @@ pub record CopyShown (L : ResourceLimits) (chunk old new : Bytes) (r : CopyAnswe
 -- ## From the contracts, by the laws of demand 3
 module _ (L : ResourceLimits) (chunk : Bytes) where
   is_read : (b : Belongs L chunk) → read L chunk ≡ shown b.reading
-  is_read b = read-complete L chunk b.reading b.ceilings b.input b.is
+  is_read b = read_complete L chunk b.reading b.ceilings b.input b.is
 
   -- all that the calls then answer
   shows : (b : Belongs L chunk) → Shows L chunk b.reading
-  shows b = shown-is-the-reading L chunk b
+  shows b = shown-is_the_reading L chunk b
 
   unread : ¬ Belongs L chunk → (q : Refusal) × (read L chunk ≡ refusal q)
   unread out = from (read L chunk) refl
     where
       from : (o : Outcome) → read L chunk ≡ o → (q : Refusal) × (read L chunk ≡ refusal q)
-      from (shown r) is = absurd (out ((read-exactly L chunk).0 (record { reading = r; is = is })))
+      from (shown r) is = absurd (out ((read_exactly L chunk).0 (record { reading = r; is = is })))
       from (refusal q) is = (q, is)
 
   refusing : (out : ¬ Belongs L chunk) → Refuses L chunk (unread out).0
   refusing out = let u = unread out in refuses L chunk u.0 u.1
 
-  entry-shown : {E X : Type 0} (list : Prototype → List E) (ok : E → X) (err : Refusal → X) (answer : Asked E → X)
+  entry_shown : {E X : Type 0} (list : Prototype → List E) (ok : E → X) (err : Refusal → X) (answer : Asked E → X)
       → ((x : E) → answer (found x) ≡ ok x) → ((q : Refusal) → answer (refused q) ≡ err q)
       → (f i : ℕ) (r : X) → r ≡ answer (entry_of list f i (read L chunk)) → EntryShown list ok err L chunk f i r
-  entry-shown list ok err answer on off f i r is = record {
+  entry_shown list ok err answer on off f i r is = record {
     given =
-        λ b p there x here. is ∙ ap answer (entry-is L chunk b.reading (is_read b) f p there list i ∙ ap (orRefuse NoEntry) here) ∙ on x;
-    no-entry =
-        λ b p there lacks. is ∙ ap answer (entry-is L chunk b.reading (is_read b) f p there list i ∙ ap (orRefuse NoEntry) lacks) ∙ off NoEntry;
-    no-function =
-        λ b lacks. is ∙ ap (λ a. answer (entryIn list i a)) (ap (functionOf f) (is_read b) ∙ ap (orRefuse NoFunction) lacks) ∙ off NoFunction;
+        λ b p there x here. is ∙ ap answer (entry_is L chunk b.reading (is_read b) f p there list i ∙ ap (or_refuse NoEntry) here) ∙ on x;
+    no_entry_lem =
+        λ b p there lacks. is ∙ ap answer (entry_is L chunk b.reading (is_read b) f p there list i ∙ ap (or_refuse NoEntry) lacks) ∙ off NoEntry;
+    no_function_lem =
+        λ b lacks. is ∙ ap (λ a. answer (entry_in list i a)) (ap (function_of f) (is_read b) ∙ ap (or_refuse NoFunction) lacks) ∙ off NoFunction;
     else = λ out. let u = unread out in (u.0, is ∙ ap (λ o. answer (entry_of list f i o)) u.1 ∙ off u.0);
   }
 
@@ -181,9 +181,9 @@ strung : (chunk : Bytes) (place len : ℕ) (bytes : Bytes) → bytes ≡ take le
 strung chunk place len bytes is t stands at long =
     is ∙ ap (λ n. take n (drop place chunk)) long ∙ ap (λ n. take (length t.bytes) (drop n chunk)) at ∙ stands.there
 
-string-told : (chunk : Bytes) (place len : ℕ) (bytes : Bytes) → bytes ≡ take len (drop place chunk)
+string_told : (chunk : Bytes) (place len : ℕ) (bytes : Bytes) → bytes ≡ take len (drop place chunk)
     → StringShown chunk place len bytes
-string-told chunk place len bytes is = record {
+string_told chunk place len bytes is = record {
   source =
       λ L b f p there t here. strung chunk place len bytes is t (subst (StandsIf chunk) here ((shows L chunk b).function f p there).source-bytes);
   short-constant =
@@ -195,22 +195,22 @@ string-told chunk place len bytes is = record {
 }
 
 -- ## Read exactly when it belongs
-pub reads-exactly : Promise summary-call.ended summary-call.Symbol.routine (λ _ chunk limits r.
+pub reads_exactly : Promise summary-call.ended summary-call.Symbol.routine (λ _ chunk limits r.
     (Answers r ↔ Belongs limits chunk.now)
     ∷ [])
-reads-exactly M 𝓤 𝓛 𝓜 𝓡 =
-    bytes-known 𝓛 𝓜 𝓡 summary-call.Symbol.routine 0 [] _ _ (summary-call.ended).kept (summary-call.clauses 𝓛 𝓜.mem 𝓡.run) (λ κs a _ r _. fact 𝓤 (Answers r ↔ Belongs a.1.0 a.0.now))
+reads_exactly M 𝓤 𝓛 𝓜 𝓡 =
+    bytes_known 𝓛 𝓜 𝓡 summary-call.Symbol.routine 0 [] _ _ (summary-call.ended).kept (summary-call.clauses 𝓛 𝓜.mem 𝓡.run) (λ κs a _ r _. fact 𝓤 (Answers r ↔ Belongs a.1.0 a.0.now))
     (λ κs a _ r _ below. fact_mono 𝓤 _ _ (λ answers. (
-      λ g. (summary-exactly a.1.0 a.0.now).0 (record { summary = g.0; answers = sym answers ∙ g.1 }),
-      λ b. (let g = (summary-exactly a.1.0 a.0.now).1 b in (g.summary, answers ∙ g.answers)),
+      λ g. (summary_exactly a.1.0 a.0.now).0 (record { summary = g.0; answers = sym answers ∙ g.1 }),
+      λ b. (let g = (summary_exactly a.1.0 a.0.now).1 b in (g.summary, answers ∙ g.answers)),
     ))) (summary-call.Met.met 𝓤 𝓛 𝓜 𝓡)
 
 -- ## What is shown is its reading
-pub summary-shown : Promise summary-call.ended summary-call.Symbol.routine (λ _ chunk limits r.
+pub summary_shown_lem : Promise summary-call.ended summary-call.Symbol.routine (λ _ chunk limits r.
     SummaryShown limits chunk.now r
     ∷ [])
-summary-shown M 𝓤 𝓛 𝓜 𝓡 =
-    bytes-known 𝓛 𝓜 𝓡 summary-call.Symbol.routine 0 [] _ _ (summary-call.ended).kept (summary-call.clauses 𝓛 𝓜.mem 𝓡.run)
+summary_shown_lem M 𝓤 𝓛 𝓜 𝓡 =
+    bytes_known 𝓛 𝓜 𝓡 summary-call.Symbol.routine 0 [] _ _ (summary-call.ended).kept (summary-call.clauses 𝓛 𝓜.mem 𝓡.run)
     (λ κs a _ r _. fact 𝓤 (SummaryShown a.1.0 a.0.now r))
     (λ κs a _ r _ below. fact_mono 𝓤 _ _ (λ is. record {
       given = λ b. (_, is ∙ (shows a.1.0 a.0.now b).summary);
@@ -221,7 +221,7 @@ pub trailing-shown : Promise trailing-call.ended trailing-call.Symbol.routine (�
     TrailingShown limits chunk.now r.now
     ∷ [])
 trailing-shown M 𝓤 𝓛 𝓜 𝓡 =
-    bytes-known 𝓛 𝓜 𝓡 trailing-call.Symbol.routine 0 [] _ _ (trailing-call.ended).kept (trailing-call.clauses 𝓛 𝓜.mem 𝓡.run)
+    bytes_known 𝓛 𝓜 𝓡 trailing-call.Symbol.routine 0 [] _ _ (trailing-call.ended).kept (trailing-call.clauses 𝓛 𝓜.mem 𝓡.run)
     (λ κs a _ r _. fact 𝓤 (TrailingShown a.1.0 a.0.now r.now))
     (λ κs a _ r _ below. fact_mono 𝓤 _ _ (λ is. record {
       given = λ b. is ∙ (shows a.1.0 a.0.now b).trailing;
@@ -232,19 +232,19 @@ pub string-shown : Promise string-call.ended string-call.Symbol.routine (λ _ ch
     StringShown chunk.now place len r.now
     ∷ [])
 string-shown M 𝓤 𝓛 𝓜 𝓡 =
-    bytes-known 𝓛 𝓜 𝓡 string-call.Symbol.routine 0 [] _ _ (string-call.ended).kept (string-call.clauses 𝓛 𝓜.mem 𝓡.run)
+    bytes_known 𝓛 𝓜 𝓡 string-call.Symbol.routine 0 [] _ _ (string-call.ended).kept (string-call.clauses 𝓛 𝓜.mem 𝓡.run)
     (λ κs a _ r _. fact 𝓤 (StringShown a.0.now a.1.0 a.1.1.0 r.now))
-    (λ κs a _ r _ below. fact_mono 𝓤 _ _ (string-told a.0.now a.1.0 a.1.1.0 r.now)) (string-call.Met.met 𝓤 𝓛 𝓜 𝓡)
+    (λ κs a _ r _ below. fact_mono 𝓤 _ _ (string_told a.0.now a.1.0 a.1.1.0 r.now)) (string-call.Met.met 𝓤 𝓛 𝓜 𝓡)
 
-pub fields-shown : Promise fields-call.ended fields-call.Symbol.routine (λ _ chunk limits function r.
+pub fields_shown_lem : Promise fields-call.ended fields-call.Symbol.routine (λ _ chunk limits function r.
     FieldsShown limits chunk.now function r
     ∷ [])
-fields-shown M 𝓤 𝓛 𝓜 𝓡 =
-    bytes-known 𝓛 𝓜 𝓡 fields-call.Symbol.routine 0 [] _ _ (fields-call.ended).kept (fields-call.clauses 𝓛 𝓜.mem 𝓡.run)
+fields_shown_lem M 𝓤 𝓛 𝓜 𝓡 =
+    bytes_known 𝓛 𝓜 𝓡 fields-call.Symbol.routine 0 [] _ _ (fields-call.ended).kept (fields-call.clauses 𝓛 𝓜.mem 𝓡.run)
     (λ κs a _ r _. fact 𝓤 (FieldsShown a.1.0 a.0.now a.1.1.0 r))
     (λ κs a _ r _ below. fact_mono 𝓤 _ _ (λ is. record {
       given = λ b p there. is ∙ ((shows a.1.0 a.0.now b).function a.1.1.0 p there).fields;
-      no-function = λ b lacks. is ∙ ((shows a.1.0 a.0.now b).no-function a.1.1.0 lacks).fields;
+      no_function_lem = λ b lacks. is ∙ ((shows a.1.0 a.0.now b).no_function_lem a.1.1.0 lacks).fields;
       else = λ out. (_, is ∙ ((refusing a.1.0 a.0.now out).function a.1.1.0).fields);
     })) (fields-call.Met.met 𝓤 𝓛 𝓜 𝓡)
 
@@ -252,65 +252,65 @@ pub instruction-shown : Promise instruction-call.ended instruction-call.Symbol.r
     EntryShown (λ p. p.instructions) word-answer.Ok word-answer.Err limits chunk.now function entry r
     ∷ [])
 instruction-shown M 𝓤 𝓛 𝓜 𝓡 =
-    bytes-known 𝓛 𝓜 𝓡 instruction-call.Symbol.routine 0 [] _ _ (instruction-call.ended).kept (instruction-call.clauses 𝓛 𝓜.mem 𝓡.run)
+    bytes_known 𝓛 𝓜 𝓡 instruction-call.Symbol.routine 0 [] _ _ (instruction-call.ended).kept (instruction-call.clauses 𝓛 𝓜.mem 𝓡.run)
     (λ κs a _ r _. fact 𝓤 (EntryShown (λ p. p.instructions) word-answer.Ok word-answer.Err a.1.0 a.0.now a.1.1.0 a.1.1.1.0 r))
-    (λ κs a _ r _ below. fact_mono 𝓤 _ _ (entry-shown a.1.0 a.0.now (λ p. p.instructions) word-answer.Ok word-answer.Err shownWord (λ x. refl) (λ q. refl) a.1.1.0 a.1.1.1.0 r)) (instruction-call.Met.met 𝓤 𝓛 𝓜 𝓡)
+    (λ κs a _ r _ below. fact_mono 𝓤 _ _ (entry_shown a.1.0 a.0.now (λ p. p.instructions) word-answer.Ok word-answer.Err shown_word (λ x. refl) (λ q. refl) a.1.1.0 a.1.1.1.0 r)) (instruction-call.Met.met 𝓤 𝓛 𝓜 𝓡)
 
 pub constant-shown : Promise constant-call.ended constant-call.Symbol.routine (λ _ chunk limits function entry r.
-    EntryShown (λ p. p.constants) (λ k. constant-answer.Ok (constantValue k)) constant-answer.Err limits chunk.now function entry r
+    EntryShown (λ p. p.constants) (λ k. constant-answer.Ok (constant_value k)) constant-answer.Err limits chunk.now function entry r
     ∷ [])
 constant-shown M 𝓤 𝓛 𝓜 𝓡 =
-    bytes-known 𝓛 𝓜 𝓡 constant-call.Symbol.routine 0 [] _ _ (constant-call.ended).kept (constant-call.clauses 𝓛 𝓜.mem 𝓡.run)
-    (λ κs a _ r _. fact 𝓤 (EntryShown (λ p. p.constants) (λ k. constant-answer.Ok (constantValue k)) constant-answer.Err a.1.0 a.0.now a.1.1.0 a.1.1.1.0 r))
-    (λ κs a _ r _ below. fact_mono 𝓤 _ _ (entry-shown a.1.0 a.0.now (λ p. p.constants) (λ k. constant-answer.Ok (constantValue k)) constant-answer.Err shownConstant (λ x. refl) (λ q. refl) a.1.1.0 a.1.1.1.0 r)) (constant-call.Met.met 𝓤 𝓛 𝓜 𝓡)
+    bytes_known 𝓛 𝓜 𝓡 constant-call.Symbol.routine 0 [] _ _ (constant-call.ended).kept (constant-call.clauses 𝓛 𝓜.mem 𝓡.run)
+    (λ κs a _ r _. fact 𝓤 (EntryShown (λ p. p.constants) (λ k. constant-answer.Ok (constant_value k)) constant-answer.Err a.1.0 a.0.now a.1.1.0 a.1.1.1.0 r))
+    (λ κs a _ r _ below. fact_mono 𝓤 _ _ (entry_shown a.1.0 a.0.now (λ p. p.constants) (λ k. constant-answer.Ok (constant_value k)) constant-answer.Err shown_constant (λ x. refl) (λ q. refl) a.1.1.0 a.1.1.1.0 r)) (constant-call.Met.met 𝓤 𝓛 𝓜 𝓡)
 
 pub upvalue-shown : Promise upvalue-call.ended upvalue-call.Symbol.routine (λ _ chunk limits function entry r.
     EntryShown (λ p. p.upvalues) upvalue-answer.Ok upvalue-answer.Err limits chunk.now function entry r
     ∷ [])
 upvalue-shown M 𝓤 𝓛 𝓜 𝓡 =
-    bytes-known 𝓛 𝓜 𝓡 upvalue-call.Symbol.routine 0 [] _ _ (upvalue-call.ended).kept (upvalue-call.clauses 𝓛 𝓜.mem 𝓡.run)
+    bytes_known 𝓛 𝓜 𝓡 upvalue-call.Symbol.routine 0 [] _ _ (upvalue-call.ended).kept (upvalue-call.clauses 𝓛 𝓜.mem 𝓡.run)
     (λ κs a _ r _. fact 𝓤 (EntryShown (λ p. p.upvalues) upvalue-answer.Ok upvalue-answer.Err a.1.0 a.0.now a.1.1.0 a.1.1.1.0 r))
-    (λ κs a _ r _ below. fact_mono 𝓤 _ _ (entry-shown a.1.0 a.0.now (λ p. p.upvalues) upvalue-answer.Ok upvalue-answer.Err shownUpvalue (λ x. refl) (λ q. refl) a.1.1.0 a.1.1.1.0 r)) (upvalue-call.Met.met 𝓤 𝓛 𝓜 𝓡)
+    (λ κs a _ r _ below. fact_mono 𝓤 _ _ (entry_shown a.1.0 a.0.now (λ p. p.upvalues) upvalue-answer.Ok upvalue-answer.Err shown_upvalue (λ x. refl) (λ q. refl) a.1.1.0 a.1.1.1.0 r)) (upvalue-call.Met.met 𝓤 𝓛 𝓜 𝓡)
 
 -- a byte as a signed number
-pub delta-shown : Promise delta-call.ended delta-call.Symbol.routine (λ _ chunk limits function entry r.
-    EntryShown (λ p. p.line-info) (λ x. delta-answer.Ok (to_z w8 x)) delta-answer.Err limits chunk.now function entry r
+pub delta_shown : Promise delta-call.ended delta-call.Symbol.routine (λ _ chunk limits function entry r.
+    EntryShown (λ p. p.line_info_lem) (λ x. delta-answer.Ok (to_z w8 x)) delta-answer.Err limits chunk.now function entry r
     ∷ [])
-delta-shown M 𝓤 𝓛 𝓜 𝓡 =
-    bytes-known 𝓛 𝓜 𝓡 delta-call.Symbol.routine 0 [] _ _ (delta-call.ended).kept (delta-call.clauses 𝓛 𝓜.mem 𝓡.run)
-    (λ κs a _ r _. fact 𝓤 (EntryShown (λ p. p.line-info) (λ x. delta-answer.Ok (to_z w8 x)) delta-answer.Err a.1.0 a.0.now a.1.1.0 a.1.1.1.0 r))
-    (λ κs a _ r _ below. fact_mono 𝓤 _ _ (entry-shown a.1.0 a.0.now (λ p. p.line-info) (λ x. delta-answer.Ok (to_z w8 x)) delta-answer.Err shownDelta (λ x. refl) (λ q. refl) a.1.1.0 a.1.1.1.0 r)) (delta-call.Met.met 𝓤 𝓛 𝓜 𝓡)
+delta_shown M 𝓤 𝓛 𝓜 𝓡 =
+    bytes_known 𝓛 𝓜 𝓡 delta-call.Symbol.routine 0 [] _ _ (delta-call.ended).kept (delta-call.clauses 𝓛 𝓜.mem 𝓡.run)
+    (λ κs a _ r _. fact 𝓤 (EntryShown (λ p. p.line_info_lem) (λ x. delta-answer.Ok (to_z w8 x)) delta-answer.Err a.1.0 a.0.now a.1.1.0 a.1.1.1.0 r))
+    (λ κs a _ r _ below. fact_mono 𝓤 _ _ (entry_shown a.1.0 a.0.now (λ p. p.line_info_lem) (λ x. delta-answer.Ok (to_z w8 x)) delta-answer.Err shown_delta (λ x. refl) (λ q. refl) a.1.1.0 a.1.1.1.0 r)) (delta-call.Met.met 𝓤 𝓛 𝓜 𝓡)
 
 pub anchor-shown : Promise anchor-call.ended anchor-call.Symbol.routine (λ _ chunk limits function entry r.
-    EntryShown (λ p. p.abs-line-info) anchor-answer.Ok anchor-answer.Err limits chunk.now function entry r
+    EntryShown (λ p. p.abs_line_info) anchor-answer.Ok anchor-answer.Err limits chunk.now function entry r
     ∷ [])
 anchor-shown M 𝓤 𝓛 𝓜 𝓡 =
-    bytes-known 𝓛 𝓜 𝓡 anchor-call.Symbol.routine 0 [] _ _ (anchor-call.ended).kept (anchor-call.clauses 𝓛 𝓜.mem 𝓡.run)
-    (λ κs a _ r _. fact 𝓤 (EntryShown (λ p. p.abs-line-info) anchor-answer.Ok anchor-answer.Err a.1.0 a.0.now a.1.1.0 a.1.1.1.0 r))
-    (λ κs a _ r _ below. fact_mono 𝓤 _ _ (entry-shown a.1.0 a.0.now (λ p. p.abs-line-info) anchor-answer.Ok anchor-answer.Err shownAnchor (λ x. refl) (λ q. refl) a.1.1.0 a.1.1.1.0 r)) (anchor-call.Met.met 𝓤 𝓛 𝓜 𝓡)
+    bytes_known 𝓛 𝓜 𝓡 anchor-call.Symbol.routine 0 [] _ _ (anchor-call.ended).kept (anchor-call.clauses 𝓛 𝓜.mem 𝓡.run)
+    (λ κs a _ r _. fact 𝓤 (EntryShown (λ p. p.abs_line_info) anchor-answer.Ok anchor-answer.Err a.1.0 a.0.now a.1.1.0 a.1.1.1.0 r))
+    (λ κs a _ r _ below. fact_mono 𝓤 _ _ (entry_shown a.1.0 a.0.now (λ p. p.abs_line_info) anchor-answer.Ok anchor-answer.Err shown_anchor (λ x. refl) (λ q. refl) a.1.1.0 a.1.1.1.0 r)) (anchor-call.Met.met 𝓤 𝓛 𝓜 𝓡)
 
 pub upvalue-name-shown : Promise upvalue-name-call.ended upvalue-name-call.Symbol.routine (λ _ chunk limits function entry r.
-    EntryShown (λ p. p.upvalue-names) (λ t. name-answer.Ok (optionString t)) name-answer.Err limits chunk.now function entry r
+    EntryShown (λ p. p.upvalue_names_lem) (λ t. name-answer.Ok (option_string t)) name-answer.Err limits chunk.now function entry r
     ∷ [])
 upvalue-name-shown M 𝓤 𝓛 𝓜 𝓡 =
-    bytes-known 𝓛 𝓜 𝓡 upvalue-name-call.Symbol.routine 0 [] _ _ (upvalue-name-call.ended).kept (upvalue-name-call.clauses 𝓛 𝓜.mem 𝓡.run)
-    (λ κs a _ r _. fact 𝓤 (EntryShown (λ p. p.upvalue-names) (λ t. name-answer.Ok (optionString t)) name-answer.Err a.1.0 a.0.now a.1.1.0 a.1.1.1.0 r))
-    (λ κs a _ r _ below. fact_mono 𝓤 _ _ (entry-shown a.1.0 a.0.now (λ p. p.upvalue-names) (λ t. name-answer.Ok (optionString t)) name-answer.Err shownName (λ x. refl) (λ q. refl) a.1.1.0 a.1.1.1.0 r)) (upvalue-name-call.Met.met 𝓤 𝓛 𝓜 𝓡)
+    bytes_known 𝓛 𝓜 𝓡 upvalue-name-call.Symbol.routine 0 [] _ _ (upvalue-name-call.ended).kept (upvalue-name-call.clauses 𝓛 𝓜.mem 𝓡.run)
+    (λ κs a _ r _. fact 𝓤 (EntryShown (λ p. p.upvalue_names_lem) (λ t. name-answer.Ok (option_string t)) name-answer.Err a.1.0 a.0.now a.1.1.0 a.1.1.1.0 r))
+    (λ κs a _ r _ below. fact_mono 𝓤 _ _ (entry_shown a.1.0 a.0.now (λ p. p.upvalue_names_lem) (λ t. name-answer.Ok (option_string t)) name-answer.Err shown_name (λ x. refl) (λ q. refl) a.1.1.0 a.1.1.1.0 r)) (upvalue-name-call.Met.met 𝓤 𝓛 𝓜 𝓡)
 
 pub local-shown : Promise local-call.ended local-call.Symbol.routine (λ _ chunk limits function entry name name' r.
     LocalShown limits chunk.now function entry name.now name'.now r
     ∷ [])
 local-shown M 𝓤 𝓛 𝓜 𝓡 =
-    bytes-known 𝓛 𝓜 𝓡 local-call.Symbol.routine 1 [] _ _ (local-call.ended).kept (local-call.clauses 𝓛 𝓜.mem 𝓡.run)
+    bytes_known 𝓛 𝓜 𝓡 local-call.Symbol.routine 1 [] _ _ (local-call.ended).kept (local-call.clauses 𝓛 𝓜.mem 𝓡.run)
     (λ κs a _ r end. fact 𝓤 (LocalShown a.1.0 a.0.now a.1.1.0 a.1.1.1.0 a.1.1.1.1.0.now end.1.1.1.1.0.now r))
     (λ κs a _ r end below. both 𝓤 _ _ _ (λ is leaves.
     let old = a.1.1.1.1.0.now in
     record {
       given = λ b p there l here room. (let x = ((shows a.1.0 a.0.now b).function a.1.1.0 p there).local a.1.1.1.0 l here old room in (is ∙ x.0, leaves ∙ x.1));
-      too_long = λ b p there l here short. (let x = ((shows a.1.0 a.0.now b).function a.1.1.0 p there).local-too-long a.1.1.1.0 l here old short in (is ∙ x.0, leaves ∙ x.1));
-      no-entry = λ b p there lacks. (let x = ((shows a.1.0 a.0.now b).function a.1.1.0 p there).no_local a.1.1.1.0 lacks old in (is ∙ x.0, leaves ∙ x.1));
-      no-function =
-          λ b lacks. (let x = ((shows a.1.0 a.0.now b).no-function a.1.1.0 lacks).local a.1.1.1.0 old in (is ∙ x.0, leaves ∙ x.1));
+      too_long = λ b p there l here short. (let x = ((shows a.1.0 a.0.now b).function a.1.1.0 p there).local_too_long a.1.1.1.0 l here old short in (is ∙ x.0, leaves ∙ x.1));
+      no_entry_lem = λ b p there lacks. (let x = ((shows a.1.0 a.0.now b).function a.1.1.0 p there).no_local a.1.1.1.0 lacks old in (is ∙ x.0, leaves ∙ x.1));
+      no_function_lem =
+          λ b lacks. (let x = ((shows a.1.0 a.0.now b).no_function_lem a.1.1.0 lacks).local a.1.1.1.0 old in (is ∙ x.0, leaves ∙ x.1));
       else =
           λ out. (let x = ((refusing a.1.0 a.0.now out).function a.1.1.0).local a.1.1.1.0 old in (_, (is ∙ x.0, leaves ∙ x.1)));
     }))
@@ -327,7 +327,7 @@ pub written_read : Promise copy-call.ended copy-call.Symbol.routine (λ _ chunk 
     ((b : Belongs limits chunk.now) (n : ℕ) → r ≡ copy-answer.Ok n → 1 ≤ limits.max_string_bytes → length (take n out'.now) ≤ limits.max_input_bytes → Again limits b.reading (take n out'.now))
     ∷ [])
 written_read M 𝓤 𝓛 𝓜 𝓡 =
-    bytes-known 𝓛 𝓜 𝓡 copy-call.Symbol.routine 1 [] _ _ (copy-call.ended).kept (copy-call.clauses 𝓛 𝓜.mem 𝓡.run)
+    bytes_known 𝓛 𝓜 𝓡 copy-call.Symbol.routine 1 [] _ _ (copy-call.ended).kept (copy-call.clauses 𝓛 𝓜.mem 𝓡.run)
     (λ κs a _ r end. fact 𝓤 ((b : Belongs a.1.0 a.0.now) (n : ℕ) → r ≡ copy-answer.Ok n → 1 ≤ a.1.0.max_string_bytes → length (take n end.1.1.0.now) ≤ a.1.0.max_input_bytes → Again a.1.0 b.reading (take n end.1.1.0.now)))
     (λ κs a _ r end below. both 𝓤 _ _ _ (λ answers leaves b n e string input.
     (let x = written-is-read a.1.0 a.0.now a.1.1.0.now (take n end.1.1.0.now) b (record { len = n; new = end.1.1.0.now; call = record { below = below; answers = sym e ∙ answers; leaves = leaves }; bytes = refl }) string input in record { belongs = x.belongs; same = x.same })))
@@ -337,14 +337,14 @@ pub written-copy : Promise copy-call.ended copy-call.Symbol.routine (λ _ chunk 
     CopyShown limits chunk.now out.now out'.now r
     ∷ [])
 written-copy M 𝓤 𝓛 𝓜 𝓡 =
-    bytes-known 𝓛 𝓜 𝓡 copy-call.Symbol.routine 1 [] _ _ (copy-call.ended).kept (copy-call.clauses 𝓛 𝓜.mem 𝓡.run)
+    bytes_known 𝓛 𝓜 𝓡 copy-call.Symbol.routine 1 [] _ _ (copy-call.ended).kept (copy-call.clauses 𝓛 𝓜.mem 𝓡.run)
     (λ κs a _ r end. fact 𝓤 (CopyShown a.1.0 a.0.now a.1.1.0.now end.1.1.0.now r))
     (λ κs a _ r end below. both 𝓤 _ _ _ (λ is leaves.
     let old = a.1.1.0.now in
     record {
       given = λ b room. (let x = (shows a.1.0 a.0.now b).copied old room in (is ∙ x.0, leaves ∙ x.1));
       too_long =
-          λ b short. (let x = (shows a.1.0 a.0.now b).copy-too-long old short in (is ∙ x.0, leaves ∙ x.1));
+          λ b short. (let x = (shows a.1.0 a.0.now b).copy_too_long old short in (is ∙ x.0, leaves ∙ x.1));
       else = λ out. (let x = (refusing a.1.0 a.0.now out).copied old in (_, (is ∙ x.0, leaves ∙ x.1)));
     }))
     (copy-call.Met.met 𝓤 𝓛 𝓜 𝓡)

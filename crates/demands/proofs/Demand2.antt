@@ -4,10 +4,10 @@
 --                                              and of each slice that is lent as `&mut`, x before the call and x' after it. `now x` is what stands behind a reference
 -- Each line is an equation with a definition that mirrors the Rust, and antt holds it to be the contract's own clause, word for word. That the definitions are the Rust's was compared by running, since it cannot be
 -- proved: crates/vectors replays the kept answers of the unchanged Rust, oracle/findings asks it. What is compared there is said with each group.
---     as-the-rust      validation as validator.rs has it, a list and a flag, on every chunk that is read. CALL-as-the-rust: so the promises of the calls that validate, said by the Rust's list and flag
---     as-lua-loads     the format against Lua's C: what Lua's own loader takes is read, and the reading is what it loads. And back: Request07.antt, `strict-as-lua`, `strict-then-read`, `only-besides`: a chunk that is read is one
+--     as_the_rust      validation as validator.rs has it, a list and a flag, on every chunk that is read. CALL-as-the-rust: so the promises of the calls that validate, said by the Rust's list and flag
+--     as_lua_loads     the format against Lua's C: what Lua's own loader takes is read, and the reading is what it loads. And back: Request07.antt, `strict-as-lua`, `strict-then-read`, `only-besides`: a chunk that is read is one
 --                      that Lua loads, or refusal 31, 32 or 33 of the stricter reading says why it is not
---     as-lua-dumps     what the copying call writes is what Lua's own dumper writes; as-lua-strips: with strip
+--     as_lua_dumps     what the copying call writes is what Lua's own dumper writes; as-lua-strips: with strip
 -- Assumes nothing.
 use mathlib.Core.Path.{◌≡◌, refl, ap, sym, ◌∙◌}
 use Prim.Native.Nat.{ℕ, ◌<◌, ◌≤◌}
@@ -20,43 +20,43 @@ use Rattle.format.specs.declared.refusal.Refusal.{Refusal}
 use Rattle.format.specs.Reading.{Reading}
 use Rattle.format.specs.Form.{Bytes, All}
 use Rattle.format.specs.Limits as limits
-use Rattle.format.specs.Limits.{withinCeilings}
+use Rattle.format.specs.Limits.{within_ceilings}
 use Rattle.format.specs.Refusals.{reported}
 use Rattle.format.specs.Warnings.{warned}
 use Rattle.format.specs.GrammarChunk.{Loaded, outermost, reading}
 use Rattle.format.specs.ReadChunk.{Outcome, shown, refusal, read}
 use Rattle.format_lua.specs.LundumpFunctions.{Undump}
-use Rattle.format_lua.specs.LdumpFunctions.{luaU_dump}
-use Rattle.format.proofs.ReadChunkLaws.{read-sound}
-use Rattle.format_lua.proofs.LdumpWhole.{source_of, AsLua, AsStripped, copy-as-dumped, copy-as-stripped}
+use Rattle.format_lua.specs.LdumpFunctions.{lua_u_dump}
+use Rattle.format.proofs.ReadChunkLaws.{read_sound}
+use Rattle.format_lua.proofs.LdumpWhole.{source_of, AsLua, AsStripped, copy_as_dumped, copy_as_stripped}
 use Rattle.format_lua.specs.LundumpWithin.{FunctionsWithin}
 use Rattle.format_lua.proofs.LundumpChunk.{loaded-is-read}
-use Rattle.show_row.specs.Asked.{functionOf, entry_of}
-use Rattle.index.specs.Index.{shownIndex, indexWritten}
-use Rattle.line_lookup.specs.Lines.{shownLine}
-use Rattle.show_chunk.specs.Summaries.{shownSummary, trailingOf}
-use Rattle.show_chunk.specs.Fields.{shownFields}
-use Rattle.show_entry.specs.Entries.{shownWord, shownConstant, shownUpvalue, shownDelta, shownAnchor, shownName}
-use Rattle.show_local.specs.Locals.{shownLocal, nameWritten}
-use Rattle.copy.specs.Copied.{shownLength, shownCopy, copyWritten}
-use Rattle.copy_full.specs.InFull.{shownFullLength, shownFull, fullWritten}
+use Rattle.show_row.specs.Asked.{function_of, entry_of}
+use Rattle.index.specs.Index.{shown_index, index_written}
+use Rattle.line_lookup.specs.Lines.{shown_line}
+use Rattle.show_chunk.specs.Summaries.{shown_summary, trailing_of}
+use Rattle.show_chunk.specs.Fields.{shown_fields}
+use Rattle.show_entry.specs.Entries.{shown_word, shown_constant, shown_upvalue, shown_delta, shown_anchor, shown_name}
+use Rattle.show_local.specs.Locals.{shown_local, name_written}
+use Rattle.copy.specs.Copied.{shown_length, shown_copy, copy_written}
+use Rattle.copy_full.specs.InFull.{shown_full_length, shown_full, full_written}
 use Rattle.validate_rules.specs.declared.finding.Finding.{Finding}
-use Rattle.validate_rules.specs.Findings.{Listing, chunkFindings, verdict}
+use Rattle.validate_rules.specs.Findings.{Listing, chunk_findings, verdict}
 use Rattle.validate_rules.specs.Rust as rust
 use Rattle.validate_verdict.specs.declared.verdict.VerdictAnswer.TheVariants as verdicts
 use Rattle.validate_verdict.specs.declared.verdict.CountAnswer.TheVariants as counts
 use Rattle.validate_verdict.specs.Answers.{shownVerdict, shownCount}
-use Rattle.validate_verdict.proofs.Chunk.{findings-are}
+use Rattle.validate_verdict.proofs.Chunk.{findings_are}
 use Rattle.validate_plan.specs.declared.FindingsAnswer.TheVariants as answers
-use Rattle.validate_plan.specs.Validated.{listingAnswer, shownFindings, findingsWritten}
-use Rattle.validate_findings.specs.Blank.{LONGEST, blankList}
+use Rattle.validate_plan.specs.Validated.{listing_answer, shown_findings, findings_written}
+use Rattle.validate_findings.specs.Blank.{LONGEST, blank_list}
 use Rattle.word_fields.specs.Word.{decoded, encoded}
 use Rattle.text_print.specs.Output.{waiting, puts}
 use Rattle.chunklist_listing.specs.Listing as listings
 use Rattle.format.proofs.limits.ResourceLimits.ceilings as ceilings-call
 use Rattle.format.proofs.limits.ResourceLimits.within_ceilings as within-ceilings-call
 use Rattle.format_spelling.specs.ReadSpelling.{spelling}
-use Rattle.format_strict.specs.ReadStrict.{strictRead}
+use Rattle.format_strict.specs.ReadStrict.{strict_read}
 use Rattle.format_report.proofs.report_refusal as report-refusal-call
 use Rattle.format_report.proofs.report_warning as report-warning-call
 use Rattle.show_chunk.proofs.summary.chunk_summary as chunk-summary-call
@@ -89,124 +89,124 @@ use Rattle.demands.proofs.Promise.{Promise, PromiseWhere}
 use Rattle.slice.specs.Over.{over}
 
 -- ## Chunks. (The Rust has no count of padded numbers: `Request01.antt`.) Compared: 5,528 chunks, each with its summary, every field and entry, the index, the copy and the lines (crates/vectors); 150,000 more were asked once (docs/DIFFERENCES.md).
-pub chunk-summary : Promise chunk-summary-call.ended chunk-summary-call.Symbol.routine (λ _ chunk limits r.
-    (r ≡ shownSummary (spelling limits chunk.now) (read limits chunk.now))
+pub chunk_summary : Promise chunk-summary-call.ended chunk-summary-call.Symbol.routine (λ _ chunk limits r.
+    (r ≡ shown_summary (spelling limits chunk.now) (read limits chunk.now))
     ∷ [])
-chunk-summary _ = chunk-summary-call.Met.met
+chunk_summary _ = chunk-summary-call.Met.met
 
 -- what the Rust has not: the stricter reading (02, item 7: `Request07.antt`)
-pub strict-summary : Promise strict-summary-call.ended strict-summary-call.Symbol.routine (λ _ chunk limits r.
-    (r ≡ shownSummary (spelling limits chunk.now) (strictRead limits chunk.now))
+pub strict_summary : Promise strict-summary-call.ended strict-summary-call.Symbol.routine (λ _ chunk limits r.
+    (r ≡ shown_summary (spelling limits chunk.now) (strict_read limits chunk.now))
     ∷ [])
-strict-summary _ = strict-summary-call.Met.met
+strict_summary _ = strict-summary-call.Met.met
 
 pub trailing-bytes : Promise trailing-bytes-call.ended trailing-bytes-call.Symbol.routine (λ _ chunk limits r.
-    (r.now ≡ trailingOf (read limits chunk.now))
+    (r.now ≡ trailing_of (read limits chunk.now))
     ∷ [])
 trailing-bytes _ = trailing-bytes-call.Met.met
 
-pub string_bytes : Promise string-bytes-call.ended string-bytes-call.Symbol.routine (λ _ chunk place len r.
+pub string_bytes_lem : Promise string-bytes-call.ended string-bytes-call.Symbol.routine (λ _ chunk place len r.
     (r.now ≡ take len (drop place chunk.now))
     ∷ [])
-string_bytes _ = string-bytes-call.Met.met
+string_bytes_lem _ = string-bytes-call.Met.met
 
-pub function-fields : Promise function-fields-call.ended function-fields-call.Symbol.routine (λ _ chunk limits function r.
-    (r ≡ shownFields (functionOf function (read limits chunk.now)))
+pub function_fields : Promise function-fields-call.ended function-fields-call.Symbol.routine (λ _ chunk limits function r.
+    (r ≡ shown_fields (function_of function (read limits chunk.now)))
     ∷ [])
-function-fields _ = function-fields-call.Met.met
+function_fields _ = function-fields-call.Met.met
 
 pub instruction : Promise instruction-call.ended instruction-call.Symbol.routine (λ _ chunk limits function entry r.
-    (r ≡ shownWord (entry_of (λ p. p.instructions) function entry (read limits chunk.now)))
+    (r ≡ shown_word (entry_of (λ p. p.instructions) function entry (read limits chunk.now)))
     ∷ [])
 instruction _ = instruction-call.Met.met
 
 pub constant : Promise constant-call.ended constant-call.Symbol.routine (λ _ chunk limits function entry r.
-    (r ≡ shownConstant (entry_of (λ p. p.constants) function entry (read limits chunk.now)))
+    (r ≡ shown_constant (entry_of (λ p. p.constants) function entry (read limits chunk.now)))
     ∷ [])
 constant _ = constant-call.Met.met
 
 pub upvalue : Promise upvalue-call.ended upvalue-call.Symbol.routine (λ _ chunk limits function entry r.
-    (r ≡ shownUpvalue (entry_of (λ p. p.upvalues) function entry (read limits chunk.now)))
+    (r ≡ shown_upvalue (entry_of (λ p. p.upvalues) function entry (read limits chunk.now)))
     ∷ [])
 upvalue _ = upvalue-call.Met.met
 
 pub delta : Promise delta-call.ended delta-call.Symbol.routine (λ _ chunk limits function entry r.
-    (r ≡ shownDelta (entry_of (λ p. p.line-info) function entry (read limits chunk.now)))
+    (r ≡ shown_delta (entry_of (λ p. p.line_info_lem) function entry (read limits chunk.now)))
     ∷ [])
 delta _ = delta-call.Met.met
 
 pub anchor : Promise anchor-call.ended anchor-call.Symbol.routine (λ _ chunk limits function entry r.
-    (r ≡ shownAnchor (entry_of (λ p. p.abs-line-info) function entry (read limits chunk.now)))
+    (r ≡ shown_anchor (entry_of (λ p. p.abs_line_info) function entry (read limits chunk.now)))
     ∷ [])
 anchor _ = anchor-call.Met.met
 
 pub upvalue-name : Promise upvalue-name-call.ended upvalue-name-call.Symbol.routine (λ _ chunk limits function entry r.
-    (r ≡ shownName (entry_of (λ p. p.upvalue-names) function entry (read limits chunk.now)))
+    (r ≡ shown_name (entry_of (λ p. p.upvalue_names_lem) function entry (read limits chunk.now)))
     ∷ [])
 upvalue-name _ = upvalue-name-call.Met.met
 
 pub local : Promise local-call.ended local-call.Symbol.routine (λ _ chunk limits function entry name name' r.
-    (r ≡ shownLocal (length name.now) (entry_of (λ p. p.loc-vars) function entry (read limits chunk.now)))
-    ∷ (name'.now ≡ nameWritten name.now (entry_of (λ p. p.loc-vars) function entry (read limits chunk.now)))
+    (r ≡ shown_local (length name.now) (entry_of (λ p. p.loc_vars) function entry (read limits chunk.now)))
+    ∷ (name'.now ≡ name_written name.now (entry_of (λ p. p.loc_vars) function entry (read limits chunk.now)))
     ∷ [])
 local _ = local-call.Met.met
 
 pub function-index : Promise function-index-call.ended function-index-call.Symbol.routine (λ _ chunk limits rows rows' r.
-    (r ≡ shownIndex (length rows.now) (read limits chunk.now))
-    ∷ (rows'.now ≡ indexWritten rows.now (read limits chunk.now))
+    (r ≡ shown_index (length rows.now) (read limits chunk.now))
+    ∷ (rows'.now ≡ index_written rows.now (read limits chunk.now))
     ∷ [])
 function-index _ = function-index-call.Met.met
 
 -- ## Lines. Compared: 910 requests on lines alone (crates/vectors), beside those of the chunks above.
-pub get-line-for-pc : Promise get-line-for-pc-call.ended get-line-for-pc-call.Symbol.routine (λ _ chunk limits function pc r.
-    (r ≡ shownLine pc (functionOf function (read limits chunk.now)))
+pub get_line_for_pc : Promise get-line-for-pc-call.ended get-line-for-pc-call.Symbol.routine (λ _ chunk limits function pc r.
+    (r ≡ shown_line pc (function_of function (read limits chunk.now)))
     ∷ [])
-get-line-for-pc _ = get-line-for-pc-call.Met.met
+get_line_for_pc _ = get-line-for-pc-call.Met.met
 
 -- ## The archive copy: its length, and the copy in lent memory.
 pub copy-length : Promise copy-length-call.ended copy-length-call.Symbol.routine (λ _ chunk limits r.
-    (r ≡ shownLength (read limits chunk.now))
+    (r ≡ shown_length (read limits chunk.now))
     ∷ [])
 copy-length _ = copy-length-call.Met.met
 
-pub encode-chunk-lua54 : Promise encode-chunk-lua54-call.ended encode-chunk-lua54-call.Symbol.routine (λ _ chunk limits out out' r.
-    (r ≡ shownCopy (length out.now) (read limits chunk.now))
-    ∷ (out'.now ≡ copyWritten out.now (read limits chunk.now))
+pub encode_chunk_lua54 : Promise encode-chunk-lua54-call.ended encode-chunk-lua54-call.Symbol.routine (λ _ chunk limits out out' r.
+    (r ≡ shown_copy (length out.now) (read limits chunk.now))
+    ∷ (out'.now ≡ copy_written out.now (read limits chunk.now))
     ∷ [])
-encode-chunk-lua54 _ = encode-chunk-lua54-call.Met.met
+encode_chunk_lua54 _ = encode-chunk-lua54-call.Met.met
 
 -- ## The full copy. (The Rust has none: `Request06.antt`.) Compared with one that is made of what the Rust decodes (compare/src/full.rs).
-pub full-copy-length : Promise full-copy-length-call.ended full-copy-length-call.Symbol.routine (λ _ chunk limits r.
-    (r ≡ shownFullLength (read limits chunk.now))
+pub full_copy-length : Promise full-copy-length-call.ended full-copy-length-call.Symbol.routine (λ _ chunk limits r.
+    (r ≡ shown_full_length (read limits chunk.now))
     ∷ [])
-full-copy-length _ = full-copy-length-call.Met.met
+full_copy-length _ = full-copy-length-call.Met.met
 
-pub full-copy : Promise full-copy-call.ended full-copy-call.Symbol.routine (λ _ chunk limits out out' r.
-    (r ≡ shownFull (length out.now) (read limits chunk.now))
-    ∷ (out'.now ≡ fullWritten out.now (read limits chunk.now))
+pub full_copy_lem : Promise full-copy-call.ended full-copy-call.Symbol.routine (λ _ chunk limits out out' r.
+    (r ≡ shown_full (length out.now) (read limits chunk.now))
+    ∷ (out'.now ≡ full_written out.now (read limits chunk.now))
     ∷ [])
-full-copy _ = full-copy-call.Met.met
+full_copy_lem _ = full-copy-call.Met.met
 
 -- ## Validation: the verdict, the number of findings, and the findings in a lent list. Compared: 5,528 chunks and 31 requests for a verdict alone (crates/vectors); the lent list too, on the same chunks (crates/vectors; oracle/findings).
-pub chunk-verdict : Promise chunk-verdict-call.ended chunk-verdict-call.Symbol.routine (λ _ chunk limits r.
+pub chunk_verdict : Promise chunk-verdict-call.ended chunk-verdict-call.Symbol.routine (λ _ chunk limits r.
     (r ≡ shownVerdict (read limits chunk.now))
     ∷ [])
-chunk-verdict _ = chunk-verdict-call.Met.met
+chunk_verdict _ = chunk-verdict-call.Met.met
 
-pub finding-count : Promise finding-count-call.ended finding-count-call.Symbol.routine (λ _ chunk limits r.
+pub finding_count : Promise finding-count-call.ended finding-count-call.Symbol.routine (λ _ chunk limits r.
     (r ≡ shownCount (read limits chunk.now))
     ∷ [])
-finding-count _ = finding-count-call.Met.met
+finding_count _ = finding-count-call.Met.met
 
-pub validate-chunk-lua54 : Promise validate-chunk-lua54-call.ended validate-chunk-lua54-call.Symbol.routine (λ _ chunk limits list list' r.
-    ((r ≡ shownFindings (length list.now) (read limits chunk.now)) × (list'.now ≡ findingsWritten list.now (read limits chunk.now)))
+pub validate_chunk_lua54 : Promise validate-chunk-lua54-call.ended validate-chunk-lua54-call.Symbol.routine (λ _ chunk limits list list' r.
+    ((r ≡ shown_findings (length list.now) (read limits chunk.now)) × (list'.now ≡ findings_written list.now (read limits chunk.now)))
     ∷ [])
-validate-chunk-lua54 _ = validate-chunk-lua54-call.Met.met
+validate_chunk_lua54 _ = validate-chunk-lua54-call.Met.met
 
-pub chunk-findings : Promise chunk-findings-call.ended chunk-findings-call.Symbol.routine (λ _ chunk limits r.
-    ((r.answer ≡ shownFindings LONGEST (read limits chunk.now)) × (r.list ≡ findingsWritten blankList (read limits chunk.now)))
+pub chunk_findings_lem : Promise chunk-findings-call.ended chunk-findings-call.Symbol.routine (λ _ chunk limits r.
+    ((r.answer ≡ shown_findings LONGEST (read limits chunk.now)) × (r.list ≡ findings_written blank_list (read limits chunk.now)))
     ∷ [])
-chunk-findings _ = chunk-findings-call.Met.met
+chunk_findings_lem _ = chunk-findings-call.Met.met
 
 -- ## Instruction words. Compared: 4,704 requests on words (crates/vectors).
 pub decode : Promise decode-Call.ended decode-Call.Symbol.routine (λ _ w r.
@@ -226,19 +226,19 @@ pub ceilings : Promise ceilings-call.ended ceilings-call.Symbol.routine (λ _ r.
 ceilings _ = ceilings-call.Met.met
 
 pub within-ceilings : Promise within-ceilings-call.ended within-ceilings-call.Symbol.routine (λ _ limits r.
-    (r ≡ withinCeilings limits)
+    (r ≡ within_ceilings limits)
     ∷ [])
 within-ceilings _ = within-ceilings-call.Met.met
 
-pub report-refusal : Promise report-refusal-call.ended report-refusal-call.Symbol.routine (λ _ refusal r.
+pub report_refusal : Promise report-refusal-call.ended report-refusal-call.Symbol.routine (λ _ refusal r.
     (r ≡ reported refusal)
     ∷ [])
-report-refusal _ = report-refusal-call.Met.met
+report_refusal _ = report-refusal-call.Met.met
 
-pub report-warning : Promise report-warning-call.ended report-warning-call.Symbol.routine (λ _ warning r.
+pub report_warning : Promise report-warning-call.ended report-warning-call.Symbol.routine (λ _ warning r.
     (r ≡ warned warning)
     ∷ [])
-report-warning _ = report-warning-call.Met.met
+report_warning _ = report-warning-call.Met.met
 
 -- ## What `chunklist` prints of a file, behind what waits in a buffer already: what waits there then, and how much of the buffer is used. Its caller sees to it that the buffer is not full, the one thing that any call here asks.
 pub listing : PromiseWhere listing-call.ended listing-call.Symbol.routine (λ _ a. let used = a.1.1.0 in (used < 65536) ∷ []) (λ _ chunk out out' used r.
@@ -249,8 +249,8 @@ listing _ = listing-call.Met.met
 
 -- ## The Rust's validator (crates/validate_rules/specs/Rust.antt, after validator.rs: a list and a flag, tested before each function and each instruction)
 -- of every chunk that is read it gives what the calls go by
-pub as-the-rust : (L : ResourceLimits) (s : Bytes) (r : Reading) → read L s ≡ shown r → rust.validate r ≡ chunkFindings r
-as-the-rust = findings-are
+pub as_the_rust : (L : ResourceLimits) (s : Bytes) (r : Reading) → read L s ≡ shown r → rust.validate r ≡ chunk_findings r
+as_the_rust = findings_are
 
 -- an answer that is made of the Rust's list and flag, or of the refusal
 abbrev pub validated : {X : Type 0} → (Listing → X) → (Refusal → X) → Outcome → X
@@ -258,54 +258,54 @@ validated ok err (shown r) = ok (rust.validate r)
 validated ok err (refusal q) = err q
 
 -- such an answer is ours, where ours is made so of `chunkFindings`
-by-the-rust : {X : Type 0} (ok : Listing → X) (err : Refusal → X) (ours : Outcome → X) → ((r : Reading) → ours (shown r) ≡ ok (chunkFindings r)) → ((q : Refusal) → ours (refusal q) ≡ err q)
+by_the_rust : {X : Type 0} (ok : Listing → X) (err : Refusal → X) (ours : Outcome → X) → ((r : Reading) → ours (shown r) ≡ ok (chunk_findings r)) → ((q : Refusal) → ours (refusal q) ≡ err q)
     → (L : ResourceLimits) (s : Bytes) → ours (read L s) ≡ validated ok err (read L s)
-by-the-rust ok err ours on-readings on-refusals L s = from (read L s) refl where
+by_the_rust ok err ours on-readings on-refusals L s = from (read L s) refl where
   from : (o : Outcome) → read L s ≡ o → ours o ≡ validated ok err o
-  from (shown r) e = on-readings r ∙ ap ok (sym (as-the-rust L s r e))
+  from (shown r) e = on-readings r ∙ ap ok (sym (as_the_rust L s r e))
   from (refusal q) e = on-refusals q
 
 -- what the calls show and write, by the Rust's list and flag
 pub verdict-shown : (L : ResourceLimits) (s : Bytes) → shownVerdict (read L s) ≡ validated (λ l. verdicts.Ok (verdict l)) verdicts.Err (read L s)
-verdict-shown = by-the-rust (λ l. verdicts.Ok (verdict l)) verdicts.Err shownVerdict (λ r. refl) (λ q. refl)
+verdict-shown = by_the_rust (λ l. verdicts.Ok (verdict l)) verdicts.Err shownVerdict (λ r. refl) (λ q. refl)
 
 pub count-shown : (L : ResourceLimits) (s : Bytes) → shownCount (read L s) ≡ validated (λ l. counts.Ok (length l.findings)) counts.Err (read L s)
-count-shown = by-the-rust (λ l. counts.Ok (length l.findings)) counts.Err shownCount (λ r. refl) (λ q. refl)
+count-shown = by_the_rust (λ l. counts.Ok (length l.findings)) counts.Err shownCount (λ r. refl) (λ q. refl)
 
-pub findings-shown : (room : ℕ) (L : ResourceLimits) (s : Bytes) → shownFindings room (read L s) ≡ validated (listingAnswer room) answers.Err (read L s)
-findings-shown room = by-the-rust (listingAnswer room) answers.Err (shownFindings room) (λ r. refl) (λ q. refl)
+pub findings-shown : (room : ℕ) (L : ResourceLimits) (s : Bytes) → shown_findings room (read L s) ≡ validated (listing_answer room) answers.Err (read L s)
+findings-shown room = by_the_rust (listing_answer room) answers.Err (shown_findings room) (λ r. refl) (λ q. refl)
 
-pub findings-written : (old : List Finding) (L : ResourceLimits) (s : Bytes) → findingsWritten old (read L s) ≡ validated (λ l. over l.findings old) (λ q. old) (read L s)
-findings-written old = by-the-rust (λ l. over l.findings old) (λ q. old) (findingsWritten old) (λ r. refl) (λ q. refl)
+pub findings-written : (old : List Finding) (L : ResourceLimits) (s : Bytes) → findings_written old (read L s) ≡ validated (λ l. over l.findings old) (λ q. old) (read L s)
+findings-written old = by_the_rust (λ l. over l.findings old) (λ q. old) (findings_written old) (λ r. refl) (λ q. refl)
 
 -- and so the calls' promises, said by the Rust's list and flag
-pub chunk-verdict-as-the-rust : Promise chunk-verdict-call.ended chunk-verdict-call.Symbol.routine (λ _ chunk limits r.
+pub chunk_verdict_as_the_rust : Promise chunk-verdict-call.ended chunk-verdict-call.Symbol.routine (λ _ chunk limits r.
     (r ≡ validated (λ l. verdicts.Ok (verdict l)) verdicts.Err (read limits chunk.now))
     ∷ [])
-chunk-verdict-as-the-rust = coe 0 1 (i. Promise chunk-verdict-call.ended chunk-verdict-call.Symbol.routine (λ _ chunk limits r. (r ≡ verdict-shown limits chunk.now i) ∷ [])) chunk-verdict
+chunk_verdict_as_the_rust = coe 0 1 (i. Promise chunk-verdict-call.ended chunk-verdict-call.Symbol.routine (λ _ chunk limits r. (r ≡ verdict-shown limits chunk.now i) ∷ [])) chunk_verdict
 
-pub finding-count-as-the-rust : Promise finding-count-call.ended finding-count-call.Symbol.routine (λ _ chunk limits r.
+pub finding_count_as_the_rust : Promise finding-count-call.ended finding-count-call.Symbol.routine (λ _ chunk limits r.
     (r ≡ validated (λ l. counts.Ok (length l.findings)) counts.Err (read limits chunk.now))
     ∷ [])
-finding-count-as-the-rust = coe 0 1 (i. Promise finding-count-call.ended finding-count-call.Symbol.routine (λ _ chunk limits r. (r ≡ count-shown limits chunk.now i) ∷ [])) finding-count
+finding_count_as_the_rust = coe 0 1 (i. Promise finding-count-call.ended finding-count-call.Symbol.routine (λ _ chunk limits r. (r ≡ count-shown limits chunk.now i) ∷ [])) finding_count
 
-pub validate-chunk-lua54-as-the-rust : Promise validate-chunk-lua54-call.ended validate-chunk-lua54-call.Symbol.routine (λ _ chunk limits list list' r.
-    ((r ≡ validated (listingAnswer (length list.now)) answers.Err (read limits chunk.now)) × (list'.now ≡ validated (λ l. over l.findings list.now) (λ q. list.now) (read limits chunk.now)))
+pub validate_chunk_lua54_as_the_rust : Promise validate-chunk-lua54-call.ended validate-chunk-lua54-call.Symbol.routine (λ _ chunk limits list list' r.
+    ((r ≡ validated (listing_answer (length list.now)) answers.Err (read limits chunk.now)) × (list'.now ≡ validated (λ l. over l.findings list.now) (λ q. list.now) (read limits chunk.now)))
     ∷ [])
-validate-chunk-lua54-as-the-rust = coe 0 1 (i. Promise validate-chunk-lua54-call.ended validate-chunk-lua54-call.Symbol.routine (λ _ chunk limits list list' r. ((r ≡ findings-shown (length list.now) limits chunk.now i) × (list'.now ≡ findings-written list.now limits chunk.now i)) ∷ [])) validate-chunk-lua54
+validate_chunk_lua54_as_the_rust = coe 0 1 (i. Promise validate-chunk-lua54-call.ended validate-chunk-lua54-call.Symbol.routine (λ _ chunk limits list list' r. ((r ≡ findings-shown (length list.now) limits chunk.now i) × (list'.now ≡ findings-written list.now limits chunk.now i)) ∷ [])) validate_chunk_lua54
 
 -- ## Lua's own loader (crates/format_lua/specs/LundumpFunctions.antt, after lundump.c)
 -- what it takes at the front of a file and makes of it, within the limits, is the reading; what stands behind is the trailing bytes
-pub as-lua-loads : (L : ResourceLimits) (left : ℕ) (front trailing : Bytes) (m : Loaded) → Undump left 0 front m → FunctionsWithin L outermost m.functions
-    → withinCeilings L ≡ true → length (front ++ trailing) ≤ L.max_input_bytes → read L (front ++ trailing) ≡ shown (reading L m (length front) trailing)
-as-lua-loads = loaded-is-read
+pub as_lua_loads : (L : ResourceLimits) (left : ℕ) (front trailing : Bytes) (m : Loaded) → Undump left 0 front m → FunctionsWithin L outermost m.functions
+    → within_ceilings L ≡ true → length (front ++ trailing) ≤ L.max_input_bytes → read L (front ++ trailing) ≡ shown (reading L m (length front) trailing)
+as_lua_loads = loaded-is-read
 
 -- ## Lua's own dumper (crates/format_lua/specs/LdumpFunctions.antt, after ldump.c)
 -- what `encode_chunk_lua54` writes (Written.antt) is what `luaU_dump` writes and the trailing bytes, where functions are as Lua would have them (`AsLua`), or stripped
-pub as-lua-dumps : (L : ResourceLimits) (chunk old written : Bytes) (r : Reading) → Writes L chunk old written → read L chunk ≡ shown r → All (AsLua r.functions) r.functions
-    → written ≡ luaU_dump false r.functions ++ r.trailing
-as-lua-dumps L chunk old written r w e a = written-is-copy L chunk old written r w e ∙ copy-as-dumped L chunk r (read-sound L chunk r e) a
+pub as_lua_dumps : (L : ResourceLimits) (chunk old written : Bytes) (r : Reading) → Writes L chunk old written → read L chunk ≡ shown r → All (AsLua r.functions) r.functions
+    → written ≡ lua_u_dump false r.functions ++ r.trailing
+as_lua_dumps L chunk old written r w e a = written-is-copy L chunk old written r w e ∙ copy_as_dumped L chunk r (read_sound L chunk r e) a
 
-pub as-lua-strips : (L : ResourceLimits) (chunk old written : Bytes) (r : Reading) → Writes L chunk old written → read L chunk ≡ shown r → source_of r.functions 0 ≡ none → All AsStripped r.functions
-    → written ≡ luaU_dump true r.functions ++ r.trailing
-as-lua-strips L chunk old written r w e source a = written-is-copy L chunk old written r w e ∙ copy-as-stripped L chunk r (read-sound L chunk r e) source a
+pub as_lua_strips : (L : ResourceLimits) (chunk old written : Bytes) (r : Reading) → Writes L chunk old written → read L chunk ≡ shown r → source_of r.functions 0 ≡ none → All AsStripped r.functions
+    → written ≡ lua_u_dump true r.functions ++ r.trailing
+as_lua_strips L chunk old written r w e source a = written-is-copy L chunk old written r w e ∙ copy_as_stripped L chunk r (read_sound L chunk r e) source a

@@ -11,25 +11,25 @@ use denote.Ref.{Bor}
 use Rattle.format.specs.ReadChunk.{Outcome, read}
 use Rattle.format.specs.Form.{Bytes}
 use Rattle.format_spelling.specs.ReadSpelling.{spelling}
-use Rattle.format_strict.specs.ReadStrict.{strictRead}
-use Rattle.show_row.specs.Asked.{functionOf, entry_of}
-use Rattle.index.specs.Index.{shownIndex, indexWritten}
-use Rattle.line_lookup.specs.Lines.{shownLine}
-use Rattle.show_chunk.specs.Summaries.{shownSummary}
-use Rattle.show_chunk.specs.Fields.{shownFields}
-use Rattle.show_entry.specs.Entries.{shownWord, shownConstant, shownUpvalue, shownDelta, shownAnchor, shownName}
-use Rattle.show_local.specs.Locals.{shownLocal, nameWritten}
-use Rattle.copy.specs.Copied.{shownLength, shownCopy, copyWritten}
-use Rattle.copy_full.specs.InFull.{shownFullLength, shownFull, fullWritten}
+use Rattle.format_strict.specs.ReadStrict.{strict_read}
+use Rattle.show_row.specs.Asked.{function_of, entry_of}
+use Rattle.index.specs.Index.{shown_index, index_written}
+use Rattle.line_lookup.specs.Lines.{shown_line}
+use Rattle.show_chunk.specs.Summaries.{shown_summary}
+use Rattle.show_chunk.specs.Fields.{shown_fields}
+use Rattle.show_entry.specs.Entries.{shown_word, shown_constant, shown_upvalue, shown_delta, shown_anchor, shown_name}
+use Rattle.show_local.specs.Locals.{shown_local, name_written}
+use Rattle.copy.specs.Copied.{shown_length, shown_copy, copy_written}
+use Rattle.copy_full.specs.InFull.{shown_full_length, shown_full, full_written}
 use Rattle.validate_verdict.specs.Answers.{shownVerdict, shownCount}
-use Rattle.validate_plan.specs.Validated.{shownFindings}
+use Rattle.validate_plan.specs.Validated.{shown_findings}
 use Rattle.word_fields.specs.Word.{decoded, encoded}
-use Rattle.c_boundary.specs.Status.{Answer, limitsOf, status, written}
-use Rattle.lafzimdo.specs.Answers.{ofSummary, of_fields, ofWord, ofConstant, ofUpvalue, ofDelta, ofAnchor, ofName, ofLocal, ofIndex, ofLine, ofCopy, ofVerdict, ofCount}
-use Rattle.c_words.specs.Words.{wordNumbers, spelt, ofEncoded}
-use Rattle.c_findings.specs.FindingNumbers.{ofFindings, numbersWritten}
-use Rattle.c_parts.specs.PartNumbers.{headAt, tail_at}
-use Rattle.c_entries_at.specs.EntryNumbers.{word_at, constantAt, upvalueAt, deltaAt, anchorAt, local_at, stringAt}
+use Rattle.c_boundary.specs.Status.{Answer, limits_of, status, written}
+use Rattle.lafzimdo.specs.Answers.{ofSummary, of_fields, ofWord, ofConstant, ofUpvalue, ofDelta, ofAnchor, ofName, of_local, ofIndex, ofLine, ofCopy, ofVerdict, ofCount}
+use Rattle.c_words.specs.Words.{word_numbers, spelt, of_encoded}
+use Rattle.c_findings.specs.FindingNumbers.{of_findings, numbers_written}
+use Rattle.c_parts.specs.PartNumbers.{head_at, tail_at}
+use Rattle.c_entries_at.specs.EntryNumbers.{word_at, constant_at, upvalue_at, delta_at, anchor_at, local_at, string_at}
 use Rattle.lafzimdo.specs.Version as of-version
 use Rattle.lafzimdo.proofs.version.lafzimdo_version as version-call
 use Rattle.lafzimdo.proofs.summary.lafzimdo_summary as summary-call
@@ -68,135 +68,135 @@ abbrev pub Answered : ℕ → Bor (List ℕ) → Bor (List ℕ) → Answer → L
 Answered r out out' a = (r ≡ status a) ∷ (out'.now ≡ written a out.now) ∷ []
 
 -- the chunk, read under nine limits in their order
-abbrev pub readIn : Bor (List ℕ) → Bor Bytes → Outcome
-readIn limits chunk = read (limitsOf limits.now) chunk.now
+abbrev pub read_in : Bor (List ℕ) → Bor Bytes → Outcome
+read_in limits chunk = read (limits_of limits.now) chunk.now
 
 -- ## Chunks
 pub summary : Promise summary-call.ended summary-call.Symbol.routine (λ _ chunk limits out out' r.
-    Answered r out out' (ofSummary (shownSummary (spelling (limitsOf limits.now) chunk.now) (readIn limits chunk))))
+    Answered r out out' (ofSummary (shown_summary (spelling (limits_of limits.now) chunk.now) (read_in limits chunk))))
 summary _ = summary-call.Met.met
 
-pub strict-summary : Promise strict-summary-call.ended strict-summary-call.Symbol.routine (λ _ chunk limits out out' r.
-    Answered r out out' (ofSummary (shownSummary (spelling (limitsOf limits.now) chunk.now) (strictRead (limitsOf limits.now) chunk.now))))
-strict-summary _ = strict-summary-call.Met.met
+pub strict_summary : Promise strict-summary-call.ended strict-summary-call.Symbol.routine (λ _ chunk limits out out' r.
+    Answered r out out' (ofSummary (shown_summary (spelling (limits_of limits.now) chunk.now) (strict_read (limits_of limits.now) chunk.now))))
+strict_summary _ = strict-summary-call.Met.met
 
 pub function : Promise function-call.ended function-call.Symbol.routine (λ _ chunk limits function out out' r.
-    Answered r out out' (of_fields (shownFields (functionOf function (readIn limits chunk)))))
+    Answered r out out' (of_fields (shown_fields (function_of function (read_in limits chunk)))))
 function _ = function-call.Met.met
 
 pub instruction : Promise instruction-call.ended instruction-call.Symbol.routine (λ _ chunk limits function entry out out' r.
-    Answered r out out' (ofWord (shownWord (entry_of (λ p. p.instructions) function entry (readIn limits chunk)))))
+    Answered r out out' (ofWord (shown_word (entry_of (λ p. p.instructions) function entry (read_in limits chunk)))))
 instruction _ = instruction-call.Met.met
 
 pub constant : Promise constant-call.ended constant-call.Symbol.routine (λ _ chunk limits function entry out out' r.
-    Answered r out out' (ofConstant (shownConstant (entry_of (λ p. p.constants) function entry (readIn limits chunk)))))
+    Answered r out out' (ofConstant (shown_constant (entry_of (λ p. p.constants) function entry (read_in limits chunk)))))
 constant _ = constant-call.Met.met
 
 pub upvalue : Promise upvalue-call.ended upvalue-call.Symbol.routine (λ _ chunk limits function entry out out' r.
-    Answered r out out' (ofUpvalue (shownUpvalue (entry_of (λ p. p.upvalues) function entry (readIn limits chunk)))))
+    Answered r out out' (ofUpvalue (shown_upvalue (entry_of (λ p. p.upvalues) function entry (read_in limits chunk)))))
 upvalue _ = upvalue-call.Met.met
 
 pub delta : Promise delta-call.ended delta-call.Symbol.routine (λ _ chunk limits function entry out out' r.
-    Answered r out out' (ofDelta (shownDelta (entry_of (λ p. p.line-info) function entry (readIn limits chunk)))))
+    Answered r out out' (ofDelta (shown_delta (entry_of (λ p. p.line_info_lem) function entry (read_in limits chunk)))))
 delta _ = delta-call.Met.met
 
 pub anchor : Promise anchor-call.ended anchor-call.Symbol.routine (λ _ chunk limits function entry out out' r.
-    Answered r out out' (ofAnchor (shownAnchor (entry_of (λ p. p.abs-line-info) function entry (readIn limits chunk)))))
+    Answered r out out' (ofAnchor (shown_anchor (entry_of (λ p. p.abs_line_info) function entry (read_in limits chunk)))))
 anchor _ = anchor-call.Met.met
 
 pub upvalue-name : Promise upvalue-name-call.ended upvalue-name-call.Symbol.routine (λ _ chunk limits function entry out out' r.
-    Answered r out out' (ofName (shownName (entry_of (λ p. p.upvalue-names) function entry (readIn limits chunk)))))
+    Answered r out out' (ofName (shown_name (entry_of (λ p. p.upvalue_names_lem) function entry (read_in limits chunk)))))
 upvalue-name _ = upvalue-name-call.Met.met
 
 pub local : Promise local-call.ended local-call.Symbol.routine (λ _ chunk limits function entry name name' out out' r.
-    Answered r out out' (ofLocal (shownLocal (length name.now) (entry_of (λ p. p.loc-vars) function entry (readIn limits chunk))))
-    ++ (name'.now ≡ nameWritten name.now (entry_of (λ p. p.loc-vars) function entry (readIn limits chunk)))
+    Answered r out out' (of_local (shown_local (length name.now) (entry_of (λ p. p.loc_vars) function entry (read_in limits chunk))))
+    ++ (name'.now ≡ name_written name.now (entry_of (λ p. p.loc_vars) function entry (read_in limits chunk)))
     ∷ [])
 local _ = local-call.Met.met
 
 pub index : Promise index-call.ended index-call.Symbol.routine (λ _ chunk limits rows rows' out out' r.
-    Answered r out out' (ofIndex (shownIndex (length rows.now) (readIn limits chunk)))
-    ++ (rows'.now ≡ indexWritten rows.now (readIn limits chunk))
+    Answered r out out' (ofIndex (shown_index (length rows.now) (read_in limits chunk)))
+    ++ (rows'.now ≡ index_written rows.now (read_in limits chunk))
     ∷ [])
 index _ = index-call.Met.met
 
 pub line : Promise line-call.ended line-call.Symbol.routine (λ _ chunk limits function pc out out' r.
-    Answered r out out' (ofLine (shownLine pc (functionOf function (readIn limits chunk)))))
+    Answered r out out' (ofLine (shown_line pc (function_of function (read_in limits chunk)))))
 line _ = line-call.Met.met
 
 -- ## The archive copy, the full copy, and validation. A finding takes four numbers of its list
 pub copy-length : Promise copy-length-call.ended copy-length-call.Symbol.routine (λ _ chunk limits out out' r.
-    Answered r out out' (ofCopy (shownLength (readIn limits chunk))))
+    Answered r out out' (ofCopy (shown_length (read_in limits chunk))))
 copy-length _ = copy-length-call.Met.met
 
 pub copy : Promise copy-call.ended copy-call.Symbol.routine (λ _ chunk limits copy copy' out out' r.
-    Answered r out out' (ofCopy (shownCopy (length copy.now) (readIn limits chunk)))
-    ++ (copy'.now ≡ copyWritten copy.now (readIn limits chunk))
+    Answered r out out' (ofCopy (shown_copy (length copy.now) (read_in limits chunk)))
+    ++ (copy'.now ≡ copy_written copy.now (read_in limits chunk))
     ∷ [])
 copy _ = copy-call.Met.met
 
-pub full-copy-length : Promise full-copy-length-call.ended full-copy-length-call.Symbol.routine (λ _ chunk limits out out' r.
-    Answered r out out' (ofCopy (shownFullLength (readIn limits chunk))))
-full-copy-length _ = full-copy-length-call.Met.met
+pub full_copy-length : Promise full-copy-length-call.ended full-copy-length-call.Symbol.routine (λ _ chunk limits out out' r.
+    Answered r out out' (ofCopy (shown_full_length (read_in limits chunk))))
+full_copy-length _ = full-copy-length-call.Met.met
 
-pub full-copy : Promise full-copy-call.ended full-copy-call.Symbol.routine (λ _ chunk limits copy copy' out out' r.
-    Answered r out out' (ofCopy (shownFull (length copy.now) (readIn limits chunk)))
-    ++ (copy'.now ≡ fullWritten copy.now (readIn limits chunk))
+pub full_copy_lem : Promise full-copy-call.ended full-copy-call.Symbol.routine (λ _ chunk limits copy copy' out out' r.
+    Answered r out out' (ofCopy (shown_full (length copy.now) (read_in limits chunk)))
+    ++ (copy'.now ≡ full_written copy.now (read_in limits chunk))
     ∷ [])
-full-copy _ = full-copy-call.Met.met
+full_copy_lem _ = full-copy-call.Met.met
 
 pub verdict : Promise verdict-call.ended verdict-call.Symbol.routine (λ _ chunk limits out out' r.
-    Answered r out out' (ofVerdict (shownVerdict (readIn limits chunk))))
+    Answered r out out' (ofVerdict (shownVerdict (read_in limits chunk))))
 verdict _ = verdict-call.Met.met
 
-pub finding-count : Promise finding-count-call.ended finding-count-call.Symbol.routine (λ _ chunk limits out out' r.
-    Answered r out out' (ofCount (shownCount (readIn limits chunk))))
-finding-count _ = finding-count-call.Met.met
+pub finding_count : Promise finding-count-call.ended finding-count-call.Symbol.routine (λ _ chunk limits out out' r.
+    Answered r out out' (ofCount (shownCount (read_in limits chunk))))
+finding_count _ = finding-count-call.Met.met
 
 pub findings : Promise findings-call.ended findings-call.Symbol.routine (λ _ chunk limits list list' out out' r.
-    Answered r out out' (ofFindings (shownFindings (length list.now / 4) (readIn limits chunk)))
-    ++ (list'.now ≡ numbersWritten list.now (readIn limits chunk))
+    Answered r out out' (of_findings (shown_findings (length list.now / 4) (read_in limits chunk)))
+    ++ (list'.now ≡ numbers_written list.now (read_in limits chunk))
     ∷ [])
 findings _ = findings-call.Met.met
 
 -- ## Instruction words
 pub decode : Promise decode-Call.ended decode-Call.Symbol.routine (λ _ word out out' r.
     (r ≡ 0)
-    ∷ (out'.now ≡ wordNumbers (decoded word))
+    ∷ (out'.now ≡ word_numbers (decoded word))
     ∷ [])
 decode _ = decode-Call.Met.met
 
 pub encode : Promise encode-call.ended encode-call.Symbol.routine (λ _ op a k b c bx sbx ax sj out out' r.
-    Answered r out out' (ofEncoded (encoded (spelt op a k b c bx sbx ax sj))))
+    Answered r out out' (of_encoded (encoded (spelt op a k b c bx sbx ax sj))))
 encode _ = encode-call.Met.met
 
 -- ## Parts at a place
-pub head_at : Promise head-at-call.ended head-at-call.Symbol.routine (λ _ chunk limits place out out' r.
-    Answered r out out' (headAt limits.now place chunk.now))
-head_at _ = head-at-call.Met.met
+pub head_at_lem : Promise head-at-call.ended head-at-call.Symbol.routine (λ _ chunk limits place out out' r.
+    Answered r out out' (head_at limits.now place chunk.now))
+head_at_lem _ = head-at-call.Met.met
 
 pub tail-at : Promise tail-at-call.ended tail-at-call.Symbol.routine (λ _ chunk limits place out out' r.
     Answered r out out' (tail_at limits.now place chunk.now))
 tail-at _ = tail-at-call.Met.met
 
-pub word-at : Promise word-at-call.ended word-at-call.Symbol.routine (λ _ chunk limits place out out' r.
+pub word_at_lem : Promise word-at-call.ended word-at-call.Symbol.routine (λ _ chunk limits place out out' r.
     Answered r out out' (word_at limits.now place chunk.now))
-word-at _ = word-at-call.Met.met
+word_at_lem _ = word-at-call.Met.met
 
 pub constant-at : Promise constant-at-call.ended constant-at-call.Symbol.routine (λ _ chunk limits place out out' r.
-    Answered r out out' (constantAt limits.now place chunk.now))
+    Answered r out out' (constant_at limits.now place chunk.now))
 constant-at _ = constant-at-call.Met.met
 
 pub upvalue-at : Promise upvalue-at-call.ended upvalue-at-call.Symbol.routine (λ _ chunk limits place out out' r.
-    Answered r out out' (upvalueAt limits.now place chunk.now))
+    Answered r out out' (upvalue_at limits.now place chunk.now))
 upvalue-at _ = upvalue-at-call.Met.met
 
-pub delta-at : Promise delta-at-call.ended delta-at-call.Symbol.routine (λ _ chunk limits place out out' r.
-    Answered r out out' (deltaAt limits.now place chunk.now))
-delta-at _ = delta-at-call.Met.met
+pub delta_at_lem : Promise delta-at-call.ended delta-at-call.Symbol.routine (λ _ chunk limits place out out' r.
+    Answered r out out' (delta_at limits.now place chunk.now))
+delta_at_lem _ = delta-at-call.Met.met
 
 pub anchor-at : Promise anchor-at-call.ended anchor-at-call.Symbol.routine (λ _ chunk limits place out out' r.
-    Answered r out out' (anchorAt limits.now place chunk.now))
+    Answered r out out' (anchor_at limits.now place chunk.now))
 anchor-at _ = anchor-at-call.Met.met
 
 pub local-at : Promise local-at-call.ended local-at-call.Symbol.routine (λ _ chunk limits place out out' r.
@@ -204,7 +204,7 @@ pub local-at : Promise local-at-call.ended local-at-call.Symbol.routine (λ _ ch
 local-at _ = local-at-call.Met.met
 
 pub string-at : Promise string-at-call.ended string-at-call.Symbol.routine (λ _ chunk limits place out out' r.
-    Answered r out out' (stringAt limits.now place chunk.now))
+    Answered r out out' (string_at limits.now place chunk.now))
 string-at _ = string-at-call.Met.met
 
 -- ## The version

@@ -16,17 +16,17 @@ use Rattle.format.specs.declared.refusal.Refusal.TheVariants as q
 use Rattle.format.specs.Form.{Bytes, Below, Form, Run}
 use Rattle.format.specs.GrammarFields.{base128, little, Number, Field}
 use Rattle.format.specs.Reading.{Prototype}
-use Rattle.format.specs.GrammarHeader.{signature, luacData, luacInt, luacNum}
+use Rattle.format.specs.GrammarHeader.{signature, luac_data, luac_int, luac_num}
 use Rattle.format.specs.GrammarChunk.{Where, after}
 use Rattle.format.specs.Read.{Read, ok, refused, Reader, next, ◌>>=◌, ◌>>◌, give, here, refuse, test, at_most, piece, run, many}
 use Rattle.format.specs.ReadFields.{field, groups, number, content, string}
-use Rattle.format.specs.ReadHeader.{sameBytes, expect, beforeFormat, behindFormat, header}
-use Rattle.format.specs.ReadChunk.{counted, countedUpTo, always, tagged, constant, upvalue, anchor, local, forest, body, function, main}
-use Rattle.format.proofs.Exact.{Exact, Split, exact-place, exact-then, exact-atMost, exact-run, exact-many}
-use Rattle.format.proofs.ExactFields.{exact-field, exact-number, exact-string}
-use Rattle.format.proofs.ExactHeader.{same_refl, exact-expect, exact-before, exact-behind, exact-header}
-use Rattle.format.proofs.ExactChunk.{exact-counted, exact-countedUpTo, exact-always, exact-constant, exact-upvalue, exact-anchor, exact-local, exact-forest, exact-function, exact-refuse}
-use Rattle.demands.proofs.Causes.{Which, ordinary, stricter, Cause, unlike, noTag, above, between, up_to, enters, tooLarge, missing, tooMany, causeBy, NoTag, LastNumber, TooLarge, Ends}
+use Rattle.format.specs.ReadHeader.{same_bytes, expect, before_format, behind_format, header}
+use Rattle.format.specs.ReadChunk.{counted, counted_up_to, always, tagged, constant, upvalue, anchor, local, forest, body, function, main}
+use Rattle.format.proofs.Exact.{Exact, Split, exact_place, exact_then, exact_at_most, exact_run, exact_many}
+use Rattle.format.proofs.ExactFields.{exact_field, exact_number, exact_string}
+use Rattle.format.proofs.ExactHeader.{same_refl, exact_expect, exact_before, exact_behind, exact_header}
+use Rattle.format.proofs.ExactChunk.{exact_counted, exact_counted_up_to, exact_always, exact_constant, exact_upvalue, exact_anchor, exact_local, exact_forest, exact_function, exact_refuse}
+use Rattle.demands.proofs.Causes.{Which, ordinary, stricter, Cause, unlike, no_tag, above, between, up_to, enters, too_large_lem, missing, too_many_lem, cause_by, NoTag, LastNumber, TooLarge, Ends}
 
 -- a refusal is no acceptance, and two that are one have one reason
 pub never : {A P : Type 0} {x : A} {to : ℕ} {rest : Bytes} {p : Refusal} → refused p ≡ ok x to rest → P
@@ -48,18 +48,18 @@ number_behind place at bytes front e h =
     let k = ahead at bytes h.before h.spelling e h.whole h.begins in
     record { before = bytes ++ h.before; spelling = h.spelling; value = h.value; whole = k.0; begins = k.1; is = h.is; so = h.so }
 
-ends-behind : (c : Cause) (at : ℕ) (bytes front : Bytes) {mid : ℕ} → mid ≡ at + length bytes → Ends c mid front → Ends c at (bytes ++ front)
-ends-behind (unlike place these) at bytes front e h =
+ends_behind : (c : Cause) (at : ℕ) (bytes front : Bytes) {mid : ℕ} → mid ≡ at + length bytes → Ends c mid front → Ends c at (bytes ++ front)
+ends_behind (unlike place these) at bytes front e h =
     let k = ahead at bytes h.before h.others e h.whole h.begins in
     record { before = bytes ++ h.before; others = h.others; whole = k.0; begins = k.1; long = h.long; differs = h.differs }
-ends-behind (noTag place) at bytes front e h =
+ends_behind (no_tag place) at bytes front e h =
     let k = ahead at bytes h.before (h.tag ∷ []) e h.whole h.begins in
     record { before = bytes ++ h.before; tag = h.tag; whole = k.0; begins = k.1; unknown = h.unknown }
-ends-behind (above place limit) at bytes front e h = number_behind place at bytes front e h
-ends-behind (between place limit top) at bytes front e h = number_behind place at bytes front e h
-ends-behind (up_to place limit) at bytes front e h = number_behind place at bytes front e h
-ends-behind (enters place) at bytes front e h = h ∙ (let l = length-append bytes front in omega arith)
-ends-behind tooLarge at bytes front e h = record {
+ends_behind (above place limit) at bytes front e h = number_behind place at bytes front e h
+ends_behind (between place limit top) at bytes front e h = number_behind place at bytes front e h
+ends_behind (up_to place limit) at bytes front e h = number_behind place at bytes front e h
+ends_behind (enters place) at bytes front e h = h ∙ (let l = length-append bytes front in omega arith)
+ends_behind too_large_lem at bytes front e h = record {
   before = bytes ++ h.before;
   digits = h.digits;
   digit = h.digit;
@@ -69,7 +69,7 @@ ends-behind tooLarge at bytes front e h = record {
   less = h.less;
   enough = h.enough;
 }
-ends-behind missing at bytes front e h = tt
+ends_behind missing at bytes front e h = tt
 
 -- ## Under given limits
 module _ (of : Which) (L : ResourceLimits) where
@@ -78,7 +78,7 @@ module _ (of : Which) (L : ResourceLimits) where
     pub rest : Bytes
     pub whole : s ≡ front ++ rest
     pub same : r at front ≡ refused p
-    pub ends : Ends (causeBy of L p) at front
+    pub ends : Ends (cause_by of L p) at front
 
   pub record Early {A : Type 0} (r : Reader A) : Type 0 where
     pub cut : (at : ℕ) (s : Bytes) (p : Refusal) → r at s ≡ refused p → Cut r at s p
@@ -93,8 +93,8 @@ module _ (of : Which) (L : ResourceLimits) where
 
   -- a number, behind digits ds
   data Stop (ds front : Bytes) (p : Refusal) : Type 0 where
-    lacking : causeBy of L p ≡ missing → Stop ds front p
-    large : causeBy of L p ≡ tooLarge → TooLarge (ds ++ front) → Stop ds front p
+    lacking : cause_by of L p ≡ missing → Stop ds front p
+    large : cause_by of L p ≡ too_large_lem → TooLarge (ds ++ front) → Stop ds front p
 
   record NumberCut (ds : List ℕ) (at : ℕ) (s : Bytes) (p : Refusal) : Type 0 where
     front : Bytes
@@ -105,7 +105,7 @@ module _ (of : Which) (L : ResourceLimits) where
 
 -- ## Numbers and bytes
 -- where bytes are missing
-short_none : (of : Which) (L : ResourceLimits) (b : Bool) (at : ℕ) → causeBy of L (cond b (q.Truncated at) q.Overflow) ≡ missing
+short_none : (of : Which) (L : ResourceLimits) (b : Bool) (at : ℕ) → cause_by of L (cond b (q.Truncated at) q.Overflow) ≡ missing
 short_none of L true at = refl
 short_none of L false at = refl
 
@@ -134,7 +134,7 @@ abbrev pub Counts : Which → ℕ → Type 0
 Counts ordinary n = Unit {0}
 Counts stricter n = n < 2 ^ 31 - 128
 
-pub too_many : (of : Which) (first n limit : ℕ) (bytes : Bytes) → Number first bytes n → Counts of n → limit < n → Ends (tooMany of first limit) first (bytes ++ [])
+pub too_many : (of : Which) (first n limit : ℕ) (bytes : Bytes) → Number first bytes n → Counts of n → limit < n → Ends (too_many_lem of first limit) first (bytes ++ [])
 too_many ordinary first n limit bytes d fits h = read_number first n bytes d h
 too_many stricter first n limit bytes d fits h = read_number first n bytes d (h, fits)
 
@@ -150,9 +150,9 @@ read_byte at bytes x d = by d.front d.back d.value d.whole d.one d.two
     by : (front back value : Bytes) → bytes ≡ front ++ back → Run 1 at front value → (back ≡ []) × (little value ≡ x) → bytes ++ [] ≡ x ∷ []
     by front back value whole one two = append-nil bytes ∙ whole ∙ ap (λ b. front ++ b) two.0 ∙ append-nil front ∙ one.0 ∙ one_byte value (ap length (sym one.0) ∙ one.1) ∙ ap (λ v. v ∷ []) two.1
 
-pub no-tag : (place tag : ℕ) (bytes : Bytes) → Field 1 place bytes tag → eqb tag 0 ≡ false → eqb tag 1 ≡ false → eqb tag 17 ≡ false → eqb tag 3 ≡ false → eqb tag 19 ≡ false → eqb tag 4 ≡ false → eqb tag 20 ≡ false
+pub no_tag_lem : (place tag : ℕ) (bytes : Bytes) → Field 1 place bytes tag → eqb tag 0 ≡ false → eqb tag 1 ≡ false → eqb tag 17 ≡ false → eqb tag 3 ≡ false → eqb tag 19 ≡ false → eqb tag 4 ≡ false → eqb tag 20 ≡ false
     → NoTag place place (bytes ++ [])
-no-tag place tag bytes d k0 k1 k17 k3 k19 k4 k20 = record {
+no_tag_lem place tag bytes d k0 k1 k17 k3 k19 k4 k20 = record {
   before = [];
   tag = tag;
   whole = read_byte place bytes tag d;
@@ -163,17 +163,17 @@ no-tag place tag bytes d k0 k1 k17 k3 k19 k4 k20 = record {
 -- ## One law for each way to make a reader
 module _ {of : Which} {L : ResourceLimits} where
   -- the whole, where bytes are missing
-  all_of : {A : Type 0} {r : Reader A} (at : ℕ) (s : Bytes) (p : Refusal) → causeBy of L p ≡ missing → r at s ≡ refused p → Cut of L r at s p
+  all_of : {A : Type 0} {r : Reader A} (at : ℕ) (s : Bytes) (p : Refusal) → cause_by of L p ≡ missing → r at s ≡ refused p → Cut of L r at s p
   all_of at s p c e = record { front = s; rest = []; whole = sym (append-nil s); same = e; ends = rw c tt }
 
-  pub early-give : {A : Type 0} (x : A) → Early of L (give x)
-  early-give x = record { cut = λ at s p e. no e }
+  pub early_give : {A : Type 0} (x : A) → Early of L (give x)
+  early_give x = record { cut = λ at s p e. no e }
 
-  pub early-here : {B : Type 0} {f : ℕ → Reader B} → ((place : ℕ) → Early of L (f place)) → Early of L (here >>= f)
-  early-here two = record { cut = λ at s p e. let c = (two at).cut at s p e in record { front = c.front; rest = c.rest; whole = c.whole; same = c.same; ends = c.ends } }
+  pub early_here : {B : Type 0} {f : ℕ → Reader B} → ((place : ℕ) → Early of L (f place)) → Early of L (here >>= f)
+  early_here two = record { cut = λ at s p e. let c = (two at).cut at s p e in record { front = c.front; rest = c.rest; whole = c.whole; same = c.same; ends = c.ends } }
 
-  pub early-then : {A B : Type 0} {r : Reader A} {F : Form A} {f : A → Reader B} → Exact r F → Early of L r → ((x : A) → Early of L (f x)) → Early of L (r >>= f)
-  early-then {A} {B} {r} {F} {f} exact one two = record { cut = λ at s p e. go at s p (r at s) refl e }
+  pub early_then : {A B : Type 0} {r : Reader A} {F : Form A} {f : A → Reader B} → Exact r F → Early of L r → ((x : A) → Early of L (f x)) → Early of L (r >>= f)
+  early_then {A} {B} {r} {F} {f} exact one two = record { cut = λ at s p e. go at s p (r at s) refl e }
     where
       go : (at : ℕ) (s : Bytes) (p : Refusal) (o : Read A) → r at s ≡ o → next o f ≡ refused p → Cut of L (r >>= f) at s p
       go at s p (ok x mid t) is e =
@@ -185,43 +185,43 @@ module _ {of : Which} {L : ResourceLimits} where
             rest = c.rest;
             whole = a.whole ∙ ap (λ t. a.bytes ++ t) c.whole ∙ sym (append_assoc a.bytes c.front c.rest);
             same = ap (λ o. next o f) on ∙ c.same;
-            ends = ends-behind (causeBy of L p) at a.bytes c.front a.place c.ends;
+            ends = ends_behind (cause_by of L p) at a.bytes c.front a.place c.ends;
           }
       go at s p (refused p') is e =
           let same : p' ≡ p = was e in
           let c = one.cut at s p (is ∙ ap refused same) in
           record { front = c.front; rest = c.rest; whole = c.whole; same = ap (λ o. next o f) c.same; ends = c.ends }
 
-  pub early-pick : {A : Type 0} {r s : Reader A} (b : Bool) → Early of L r → Early of L s → Early of L (cond b r s)
-  early-pick true one two = one
-  early-pick false one two = two
+  pub early_pick : {A : Type 0} {r s : Reader A} (b : Bool) → Early of L r → Early of L s → Early of L (cond b r s)
+  early_pick true one two = one
+  early_pick false one two = two
 
-  pub early-run : (n : ℕ) → Early of L (run n)
-  early-run n = record { cut = λ at s p e. go at s p (leb n (length s)) refl e }
+  pub early_run : (n : ℕ) → Early of L (run n)
+  early_run n = record { cut = λ at s p e. go at s p (leb n (length s)) refl e }
     where
       go : (at : ℕ) (s : Bytes) (p : Refusal) (b : Bool) → leb n (length s) ≡ b → piece b n at s ≡ refused p → Cut of L (run n) at s p
       go at s p true is e = no e
-      go at s p false is e = all_of at s p (ap (causeBy of L) (sym (was e)) ∙ short_none of L (ltb (at + n) (2 ^ 64)) at) (ap (λ b. piece b n at s) is ∙ e)
+      go at s p false is e = all_of at s p (ap (cause_by of L) (sym (was e)) ∙ short_none of L (ltb (at + n) (2 ^ 64)) at) (ap (λ b. piece b n at s) is ∙ e)
 
-  pub early-many : {A : Type 0} {r : Reader A} {F : Form A} (n : ℕ) → Exact r F → Early of L r → Early of L (many n r)
-  early-many zero exact one = early-give []
-  early-many (suc n) exact one = early-then exact one λ x. early-then (exact-many n exact) (early-many n exact one) λ xs. early-give _
+  pub early_many : {A : Type 0} {r : Reader A} {F : Form A} (n : ℕ) → Exact r F → Early of L r → Early of L (many n r)
+  early_many zero exact one = early_give []
+  early_many (suc n) exact one = early_then exact one λ x. early_then (exact_many n exact) (early_many n exact one) λ xs. early_give _
 
-  pub early-field : (n : ℕ) → Early of L (field n)
-  early-field n = early-then (exact-run n) (early-run n) λ bytes. early-give _
+  pub early_field : (n : ℕ) → Early of L (field n)
+  early_field n = early_then (exact_run n) (early_run n) λ bytes. early_give _
 
   -- ## A number: bytes are missing, or it is too large, which the byte behind its digits shows
-  stop-on : (ds : List ℕ) (x : ℕ) (front : Bytes) (p : Refusal) → Stop of L (ds ++ x ∷ []) front p → Stop of L ds (x ∷ front) p
-  stop-on ds x front p (lacking k) = lacking k
-  stop-on ds x front p (large k l) = large k (rw append_assoc at l)
+  stop_on : (ds : List ℕ) (x : ℕ) (front : Bytes) (p : Refusal) → Stop of L (ds ++ x ∷ []) front p → Stop of L ds (x ∷ front) p
+  stop_on ds x front p (lacking k) = lacking k
+  stop_on ds x front p (large k l) = large k (rw append_assoc at l)
 
   module _ (ds : List ℕ) (at x : ℕ) (small : Below 128 ds) (fits : ltb (base128 0 ds) (2 ^ 57 - 1) ≡ true) (low : ltb x 128 ≡ true) where
     step : (s : Bytes) (p : Refusal) → NumberCut of L (ds ++ x ∷ []) (at + 1) s p → NumberCut of L ds at (x ∷ s) p
-    step s p c = record { front = x ∷ c.front; rest = c.rest; whole = ap (λ t. x ∷ t) c.whole; same = on ds at x small fits low c.front ∙ c.same; stop = stop-on ds x c.front p c.stop }
+    step s p c = record { front = x ∷ c.front; rest = c.rest; whole = ap (λ t. x ∷ t) c.whole; same = on ds at x small fits low c.front ∙ c.same; stop = stop_on ds x c.front p c.stop }
 
     -- the digits with x spell too much: that is seen at the next byte, if there is one
     full : ltb (base128 0 (ds ++ x ∷ [])) (2 ^ 57 - 1) ≡ false → (s : Bytes) (p : Refusal) → groups (base128 0 (ds ++ x ∷ [])) (at + 1) s ≡ refused p → NumberCut of L ds at (x ∷ s) p
-    full much [] p e = record { front = x ∷ []; rest = []; whole = refl; same = on ds at x small fits low [] ∙ e; stop = lacking (ap (causeBy of L) (sym (was e)) ∙ short_none of L (ltb (at + 1 + 1) (2 ^ 64)) (at + 1)) }
+    full much [] p e = record { front = x ∷ []; rest = []; whole = refl; same = on ds at x small fits low [] ∙ e; stop = lacking (ap (cause_by of L) (sym (was e)) ∙ short_none of L (ltb (at + 1 + 1) (2 ^ 64)) (at + 1)) }
     full much (y ∷ t) p e =
         let is : q.VarintOverflow ≡ p = was (sym (ap (λ b. cond b (cond (ltb y 128) (groups (base128 0 (ds ++ x ∷ []) * 128 + y) (at + 1 + 1) t) (ok (base128 0 (ds ++ x ∷ []) * 128 + y % 128) (at + 1 + 1) t)) (refused q.VarintOverflow)) much) ∙ e) in
         record {
@@ -229,7 +229,7 @@ module _ {of : Which} {L : ResourceLimits} where
           rest = t;
           whole = refl;
           same = on ds at x small fits low (y ∷ []) ∙ (rw much (ap refused is));
-          stop = large (ap (causeBy of L) (sym is)) (record {
+          stop = large (ap (cause_by of L) (sym is)) (record {
             before = [];
             digits = ds;
             digit = x;
@@ -241,10 +241,10 @@ module _ {of : Which} {L : ResourceLimits} where
           });
         }
 
-  next-digit : (s : Bytes) (ds : List ℕ) (at x : ℕ) (p : Refusal) → Below 128 ds → ltb (base128 0 ds) (2 ^ 57 - 1) ≡ true → groups (base128 0 ds) at (x ∷ s) ≡ refused p
+  next_digit : (s : Bytes) (ds : List ℕ) (at x : ℕ) (p : Refusal) → Below 128 ds → ltb (base128 0 ds) (2 ^ 57 - 1) ≡ true → groups (base128 0 ds) at (x ∷ s) ≡ refused p
       → ((ds : List ℕ) (at : ℕ) → Below 128 ds → ltb (base128 0 ds) (2 ^ 57 - 1) ≡ true → groups (base128 0 ds) at s ≡ refused p → NumberCut of L ds at s p)
       → NumberCut of L ds at (x ∷ s) p
-  next-digit s ds at x p small fits e rest = by (ltb x 128) refl
+  next_digit s ds at x p small fits e rest = by (ltb x 128) refl
     where
       size : ltb x 128 ≡ true → (b : Bool) → ltb (base128 0 (ds ++ x ∷ [])) (2 ^ 57 - 1) ≡ b → groups (base128 0 (ds ++ x ∷ [])) (at + 1) s ≡ refused p → NumberCut of L ds at (x ∷ s) p
       size low true k e' = step ds at x small fits low s p (rest (ds ++ x ∷ []) (at + 1) (small-on ds at x small fits low) k e')
@@ -255,13 +255,13 @@ module _ {of : Which} {L : ResourceLimits} where
       by false low = no (rw (fits, low) at e)
 
   number_cut : (s : Bytes) (ds : List ℕ) (at : ℕ) (p : Refusal) → Below 128 ds → ltb (base128 0 ds) (2 ^ 57 - 1) ≡ true → groups (base128 0 ds) at s ≡ refused p → NumberCut of L ds at s p
-  number_cut [] ds at p small fits e = record { front = []; rest = []; whole = refl; same = e; stop = lacking (ap (causeBy of L) (sym (was e)) ∙ short_none of L (ltb (at + 1) (2 ^ 64)) at) }
-  number_cut (x ∷ s) ds at p small fits e = next-digit s ds at x p small fits e (λ ds at small fits e. number_cut s ds at p small fits e)
+  number_cut [] ds at p small fits e = record { front = []; rest = []; whole = refl; same = e; stop = lacking (ap (cause_by of L) (sym (was e)) ∙ short_none of L (ltb (at + 1) (2 ^ 64)) at) }
+  number_cut (x ∷ s) ds at p small fits e = next_digit s ds at x p small fits e (λ ds at small fits e. number_cut s ds at p small fits e)
 
-  pub early-number : Early of L number
-  early-number = record { cut = λ at s p e. by at s p (number_cut s [] at p tt refl e) }
+  pub early_number : Early of L number
+  early_number = record { cut = λ at s p e. by at s p (number_cut s [] at p tt refl e) }
     where
-      ends : (at : ℕ) (front : Bytes) (p : Refusal) → Stop of L [] front p → Ends (causeBy of L p) at front
+      ends : (at : ℕ) (front : Bytes) (p : Refusal) → Stop of L [] front p → Ends (cause_by of L p) at front
       ends at front p (lacking k) = rw k tt
       ends at front p (large k l) = rw k l
 
@@ -269,14 +269,14 @@ module _ {of : Which} {L : ResourceLimits} where
       by at s p c = record { front = c.front; rest = c.rest; whole = c.whole; same = c.same; ends = ends at c.front p c.stop }
 
   -- ## An item, and tests of it
-  pub soon-early : {B : Type 0} {Now : Refusal → Type 0} {g : Reader B} → Early of L g → Soon of L Now g
-  soon-early one = record { late = λ at s p e. later (one.cut at s p e) }
+  pub soon_early : {B : Type 0} {Now : Refusal → Type 0} {g : Reader B} → Early of L g → Soon of L Now g
+  soon_early one = record { late = λ at s p e. later (one.cut at s p e) }
 
-  pub soon-refuse : {B : Type 0} {Now : Refusal → Type 0} (r : Refusal) → Now r → Soon of L {B = B} Now (refuse r)
-  soon-refuse {B} {Now} r bad = record { late = λ at s p e. let is : r ≡ p = was e in now (subst Now is bad) e }
+  pub soon_refuse : {B : Type 0} {Now : Refusal → Type 0} (r : Refusal) → Now r → Soon of L {B = B} Now (refuse r)
+  soon_refuse {B} {Now} r bad = record { late = λ at s p e. let is : r ≡ p = was e in now (subst Now is bad) e }
 
-  pub soon-test : {B : Type 0} {Now : Refusal → Type 0} (g : Reader B) (b : Bool) (r : Refusal) → (b ≡ false → Now r) → Soon of L Now g → Soon of L Now (test b r >>= λ _. g)
-  soon-test {B} {Now} g b r bad one = go b refl
+  pub soon_test : {B : Type 0} {Now : Refusal → Type 0} (g : Reader B) (b : Bool) (r : Refusal) → (b ≡ false → Now r) → Soon of L Now g → Soon of L Now (test b r >>= λ _. g)
+  soon_test {B} {Now} g b r bad one = go b refl
     where
       through : (at : ℕ) (s : Bytes) (p : Refusal) → Late of L Now g at s p → Late of L Now (test true r >>= λ _. g) at s p
       through at s p (now h e) = now h e
@@ -286,15 +286,15 @@ module _ {of : Which} {L : ResourceLimits} where
       go true k = record { late = λ at s p e. through at s p (one.late at s p e) }
       go false k = record { late = λ at s p e. let is : r ≡ p = was e in now (subst Now is (bad k)) e }
 
-  soon-only : {Now : Refusal → Type 0} (b : Bool) (r : Refusal) → (b ≡ false → Now r) → Soon of L Now (test b r)
-  soon-only {Now} b r bad = go b refl
+  soon_only : {Now : Refusal → Type 0} (b : Bool) (r : Refusal) → (b ≡ false → Now r) → Soon of L Now (test b r)
+  soon_only {Now} b r bad = go b refl
     where
       go : (t : Bool) → b ≡ t → Soon of L Now (test t r)
-      go true k = soon-early (early-give tt)
-      go false k = soon-refuse r (bad k)
+      go true k = soon_early (early_give tt)
+      go false k = soon_refuse r (bad k)
 
-  pub soon-pick : {B : Type 0} {Now : Refusal → Type 0} {g h : Reader B} (b : Bool) → Soon of L Now g → (b ≡ false → Soon of L Now h) → Soon of L Now (cond b g h)
-  soon-pick {B} {Now} {g} {h} b one two = go b refl
+  pub soon_pick : {B : Type 0} {Now : Refusal → Type 0} {g h : Reader B} (b : Bool) → Soon of L Now g → (b ≡ false → Soon of L Now h) → Soon of L Now (cond b g h)
+  soon_pick {B} {Now} {g} {h} b one two = go b refl
     where
       go : (t : Bool) → b ≡ t → Soon of L Now (cond t g h)
       go true k = one
@@ -302,12 +302,12 @@ module _ {of : Which} {L : ResourceLimits} where
 
   -- a reader that keeps its place for a refusal behind its first item
   module _ {A B : Type 0} {r : Reader A} {F : Form A} (f : ℕ → A → Reader B) (exact : Exact r F) (one : Early of L r)
-      (two : (first : ℕ) (x : A) (bytes : Bytes) → F first bytes x → Soon of L (λ p. Ends (causeBy of L p) first (bytes ++ [])) (f first x)) where
-    abbrev whole-reader : Reader B
-    whole-reader = here >>= λ first. r >>= f first
+      (two : (first : ℕ) (x : A) (bytes : Bytes) → F first bytes x → Soon of L (λ p. Ends (cause_by of L p) first (bytes ++ [])) (f first x)) where
+    abbrev whole_reader : Reader B
+    whole_reader = here >>= λ first. r >>= f first
 
-    first-cut : (at : ℕ) (s : Bytes) (p : Refusal) (o : Read A) → r at s ≡ o → next o (f at) ≡ refused p → Cut of L whole-reader at s p
-    first-cut at s p (ok x mid t) is e = by ((two at x a.bytes a.spelt).late mid t p e)
+    first_cut : (at : ℕ) (s : Bytes) (p : Refusal) (o : Read A) → r at s ≡ o → next o (f at) ≡ refused p → Cut of L whole_reader at s p
+    first_cut at s p (ok x mid t) is e = by ((two at x a.bytes a.spelt).late mid t p e)
       where
         a : Split F at s x mid t
         a = exact.sound is
@@ -315,7 +315,7 @@ module _ {of : Which} {L : ResourceLimits} where
         on : (t : Bytes) → r at (a.bytes ++ t) ≡ ok x mid t
         on t = exact.complete t a.spelt ∙ ap (λ k. ok x k t) (sym a.place)
 
-        by : Late of L (λ p. Ends (causeBy of L p) at (a.bytes ++ [])) (f at x) mid t p → Cut of L whole-reader at s p
+        by : Late of L (λ p. Ends (cause_by of L p) at (a.bytes ++ [])) (f at x) mid t p → Cut of L whole_reader at s p
         by (now k h) = record {
           front = a.bytes ++ [];
           rest = t;
@@ -328,158 +328,158 @@ module _ {of : Which} {L : ResourceLimits} where
           rest = k.rest;
           whole = a.whole ∙ ap (λ t. a.bytes ++ t) k.whole ∙ sym (append_assoc a.bytes k.front k.rest);
           same = ap (λ o. next o (f at)) (on k.front) ∙ k.same;
-          ends = ends-behind (causeBy of L p) at a.bytes k.front a.place k.ends;
+          ends = ends_behind (cause_by of L p) at a.bytes k.front a.place k.ends;
         }
-    first-cut at s p (refused p') is e =
+    first_cut at s p (refused p') is e =
         let k = one.cut at s p (is ∙ ap refused (was e)) in
         record { front = k.front; rest = k.rest; whole = k.whole; same = ap (λ o. next o (f at)) k.same; ends = k.ends }
 
-    pub early-first : Early of L whole-reader
-    early-first = record { cut = λ at s p e. first-cut at s p (r at s) refl e }
+    pub early_first : Early of L whole_reader
+    early_first = record { cut = λ at s p e. first_cut at s p (r at s) refl e }
 
-  pub early-numbered : {B : Type 0} (f : ℕ → ℕ → Reader B) → ((first n : ℕ) (bytes : Bytes) → Number first bytes n → Soon of L (λ p. Ends (causeBy of L p) first (bytes ++ [])) (f first n)) → Early of L (here >>= λ first. number >>= f first)
-  early-numbered f two = early-first f exact-number early-number two
+  pub early_numbered : {B : Type 0} (f : ℕ → ℕ → Reader B) → ((first n : ℕ) (bytes : Bytes) → Number first bytes n → Soon of L (λ p. Ends (cause_by of L p) first (bytes ++ [])) (f first n)) → Early of L (here >>= λ first. number >>= f first)
+  early_numbered f two = early_first f exact_number early_number two
 
   -- tests before any byte
-  pub early-at : {B : Type 0} {f : ℕ → Reader B} → ((place : ℕ) → Soon of L (λ p. Ends (causeBy of L p) place []) (f place)) → Early of L (here >>= f)
-  early-at {B} {f} two = record { cut = λ at s p e. by at s p ((two at).late at s p e) }
+  pub early_at : {B : Type 0} {f : ℕ → Reader B} → ((place : ℕ) → Soon of L (λ p. Ends (cause_by of L p) place []) (f place)) → Early of L (here >>= f)
+  early_at {B} {f} two = record { cut = λ at s p e. by at s p ((two at).late at s p e) }
     where
-      by : (at : ℕ) (s : Bytes) (p : Refusal) → Late of L (λ p. Ends (causeBy of L p) at []) (f at) at s p → Cut of L (here >>= f) at s p
+      by : (at : ℕ) (s : Bytes) (p : Refusal) → Late of L (λ p. Ends (cause_by of L p) at []) (f at) at s p → Cut of L (here >>= f) at s p
       by at s p (now k h) = record { front = []; rest = s; whole = refl; same = h; ends = k }
       by at s p (later c) = record { front = c.front; rest = c.rest; whole = c.whole; same = c.same; ends = c.ends }
 
   -- ## Strings
-  soon-content : (first size : ℕ) (bytes : Bytes) → Number first bytes size → Soon of L (λ p. Ends (causeBy of L p) first (bytes ++ [])) (content L.max_string_bytes first size)
-  soon-content first zero bytes d = soon-early (early-give _)
-  soon-content first (suc n) bytes d =
-      soon-test _ (leb n L.max_string_bytes) (q.StringBytes first) (λ k. read_number first (suc n) bytes d (let h = leb-false n L.max_string_bytes k in omega arith))
-      (soon-early (early-here λ place. early-then (exact-run n) (early-run n) λ bytes. early-give _))
+  soon_content : (first size : ℕ) (bytes : Bytes) → Number first bytes size → Soon of L (λ p. Ends (cause_by of L p) first (bytes ++ [])) (content L.max_string_bytes first size)
+  soon_content first zero bytes d = soon_early (early_give _)
+  soon_content first (suc n) bytes d =
+      soon_test _ (leb n L.max_string_bytes) (q.StringBytes first) (λ k. read_number first (suc n) bytes d (let h = leb-false n L.max_string_bytes k in omega arith))
+      (soon_early (early_here λ place. early_then (exact_run n) (early_run n) λ bytes. early_give _))
 
-  pub early-string : Early of L (string L.max_string_bytes)
-  early-string = early-numbered (content L.max_string_bytes) soon-content
+  pub early_string : Early of L (string L.max_string_bytes)
+  early_string = early_numbered (content L.max_string_bytes) soon_content
 
   -- ## The header
-  pub early-expect : (bytes : Bytes) (refusal : ℕ → Refusal) → ((place : ℕ) → causeBy of L (refusal place) ≡ unlike place bytes) → Early of L (expect bytes refusal)
-  early-expect bytes refusal is = early-first (λ place b. test (sameBytes b bytes) (refusal place)) (exact-run (length bytes)) (early-run (length bytes)) λ place b spelt d. soon-only (sameBytes b bytes) (refusal place) λ k. rw (is place) (record {
+  pub early_expect : (bytes : Bytes) (refusal : ℕ → Refusal) → ((place : ℕ) → cause_by of L (refusal place) ≡ unlike place bytes) → Early of L (expect bytes refusal)
+  early_expect bytes refusal is = early_first (λ place b. test (same_bytes b bytes) (refusal place)) (exact_run (length bytes)) (early_run (length bytes)) λ place b spelt d. soon_only (same_bytes b bytes) (refusal place) λ k. rw (is place) (record {
     before = [];
     others = b;
     whole = append-nil spelt ∙ d.0;
     begins = sym (add-zero place);
     long = ap length (sym d.0) ∙ d.1;
-    differs = λ same. true-false (subst (λ b. T (sameBytes b bytes)) (sym same) (same_refl bytes)) k;
+    differs = λ same. true_false (subst (λ b. T (same_bytes b bytes)) (sym same) (same_refl bytes)) k;
   })
     where
-      true-false : {b : Bool} → T b → b ≡ false → ⊥
-      true-false {b} t e = subst T e t
+      true_false : {b : Bool} → T b → b ≡ false → ⊥
+      true_false {b} t e = subst T e t
 
-  pub early-before : Early of L beforeFormat
-  early-before = early-then (exact-expect signature q.Signature) (early-expect signature q.Signature λ place. refl) λ _. early-expect (0x54 ∷ []) q.Version λ place. refl
+  pub early_before : Early of L before_format
+  early_before = early_then (exact_expect signature q.Signature) (early_expect signature q.Signature λ place. refl) λ _. early_expect (0x54 ∷ []) q.Version λ place. refl
 
-  pub early-behind : Early of L behindFormat
-  early-behind =
-      early-then (exact-expect luacData q.LuacData) (early-expect luacData q.LuacData λ place. refl) λ _.
-      early-then (exact-expect (4 ∷ []) q.InstructionSize) (early-expect (4 ∷ []) q.InstructionSize λ place. refl) λ _.
-      early-then (exact-expect (8 ∷ []) q.LuaIntegerSize) (early-expect (8 ∷ []) q.LuaIntegerSize λ place. refl) λ _.
-      early-then (exact-expect (8 ∷ []) q.LuaNumberSize) (early-expect (8 ∷ []) q.LuaNumberSize λ place. refl) λ _.
-      early-then (exact-expect luacInt q.LuacInt) (early-expect luacInt q.LuacInt λ place. refl) λ _.
-      early-expect luacNum q.LuacNum λ place. refl
+  pub early_behind : Early of L behind_format
+  early_behind =
+      early_then (exact_expect luac_data q.LuacData) (early_expect luac_data q.LuacData λ place. refl) λ _.
+      early_then (exact_expect (4 ∷ []) q.InstructionSize) (early_expect (4 ∷ []) q.InstructionSize λ place. refl) λ _.
+      early_then (exact_expect (8 ∷ []) q.LuaIntegerSize) (early_expect (8 ∷ []) q.LuaIntegerSize λ place. refl) λ _.
+      early_then (exact_expect (8 ∷ []) q.LuaNumberSize) (early_expect (8 ∷ []) q.LuaNumberSize λ place. refl) λ _.
+      early_then (exact_expect luac_int q.LuacInt) (early_expect luac_int q.LuacInt λ place. refl) λ _.
+      early_expect luac_num q.LuacNum λ place. refl
 
-  early-header : Early of L header
-  early-header = early-then exact-before early-before λ _. early-here λ place. early-then (exact-field 1) (early-field 1) λ format. early-then exact-behind early-behind λ _. early-give _
+  early_header : Early of L header
+  early_header = early_then exact_before early_before λ _. early_here λ place. early_then (exact_field 1) (early_field 1) λ format. early_then exact_behind early_behind λ _. early_give _
 
   -- ## Lists and entries
-  pub early-counted : {A : Type 0} {r : Reader A} {F : Form A} → Exact r F → Early of L r → Early of L (counted r)
-  early-counted exact one = early-then exact-number early-number λ n. early-here λ place. early-then (exact-many n exact) (early-many n exact one) λ items. early-give _
+  pub early_counted : {A : Type 0} {r : Reader A} {F : Form A} → Exact r F → Early of L r → Early of L (counted r)
+  early_counted exact one = early_then exact_number early_number λ n. early_here λ place. early_then (exact_many n exact) (early_many n exact one) λ items. early_give _
 
-  pub early-countedUpTo : {A : Type 0} {r : Reader A} {F : Form A} (limit : ℕ) (refusal : ℕ → Refusal) → ((place : ℕ) → causeBy of L (refusal place) ≡ above place limit) → Exact r F → Early of L r → Early of L (countedUpTo limit refusal r)
-  early-countedUpTo limit refusal is exact one = early-numbered _ λ first n bytes d.
-      soon-test _ (leb n limit) (refusal first) (λ k. rw (is first) (read_number first n bytes d (leb-false n limit k)))
-      (soon-early (early-here λ place. early-then (exact-many n exact) (early-many n exact one) λ items. early-give _))
+  pub early_counted_up_to : {A : Type 0} {r : Reader A} {F : Form A} (limit : ℕ) (refusal : ℕ → Refusal) → ((place : ℕ) → cause_by of L (refusal place) ≡ above place limit) → Exact r F → Early of L r → Early of L (counted_up_to limit refusal r)
+  early_counted_up_to limit refusal is exact one = early_numbered _ λ first n bytes d.
+      soon_test _ (leb n limit) (refusal first) (λ k. rw (is first) (read_number first n bytes d (leb-false n limit k)))
+      (soon_early (early_here λ place. early_then (exact_many n exact) (early_many n exact one) λ items. early_give _))
 
-  pub early-always : (instead : Bytes) → Early of L (always L.max_string_bytes instead)
-  early-always instead = early-then (exact-string L.max_string_bytes) early-string λ t. early-here λ place. early-give _
+  pub early_always : (instead : Bytes) → Early of L (always L.max_string_bytes instead)
+  early_always instead = early_then (exact_string L.max_string_bytes) early_string λ t. early_here λ place. early_give _
 
-  soon-tagged : (place tag : ℕ) (bytes : Bytes) → Field 1 place bytes tag → Soon of L (λ p. Ends (causeBy of L p) place (bytes ++ [])) (tagged L.max_string_bytes place tag)
-  soon-tagged place tag bytes d =
-      soon-pick (eqb tag 0) (soon-early (early-give _)) λ k0.
-      soon-pick (eqb tag 1) (soon-early (early-give _)) λ k1.
-      soon-pick (eqb tag 17) (soon-early (early-give _)) λ k17.
-      soon-pick (eqb tag 3) (soon-early (early-then (exact-field 8) (early-field 8) λ n. early-give _)) λ k3.
-      soon-pick (eqb tag 19) (soon-early (early-then (exact-field 8) (early-field 8) λ n. early-give _)) λ k19.
-      soon-pick (eqb tag 4) (soon-early (early-then (exact-always L.max_string_bytes []) (early-always []) λ t. early-give _)) λ k4.
-      soon-pick (eqb tag 20) (soon-early (early-then (exact-always L.max_string_bytes []) (early-always []) λ t. early-give _)) λ k20.
-      soon-refuse (q.ConstantTag place) (no-tag place tag bytes d k0 k1 k17 k3 k19 k4 k20)
+  soon_tagged : (place tag : ℕ) (bytes : Bytes) → Field 1 place bytes tag → Soon of L (λ p. Ends (cause_by of L p) place (bytes ++ [])) (tagged L.max_string_bytes place tag)
+  soon_tagged place tag bytes d =
+      soon_pick (eqb tag 0) (soon_early (early_give _)) λ k0.
+      soon_pick (eqb tag 1) (soon_early (early_give _)) λ k1.
+      soon_pick (eqb tag 17) (soon_early (early_give _)) λ k17.
+      soon_pick (eqb tag 3) (soon_early (early_then (exact_field 8) (early_field 8) λ n. early_give _)) λ k3.
+      soon_pick (eqb tag 19) (soon_early (early_then (exact_field 8) (early_field 8) λ n. early_give _)) λ k19.
+      soon_pick (eqb tag 4) (soon_early (early_then (exact_always L.max_string_bytes []) (early_always []) λ t. early_give _)) λ k4.
+      soon_pick (eqb tag 20) (soon_early (early_then (exact_always L.max_string_bytes []) (early_always []) λ t. early_give _)) λ k20.
+      soon_refuse (q.ConstantTag place) (no_tag_lem place tag bytes d k0 k1 k17 k3 k19 k4 k20)
 
-  pub early-constant : Early of L (constant L.max_string_bytes)
-  early-constant = early-first (tagged L.max_string_bytes) (exact-field 1) (early-field 1) soon-tagged
+  pub early_constant : Early of L (constant L.max_string_bytes)
+  early_constant = early_first (tagged L.max_string_bytes) (exact_field 1) (early_field 1) soon_tagged
 
-  pub early-upvalue : Early of L upvalue
-  early-upvalue = early-then (exact-field 1) (early-field 1) λ instack. early-then (exact-field 1) (early-field 1) λ idx. early-then (exact-field 1) (early-field 1) λ kind. early-give _
+  pub early_upvalue : Early of L upvalue
+  early_upvalue = early_then (exact_field 1) (early_field 1) λ instack. early_then (exact_field 1) (early_field 1) λ idx. early_then (exact_field 1) (early_field 1) λ kind. early_give _
 
-  pub early-anchor : Early of L anchor
-  early-anchor = early-then exact-number early-number λ pc. early-then exact-number early-number λ line. early-give _
+  pub early_anchor : Early of L anchor
+  early_anchor = early_then exact_number early_number λ pc. early_then exact_number early_number λ line. early_give _
 
-  pub early-local : Early of L (local L.max_string_bytes)
-  early-local = early-then (exact-always L.max_string_bytes (63 ∷ [])) (early-always (63 ∷ [])) λ name. early-then exact-number early-number λ startpc. early-then exact-number early-number λ endpc. early-give _
+  pub early_local : Early of L (local L.max_string_bytes)
+  early_local = early_then (exact_always L.max_string_bytes (63 ∷ [])) (early_always (63 ∷ [])) λ name. early_then exact_number early_number λ startpc. early_then exact_number early_number λ endpc. early_give _
 
   -- ## Functions
-  pub early-forest : (n : ℕ) {r : Where → Reader (List Prototype)} {F : Where → Form (List Prototype)} (w : Where) → ((w : Where) → Exact (r w) (F w)) → ((w : Where) → Early of L (r w)) → Early of L (forest n r w)
-  early-forest zero w exact one = early-give []
-  early-forest (suc n) w exact one = early-then (exact w) (one w) λ ps. early-then (exact-forest n (after ps w) exact) (early-forest n (after ps w) exact one) λ more. early-give (ps ++ more)
+  pub early_forest : (n : ℕ) {r : Where → Reader (List Prototype)} {F : Where → Form (List Prototype)} (w : Where) → ((w : Where) → Exact (r w) (F w)) → ((w : Where) → Early of L (r w)) → Early of L (forest n r w)
+  early_forest zero w exact one = early_give []
+  early_forest (suc n) w exact one = early_then (exact w) (one w) λ ps. early_then (exact_forest n (after ps w) exact) (early_forest n (after ps w) exact one) λ more. early_give (ps ++ more)
 
   -- 14 and 15, of which 14 comes first: a count that is 15 is not above the limit of 14
-  pub soon-counts : {B : Type 0} (g : Reader B) (first size before : ℕ) (bytes : Bytes) → Number first bytes size → Counts of size → Soon of L (λ p. Ends (causeBy of L p) first (bytes ++ [])) g
-      → Soon of L (λ p. Ends (causeBy of L p) first (bytes ++ [])) (at_most size L.max_instructions_per_proto (q.Instructions first) >>= λ _. at_most (before + size) L.max_total_instructions (q.TotalInstructions first) >>= λ _. g)
-  soon-counts g first size before bytes d fits one = own (leb size L.max_instructions_per_proto) refl
+  pub soon_counts : {B : Type 0} (g : Reader B) (first size before : ℕ) (bytes : Bytes) → Number first bytes size → Counts of size → Soon of L (λ p. Ends (cause_by of L p) first (bytes ++ [])) g
+      → Soon of L (λ p. Ends (cause_by of L p) first (bytes ++ [])) (at_most size L.max_instructions_per_proto (q.Instructions first) >>= λ _. at_most (before + size) L.max_total_instructions (q.TotalInstructions first) >>= λ _. g)
+  soon_counts g first size before bytes d fits one = own (leb size L.max_instructions_per_proto) refl
     where
       own : (b : Bool) → leb size L.max_instructions_per_proto ≡ b
-          → Soon of L (λ p. Ends (causeBy of L p) first (bytes ++ [])) (test b (q.Instructions first) >>= λ _. at_most (before + size) L.max_total_instructions (q.TotalInstructions first) >>= λ _. g)
+          → Soon of L (λ p. Ends (cause_by of L p) first (bytes ++ [])) (test b (q.Instructions first) >>= λ _. at_most (before + size) L.max_total_instructions (q.TotalInstructions first) >>= λ _. g)
       own true k =
-          soon-test _ true (q.Instructions first) (λ e. absurd (let z : ◌≡◌ {A = ℕ} 0 1 = cc in omega arith))
-          (soon-test g (leb (before + size) L.max_total_instructions) (q.TotalInstructions first) (λ e. read_number first size bytes d (leb-true size L.max_instructions_per_proto k)) one)
-      own false k = record { late = λ at s p e. let is : q.Instructions first ≡ p = was e in now (subst (λ p. Ends (causeBy of L p) first (bytes ++ [])) is (too_many of first size L.max_instructions_per_proto bytes d fits (leb-false size L.max_instructions_per_proto k))) e }
+          soon_test _ true (q.Instructions first) (λ e. absurd (let z : ◌≡◌ {A = ℕ} 0 1 = cc in omega arith))
+          (soon_test g (leb (before + size) L.max_total_instructions) (q.TotalInstructions first) (λ e. read_number first size bytes d (leb-true size L.max_instructions_per_proto k)) one)
+      own false k = record { late = λ at s p e. let is : q.Instructions first ≡ p = was e in now (subst (λ p. Ends (cause_by of L p) first (bytes ++ [])) is (too_many of first size L.max_instructions_per_proto bytes d fits (leb-false size L.max_instructions_per_proto k))) e }
 
 -- ## The ordinary reader
 module _ {L : ResourceLimits} where
-  early-body : {r : Where → Reader (List Prototype)} {F : Where → Form (List Prototype)} → ((w : Where) → Exact (r w) (F w)) → ((w : Where) → Early ordinary L (r w)) → (w : Where) → Early ordinary L (body L r w)
+  early_body : {r : Where → Reader (List Prototype)} {F : Where → Form (List Prototype)} → ((w : Where) → Exact (r w) (F w)) → ((w : Where) → Early ordinary L (r w)) → (w : Where) → Early ordinary L (body L r w)
   unfolding body
-  early-body exact one w =
-      early-here λ start.
-      early-then (exact-string L.max_string_bytes) early-string λ spelt.
-      early-then exact-number early-number λ line_defined.
-      early-then exact-number early-number λ last-line-defined.
-      early-then (exact-field 1) (early-field 1) λ numparams.
-      early-then (exact-field 1) (early-field 1) λ is-vararg.
-      early-then (exact-field 1) (early-field 1) λ maxstacksize.
-      early-numbered _ λ first size bytes d.
-      soon-counts _ first size w.instructions bytes d tt (
-      soon-early (
-      early-here λ instructions-at.
-      early-then (exact-many size (exact-field 4)) (early-many size (exact-field 4) (early-field 4)) λ instructions.
-      early-then (exact-countedUpTo L.max_constants_per_proto q.Constants (exact-constant L.max_string_bytes))
-      (early-countedUpTo L.max_constants_per_proto q.Constants (λ place. refl) (exact-constant L.max_string_bytes) early-constant) λ constants.
-      early-then (exact-countedUpTo L.max_upvalues_per_proto q.Upvalues exact-upvalue) (early-countedUpTo L.max_upvalues_per_proto q.Upvalues (λ place. refl) exact-upvalue early-upvalue) λ upvalues.
-      early-numbered _ λ first protos bytes d.
-      soon-test _ (leb protos L.max_total_prototypes) (q.Prototypes first) (λ k. read_number first protos bytes d (leb-false protos L.max_total_prototypes k)) (
-      soon-early (
-      early-here λ protos-at.
-      early-then (exact-forest protos _ exact) (early-forest protos _ exact one) λ nested.
-      early-then exact-number early-number λ line-info-size.
-      early-here λ line-info-at.
-      early-then (exact-run line-info-size) (early-run line-info-size) λ line-info.
-      early-then (exact-counted exact-anchor) (early-counted exact-anchor early-anchor) λ abs-line-info.
-      early-then (exact-counted (exact-local L.max_string_bytes)) (early-counted (exact-local L.max_string_bytes) early-local) λ loc-vars.
-      early-then (exact-counted (exact-string L.max_string_bytes)) (early-counted (exact-string L.max_string_bytes) early-string) λ upvalue-names.
-      early-here λ end.
-      early-give _))))
+  early_body exact one w =
+      early_here λ start.
+      early_then (exact_string L.max_string_bytes) early_string λ spelt.
+      early_then exact_number early_number λ line_defined.
+      early_then exact_number early_number λ last-line_defined.
+      early_then (exact_field 1) (early_field 1) λ numparams.
+      early_then (exact_field 1) (early_field 1) λ is_vararg.
+      early_then (exact_field 1) (early_field 1) λ maxstacksize.
+      early_numbered _ λ first size bytes d.
+      soon_counts _ first size w.instructions bytes d tt (
+      soon_early (
+      early_here λ instructions-at.
+      early_then (exact_many size (exact_field 4)) (early_many size (exact_field 4) (early_field 4)) λ instructions.
+      early_then (exact_counted_up_to L.max_constants_per_proto q.Constants (exact_constant L.max_string_bytes))
+      (early_counted_up_to L.max_constants_per_proto q.Constants (λ place. refl) (exact_constant L.max_string_bytes) early_constant) λ constants.
+      early_then (exact_counted_up_to L.max_upvalues_per_proto q.Upvalues exact_upvalue) (early_counted_up_to L.max_upvalues_per_proto q.Upvalues (λ place. refl) exact_upvalue early_upvalue) λ upvalues.
+      early_numbered _ λ first protos bytes d.
+      soon_test _ (leb protos L.max_total_prototypes) (q.Prototypes first) (λ k. read_number first protos bytes d (leb-false protos L.max_total_prototypes k)) (
+      soon_early (
+      early_here λ protos-at.
+      early_then (exact_forest protos _ exact) (early_forest protos _ exact one) λ nested.
+      early_then exact_number early_number λ line-info-size.
+      early_here λ line-info-at.
+      early_then (exact_run line-info-size) (early_run line-info-size) λ line_info_lem.
+      early_then (exact_counted exact_anchor) (early_counted exact_anchor early_anchor) λ abs_line_info.
+      early_then (exact_counted (exact_local L.max_string_bytes)) (early_counted (exact_local L.max_string_bytes) early_local) λ loc_vars.
+      early_then (exact_counted (exact_string L.max_string_bytes)) (early_counted (exact_string L.max_string_bytes) early_string) λ upvalue_names_lem.
+      early_here λ end.
+      early_give _))))
 
-  early-function : (left : ℕ) (w : Where) → Early ordinary L (function L left w)
+  early_function : (left : ℕ) (w : Where) → Early ordinary L (function L left w)
   unfolding function
-  early-function zero w = early-body (λ w. exact-place λ place. exact-refuse _) (λ w. early-at λ place. soon-refuse (q.NestingDepth place) (sym (add-zero place))) w
-  early-function (suc left) w =
-      early-body (λ w. exact-place λ place. exact-then (exact-atMost w.number L.max_total_prototypes (q.TotalPrototypes place)) λ _. exact-function L left w)
-      (λ w. early-at λ place. soon-test _ (leb w.number L.max_total_prototypes) (q.TotalPrototypes place) (λ k. sym (add-zero place)) (soon-early (early-function left w))) w
+  early_function zero w = early_body (λ w. exact_place λ place. exact_refuse _) (λ w. early_at λ place. soon_refuse (q.NestingDepth place) (sym (add-zero place))) w
+  early_function (suc left) w =
+      early_body (λ w. exact_place λ place. exact_then (exact_at_most w.number L.max_total_prototypes (q.TotalPrototypes place)) λ _. exact_function L left w)
+      (λ w. early_at λ place. soon_test _ (leb w.number L.max_total_prototypes) (q.TotalPrototypes place) (λ k. sym (add-zero place)) (soon_early (early_function left w))) w
 
   -- chunks
-  pub early-main : Early ordinary L (main L)
-  early-main = early-then exact-header early-header λ headed. early-then (exact-field 1) (early-field 1) λ forgotten. early-then (exact-function L L.max_nesting_depth _) (early-function L.max_nesting_depth _) λ functions. early-give _
+  pub early_main : Early ordinary L (main L)
+  early_main = early_then exact_header early_header λ headed. early_then (exact_field 1) (early_field 1) λ forgotten. early_then (exact_function L L.max_nesting_depth _) (early_function L.max_nesting_depth _) λ functions. early_give _

@@ -1,7 +1,7 @@
 -- The entries of a list, by a call at a place: the first at the list's place, each further one at the place that the call before gave as the one behind.
 --     behind a               the place behind, in an answer of such a call: its last number
 --     stepped call i place   where i such steps lead
---     entries-shown          of a list that is read at its place, the call shows at the place to which i steps lead what it shows of entry i
+--     entries_shown          of a list that is read at its place, the call shows at the place to which i steps lead what it shows of entry i
 -- Assumes nothing.
 use mathlib.Core.Path.{◌≡◌, refl, sym, ◌∙◌, ap, subst}
 use mathlib.Core.List.{List, [], ◌∷◌, ◌++◌}
@@ -15,7 +15,7 @@ use Rattle.format.specs.ReadFields.{byte}
 use Rattle.format.proofs.Exact.{Exact, never}
 use Rattle.format.proofs.Left.{left}
 use Rattle.format.proofs.Located.{Found}
-use Rattle.format.proofs.Steps.{run-was, field-enough}
+use Rattle.format.proofs.Steps.{run_was, field_enough}
 use Rattle.c_boundary.specs.Status.{Answer, done, refuses}
 
 -- ## Steps
@@ -61,23 +61,23 @@ first_of {A} {s} {r} exact n {at} {xs} f = one (r at (drop at s)) refl f.is
 
 module _ {A : Type 0} (s : Bytes) (r : Reader A) {F : Form A} (exact : Exact r F) (call : ℕ → Answer) (Shown : A → Answer → Type 0)
     (shows : (at : ℕ) (x : A) (to : ℕ) (rest : Bytes) → r at (drop at s) ≡ ok x to rest → Shown x (call at) × (behind (call at) ≡ to)) where
-  pub entries-shown : (n : ℕ) {at : ℕ} {xs : List A} → Found s (many n r) at xs → (i : ℕ) {x : A} → get_elem? xs i ≡ some x → Shown x (call (stepped call i at))
-  entries-shown zero {at} {xs} f i there = absurd (let e = f.is in let none_of : xs ≡ [] = cc in let bad = rw none_of at there in let z : ◌≡◌ {A = ℕ} 0 1 = cc in omega arith)
-  entries-shown (suc n) {at} f zero {x} there =
+  pub entries_shown : (n : ℕ) {at : ℕ} {xs : List A} → Found s (many n r) at xs → (i : ℕ) {x : A} → get_elem? xs i ≡ some x → Shown x (call (stepped call i at))
+  entries_shown zero {at} {xs} f i there = absurd (let e = f.is in let none_of : xs ≡ [] = cc in let bad = rw none_of at there in let z : ◌≡◌ {A = ℕ} 0 1 = cc in omega arith)
+  entries_shown (suc n) {at} f zero {x} there =
       let p = first_of exact n f in
       let same : p.head ≡ x = let e = p.is in let t = rw e at there in cc in
       subst (λ y. Shown y (call at)) same (shows at p.head p.mid p.rest p.first).0
-  entries-shown (suc n) {at} f (suc i) {x} there =
+  entries_shown (suc n) {at} f (suc i) {x} there =
       let p = first_of exact n f in
       let later : get_elem? p.tail i ≡ some x = rw p.is at there in
-      subst (λ place. Shown x (call (stepped call i place))) (sym (shows at p.head p.mid p.rest p.first).1) (entries-shown n p.others i later)
+      subst (λ place. Shown x (call (stepped call i place))) (sym (shows at p.head p.mid p.rest p.first).1) (entries_shown n p.others i later)
 
 -- ## A run of bytes is so many bytes
 bytes_of : (n at : ℕ) (t : Bytes) → n ≤ length t → many n byte at t ≡ ok (take n t) (at + n) (drop n t)
 bytes_of zero at t h = ap (λ k. ok [] k t) (let e : at ≡ at + 0 = omega arith in e)
 bytes_of (suc n) at [] h = absurd (omega (arith, h))
 bytes_of (suc n) at (x ∷ t) h =
-    let one : byte at (x ∷ t) ≡ ok (x + 256 * 0) (at + 1) t = field-enough 1 at (x ∷ t) (omega arith) in
+    let one : byte at (x ∷ t) ≡ ok (x + 256 * 0) (at + 1) t = field_enough 1 at (x ∷ t) (omega arith) in
     let value : x + 256 * 0 ≡ x = omega arith in
     let place : at + 1 + n ≡ at + suc n = omega arith in
     ap (λ o. next o (λ y. many n byte >>= λ ys. give (y ∷ ys))) (one ∙ ap (λ v. ok v (at + 1) t) value)
@@ -86,5 +86,5 @@ bytes_of (suc n) at (x ∷ t) h =
 
 pub run-bytes : {s : Bytes} (n : ℕ) {at : ℕ} {b : Bytes} → Found s (run n) at b → Found s (many n byte) at b
 run-bytes {s} n {at} f =
-    let was = run-was n at (drop at s) f.is in
+    let was = run_was n at (drop at s) f.is in
     record { to = at + n; rest = drop n (drop at s); is = bytes_of n at (drop at s) was.0 ∙ ap (λ b. ok b (at + n) (drop n (drop at s))) was.1 }

@@ -7,7 +7,7 @@
 --                      all are refused so
 --     Cures r r'       what r, under lower limits, accepts, r' accepts alike; what r refuses by 13 to 20 has such a
 --                      front
---     limits-only      the reader of a chunk
+--     limits_only      the reader of a chunk
 -- A wrong reader that passes the other laws and is refused by this one: Blaming.antt.
 -- Assumes nothing.
 use mathlib.Core.Path.{◌≡◌, refl, sym, ◌∙◌, ap, subst}
@@ -24,16 +24,16 @@ use Rattle.format.specs.declared.refusal.Refusal.TheVariants as q
 use Rattle.format.specs.Form.{Bytes, Form}
 use Rattle.format.specs.Refusals.{reported}
 use Rattle.format.specs.Reading.{Prototype}
-use Rattle.format.specs.GrammarHeader.{signature, luacData, luacInt, luacNum}
+use Rattle.format.specs.GrammarHeader.{signature, luac_data, luac_int, luac_num}
 use Rattle.format.specs.GrammarChunk.{inherit, Where, after, within}
 use Rattle.format.specs.Read.{Read, ok, refused, Reader, next, ◌>>=◌, ◌>>◌, give, here, refuse, test, at_most, piece, run, many}
 use Rattle.format.specs.ReadFields.{field, byte, groups, number, content, string}
-use Rattle.format.specs.ReadHeader.{sameBytes, expect, beforeFormat, behindFormat, header}
-use Rattle.format.specs.ReadChunk.{counted, countedUpTo, always, constant, upvalue, anchor, local, forest, body, function, main}
-use Rattle.format.proofs.Exact.{Exact, exact-place, exact-then, exact-atMost, exact-run, exact-many}
-use Rattle.format.proofs.ExactFields.{exact-field, exact-number, exact-string}
-use Rattle.format.proofs.ExactHeader.{exact-header}
-use Rattle.format.proofs.ExactChunk.{exact-counted, exact-countedUpTo, exact-always, exact-constant, exact-upvalue, exact-anchor, exact-local, exact-forest, exact-function, exact-refuse}
+use Rattle.format.specs.ReadHeader.{same_bytes, expect, before_format, behind_format, header}
+use Rattle.format.specs.ReadChunk.{counted, counted_up_to, always, constant, upvalue, anchor, local, forest, body, function, main}
+use Rattle.format.proofs.Exact.{Exact, exact_place, exact_then, exact_at_most, exact_run, exact_many}
+use Rattle.format.proofs.ExactFields.{exact_field, exact_number, exact_string}
+use Rattle.format.proofs.ExactHeader.{exact_header}
+use Rattle.format.proofs.ExactChunk.{exact_counted, exact_counted_up_to, exact_always, exact_constant, exact_upvalue, exact_anchor, exact_local, exact_forest, exact_function, exact_refuse}
 use Rattle.demands.proofs.Early.{never, no, was}
 use Rattle.demands.proofs.AtOneByte.{enter}
 use Rattle.demands.proofs.Blame.{Raised}
@@ -86,14 +86,14 @@ late p h = by (leb 13 n) (leb n 20) refl refl h
 pub record Plain {A : Type 0} (r : Reader A) : Type 0 where
   pub few : (at : ℕ) (s : Bytes) (p : Refusal) → r at s ≡ refused p → limited p ≡ false
 
-pub few-is : {A : Type 0} {p p' : Refusal} → ◌≡◌ {A = Read A} (refused p) (refused p') → limited p ≡ false → limited p' ≡ false
-few-is {A} {p} e h = let k : p ≡ _ = was e in subst (λ p. limited p ≡ false) k h
+pub few_is : {A : Type 0} {p p' : Refusal} → ◌≡◌ {A = Read A} (refused p) (refused p') → limited p ≡ false → limited p' ≡ false
+few_is {A} {p} e h = let k : p ≡ _ = was e in subst (λ p. limited p ≡ false) k h
 
-pub plain-give : {A : Type 0} (x : A) → Plain (give x)
-plain-give x = record { few = λ at s p e. no e }
+pub plain_give : {A : Type 0} (x : A) → Plain (give x)
+plain_give x = record { few = λ at s p e. no e }
 
-pub plain-refuse : {A : Type 0} (p : Refusal) → limited p ≡ false → Plain {A = A} (refuse p)
-plain-refuse p h = record { few = λ at s p' e. few-is e h }
+pub plain_refuse : {A : Type 0} (p : Refusal) → limited p ≡ false → Plain {A = A} (refuse p)
+plain_refuse p h = record { few = λ at s p' e. few_is e h }
 
 pub plain_here : {B : Type 0} {f : ℕ → Reader B} → ((place : ℕ) → Plain (f place)) → Plain (here >>= f)
 plain_here two = record { few = λ at s p e. (two at).few at s p e }
@@ -103,75 +103,75 @@ plain_then {A} {B} {r} {f} one two = record { few = λ at s p e. go at s p (r at
   where
     go : (at : ℕ) (s : Bytes) (p : Refusal) (o : Read A) → r at s ≡ o → next o f ≡ refused p → limited p ≡ false
     go at s p (ok x to rest) is e = (two x).few to rest p e
-    go at s p (refused p') is e = few-is e (one.few at s p' is)
+    go at s p (refused p') is e = few_is e (one.few at s p' is)
 
-pub plain-test : (b : Bool) (p : Refusal) → limited p ≡ false → Plain (test b p)
-plain-test true p h = plain-give tt
-plain-test false p h = plain-refuse p h
+pub plain_test : (b : Bool) (p : Refusal) → limited p ≡ false → Plain (test b p)
+plain_test true p h = plain_give tt
+plain_test false p h = plain_refuse p h
 
-pub short-few : (b : Bool) (at : ℕ) → limited (cond b (q.Truncated at) q.Overflow) ≡ false
-short-few true at = refl
-short-few false at = refl
+pub short_few : (b : Bool) (at : ℕ) → limited (cond b (q.Truncated at) q.Overflow) ≡ false
+short_few true at = refl
+short_few false at = refl
 
-pub plain-run : (n : ℕ) → Plain (run n)
-plain-run n = record { few = λ at s p e. go at s p (leb n (length s)) e }
+pub plain_run : (n : ℕ) → Plain (run n)
+plain_run n = record { few = λ at s p e. go at s p (leb n (length s)) e }
   where
     go : (at : ℕ) (s : Bytes) (p : Refusal) (b : Bool) → piece b n at s ≡ refused p → limited p ≡ false
     go at s p true e = no e
-    go at s p false e = few-is e (short-few (ltb (at + n) (2 ^ 64)) at)
+    go at s p false e = few_is e (short_few (ltb (at + n) (2 ^ 64)) at)
 
-pub plain-field : (n : ℕ) → Plain (field n)
-plain-field n = plain_then (plain-run n) λ bytes. plain-give _
+pub plain_field : (n : ℕ) → Plain (field n)
+plain_field n = plain_then (plain_run n) λ bytes. plain_give _
 
-pub groups-few : (high at : ℕ) (s : Bytes) (p : Refusal) → groups high at s ≡ refused p → limited p ≡ false
-groups-few high at [] p e = few-is e (short-few (ltb (at + 1) (2 ^ 64)) at)
-groups-few high at (x ∷ s) p e =
-    go (λ e. groups-few (high * 128 + x) (at + 1) s p e) (ltb high (2 ^ 57 - 1)) (ltb x 128) e
+pub groups_few : (high at : ℕ) (s : Bytes) (p : Refusal) → groups high at s ≡ refused p → limited p ≡ false
+groups_few high at [] p e = few_is e (short_few (ltb (at + 1) (2 ^ 64)) at)
+groups_few high at (x ∷ s) p e =
+    go (λ e. groups_few (high * 128 + x) (at + 1) s p e) (ltb high (2 ^ 57 - 1)) (ltb x 128) e
   where
     go : (groups (high * 128 + x) (at + 1) s ≡ refused p → limited p ≡ false) → (fits low : Bool)
         → cond fits (cond low (groups (high * 128 + x) (at + 1) s) (ok (high * 128 + x % 128) (at + 1) s)) (refused q.VarintOverflow) ≡ refused p → limited p ≡ false
     go on true true e = on e
     go on true false e = no e
-    go on false low e = few-is {p = q.VarintOverflow} e refl
+    go on false low e = few_is {p = q.VarintOverflow} e refl
 
-pub plain-number : Plain number
-plain-number = record { few = λ at s p e. groups-few 0 at s p e }
+pub plain_number : Plain number
+plain_number = record { few = λ at s p e. groups_few 0 at s p e }
 
-pub plain-many : {A : Type 0} {r : Reader A} (n : ℕ) → Plain r → Plain (many n r)
-plain-many zero one = plain-give []
-plain-many (suc n) one = plain_then one λ x. plain_then (plain-many n one) λ xs. plain-give _
+pub plain_many : {A : Type 0} {r : Reader A} (n : ℕ) → Plain r → Plain (many n r)
+plain_many zero one = plain_give []
+plain_many (suc n) one = plain_then one λ x. plain_then (plain_many n one) λ xs. plain_give _
 
-pub plain-expect : (bytes : Bytes) (over : ℕ → Refusal) → ((place : ℕ) → limited (over place) ≡ false)
+pub plain_expect : (bytes : Bytes) (over : ℕ → Refusal) → ((place : ℕ) → limited (over place) ≡ false)
     → Plain (expect bytes over)
-plain-expect bytes over h =
-    plain_here λ place. plain_then (plain-run (length bytes)) λ b. plain-test (sameBytes b bytes) (over place) (h place)
+plain_expect bytes over h =
+    plain_here λ place. plain_then (plain_run (length bytes)) λ b. plain_test (same_bytes b bytes) (over place) (h place)
 
-pub plain-before : Plain beforeFormat
-plain-before =
-    plain_then (plain-expect signature q.Signature λ place. refl) λ _. plain-expect (0x54 ∷ []) q.Version λ place. refl
+pub plain_before : Plain before_format
+plain_before =
+    plain_then (plain_expect signature q.Signature λ place. refl) λ _. plain_expect (0x54 ∷ []) q.Version λ place. refl
 
-pub plain-behind : Plain behindFormat
-plain-behind =
-    plain_then (plain-expect luacData q.LuacData λ place. refl) λ _.
-    plain_then (plain-expect (4 ∷ []) q.InstructionSize λ place. refl) λ _.
-    plain_then (plain-expect (8 ∷ []) q.LuaIntegerSize λ place. refl) λ _.
-    plain_then (plain-expect (8 ∷ []) q.LuaNumberSize λ place. refl) λ _.
-    plain_then (plain-expect luacInt q.LuacInt λ place. refl) λ _.
-    plain-expect luacNum q.LuacNum λ place. refl
+pub plain_behind : Plain behind_format
+plain_behind =
+    plain_then (plain_expect luac_data q.LuacData λ place. refl) λ _.
+    plain_then (plain_expect (4 ∷ []) q.InstructionSize λ place. refl) λ _.
+    plain_then (plain_expect (8 ∷ []) q.LuaIntegerSize λ place. refl) λ _.
+    plain_then (plain_expect (8 ∷ []) q.LuaNumberSize λ place. refl) λ _.
+    plain_then (plain_expect luac_int q.LuacInt λ place. refl) λ _.
+    plain_expect luac_num q.LuacNum λ place. refl
 
-pub plain-header : Plain header
-plain-header =
-    plain_then plain-before λ _. plain_here λ place. plain_then (plain-field 1) λ format. plain_then plain-behind λ _. plain-give _
+pub plain_header : Plain header
+plain_header =
+    plain_then plain_before λ _. plain_here λ place. plain_then (plain_field 1) λ format. plain_then plain_behind λ _. plain_give _
 
-pub plain-upvalue : Plain upvalue
-plain-upvalue =
-    plain_then (plain-field 1) λ instack. plain_then (plain-field 1) λ idx. plain_then (plain-field 1) λ kind. plain-give _
+pub plain_upvalue : Plain upvalue
+plain_upvalue =
+    plain_then (plain_field 1) λ instack. plain_then (plain_field 1) λ idx. plain_then (plain_field 1) λ kind. plain_give _
 
-pub plain-anchor : Plain anchor
-plain-anchor = plain_then plain-number λ pc. plain_then plain-number λ line. plain-give _
+pub plain_anchor : Plain anchor
+plain_anchor = plain_then plain_number λ pc. plain_then plain_number λ line. plain_give _
 
-pub plain-counted : {A : Type 0} {r : Reader A} → Plain r → Plain (counted r)
-plain-counted one = plain_then plain-number λ n. plain_here λ place. plain_then (plain-many n one) λ items. plain-give _
+pub plain_counted : {A : Type 0} {r : Reader A} → Plain r → Plain (counted r)
+plain_counted one = plain_then plain_number λ n. plain_here λ place. plain_then (plain_many n one) λ items. plain_give _
 
 -- ## No bytes at all
 abbrev pub Stops : {A : Type 0} → Read A → Type 0
@@ -184,44 +184,44 @@ pub record Lacking {A : Type 0} (r : Reader A) : Type 0 where
 pub record Bare {A : Type 0} (r : Reader A) : Type 0 where
   pub at_none : (at : ℕ) → Mild (r at [])
 
-pub bare-stops : {A : Type 0} {r : Reader A} → Lacking r → Bare r
-bare-stops {A} {r} one = record { at_none = λ at. go (r at []) (one.stops at) }
+pub bare_stops : {A : Type 0} {r : Reader A} → Lacking r → Bare r
+bare_stops {A} {r} one = record { at_none = λ at. go (r at []) (one.stops at) }
   where
     go : (o : Read A) → Stops o → Mild o
     go (ok x to rest) k = absurd k
     go (refused p) k = k
 
-pub lacking-here : {B : Type 0} {f : ℕ → Reader B} → ((place : ℕ) → Lacking (f place)) → Lacking (here >>= f)
-lacking-here two = record { stops = λ at. (two at).stops at }
+pub lacking_here : {B : Type 0} {f : ℕ → Reader B} → ((place : ℕ) → Lacking (f place)) → Lacking (here >>= f)
+lacking_here two = record { stops = λ at. (two at).stops at }
 
-pub lacking-then : {A B : Type 0} {r : Reader A} → Lacking r → (f : A → Reader B) → Lacking (r >>= f)
-lacking-then {A} {B} {r} one f = record { stops = λ at. go (r at []) (one.stops at) }
+pub lacking_then : {A B : Type 0} {r : Reader A} → Lacking r → (f : A → Reader B) → Lacking (r >>= f)
+lacking_then {A} {B} {r} one f = record { stops = λ at. go (r at []) (one.stops at) }
   where
     go : (o : Read A) → Stops o → Stops (next o f)
     go (ok x to rest) k = absurd k
     go (refused p) k = k
 
-pub short-mild : (b : Bool) (at : ℕ) → NoFault (cond b (q.Truncated at) q.Overflow)
-short-mild true at = refl
-short-mild false at = refl
+pub short_mild : (b : Bool) (at : ℕ) → NoFault (cond b (q.Truncated at) q.Overflow)
+short_mild true at = refl
+short_mild false at = refl
 
-pub lacking-number : Lacking number
-lacking-number = record { stops = λ at. short-mild (ltb (at + 1) (2 ^ 64)) at }
+pub lacking_number : Lacking number
+lacking_number = record { stops = λ at. short_mild (ltb (at + 1) (2 ^ 64)) at }
 
-pub lacking-run : (n : ℕ) → Lacking (run (suc n))
-lacking-run n = record { stops = λ at. rw (lt-leb (suc n) 0 (omega arith)) (short-mild (ltb (at + suc n) (2 ^ 64)) at) }
+pub lacking_run : (n : ℕ) → Lacking (run (suc n))
+lacking_run n = record { stops = λ at. rw (lt-leb (suc n) 0 (omega arith)) (short_mild (ltb (at + suc n) (2 ^ 64)) at) }
 
-pub lacking-byte : Lacking byte
-lacking-byte = lacking-then (lacking-run 0) _
+pub lacking_byte : Lacking byte
+lacking_byte = lacking_then (lacking_run 0) _
 
-pub lacking-word : Lacking (field 4)
-lacking-word = lacking-then (lacking-run 3) _
+pub lacking_word : Lacking (field 4)
+lacking_word = lacking_then (lacking_run 3) _
 
-pub lacking-string : (limit : ℕ) → Lacking (string limit)
-lacking-string limit = lacking-here λ first. lacking-then lacking-number _
+pub lacking_string : (limit : ℕ) → Lacking (string limit)
+lacking_string limit = lacking_here λ first. lacking_then lacking_number _
 
-pub lacking-constant : (limit : ℕ) → Lacking (constant limit)
-lacking-constant limit = lacking-here λ place. lacking-then lacking-byte _
+pub lacking_constant : (limit : ℕ) → Lacking (constant limit)
+lacking_constant limit = lacking_here λ place. lacking_then lacking_byte _
 
 pub bare-give : {A : Type 0} (x : A) → Bare (give x)
 bare-give x = record { at_none = λ at. refl }
@@ -229,8 +229,8 @@ bare-give x = record { at_none = λ at. refl }
 pub bare-here : {B : Type 0} {f : ℕ → Reader B} → ((place : ℕ) → Bare (f place)) → Bare (here >>= f)
 bare-here two = record { at_none = λ at. (two at).at_none at }
 
-pub bare-then : {A B : Type 0} {r : Reader A} {f : A → Reader B} → Bare r → ((x : A) → Bare (f x)) → Bare (r >>= f)
-bare-then {A} {B} {r} {f} one two = record { at_none = λ at. go (r at []) (one.at_none at) }
+pub bare_then : {A B : Type 0} {r : Reader A} {f : A → Reader B} → Bare r → ((x : A) → Bare (f x)) → Bare (r >>= f)
+bare_then {A} {B} {r} {f} one two = record { at_none = λ at. go (r at []) (one.at_none at) }
   where
     go : (o : Read A) → Mild o → Mild (next o f)
     go (ok x to rest) k = subst (λ (rest : Bytes). Mild (f x to rest)) (sym k) ((two x).at_none to)
@@ -242,46 +242,46 @@ bare-test false p h = record { at_none = λ at. late p h }
 
 pub bare-run : (n : ℕ) → Bare (run n)
 bare-run zero = record { at_none = λ at. refl }
-bare-run (suc n) = bare-stops (lacking-run n)
+bare-run (suc n) = bare_stops (lacking_run n)
 
 pub bare-many : {A : Type 0} {r : Reader A} (n : ℕ) → Lacking r → Bare (many n r)
 bare-many zero one = bare-give []
-bare-many (suc n) one = bare-stops (lacking-then one _)
+bare-many (suc n) one = bare_stops (lacking_then one _)
 
 pub bare-forest : (n : ℕ) {r : Where → Reader (List Prototype)} (w : Where) → ((w : Where) → Bare (r w))
     → Bare (forest n r w)
 bare-forest zero w one = bare-give []
-bare-forest (suc n) w one = bare-then (one w) λ ps. bare-then (bare-forest n (after ps w) one) λ more. bare-give _
+bare-forest (suc n) w one = bare_then (one w) λ ps. bare_then (bare-forest n (after ps w) one) λ more. bare-give _
 
 module _ (M : ResourceLimits) where
-  pub lacking-body : (r : Where → Reader (List Prototype)) (w : Where) → Lacking (body M r w)
+  pub lacking_body : (r : Where → Reader (List Prototype)) (w : Where) → Lacking (body M r w)
   unfolding body
-  lacking-body r w = lacking-here λ start. lacking-then (lacking-string M.max_string_bytes) _
+  lacking_body r w = lacking_here λ start. lacking_then (lacking_string M.max_string_bytes) _
 
-  pub lacking-function : (left : ℕ) (w : Where) → Lacking (function M left w)
+  pub lacking_function : (left : ℕ) (w : Where) → Lacking (function M left w)
   unfolding function
-  lacking-function zero w = lacking-body _ w
-  lacking-function (suc left) w = lacking-body _ w
+  lacking_function zero w = lacking_body _ w
+  lacking_function (suc left) w = lacking_body _ w
 
-  pub bare-enter : (left : ℕ) (w : Where) → Bare (enter M left w)
-  bare-enter zero w = record { at_none = λ at. refl }
-  bare-enter (suc left) w = bare-here λ place. bare-then (bare-test (leb w.number M.max_total_prototypes) (q.TotalPrototypes place) refl) λ _. bare-stops (lacking-function left w)
+  pub bare_enter : (left : ℕ) (w : Where) → Bare (enter M left w)
+  bare_enter zero w = record { at_none = λ at. refl }
+  bare_enter (suc left) w = bare-here λ place. bare_then (bare-test (leb w.number M.max_total_prototypes) (q.TotalPrototypes place) refl) λ _. bare_stops (lacking_function left w)
 
 -- ## Ways to make a reader
-pub cures-plain : {A : Type 0} {r : Reader A} → Plain r → Cures r r
-cures-plain one = record { accepts = λ at s x to rest e. e; cured = λ at s p e h. clash h (one.few at s p e) }
+pub cures_plain : {A : Type 0} {r : Reader A} → Plain r → Cures r r
+cures_plain one = record { accepts = λ at s x to rest e. e; cured = λ at s p e h. clash h (one.few at s p e) }
 
-pub cures-here : {B : Type 0} {f f' : ℕ → Reader B} → ((place : ℕ) → Cures (f place) (f' place))
+pub cures_here : {B : Type 0} {f f' : ℕ → Reader B} → ((place : ℕ) → Cures (f place) (f' place))
     → Cures (here >>= f) (here >>= f')
-cures-here two = record {
+cures_here two = record {
   accepts = λ at s x to rest e. (two at).accepts at s x to rest e;
   cured =
       λ at s p e h. (let c = (two at).cured at s p e h in record { front = c.front; rest = c.rest; whole = c.whole; same = c.same; mild = c.mild });
 }
 
-pub cures-then : {A B : Type 0} {r r' : Reader A} {F : Form A} {f f' : A → Reader B} → Exact r F → Cures r r'
+pub cures_then : {A B : Type 0} {r r' : Reader A} {F : Form A} {f f' : A → Reader B} → Exact r F → Cures r r'
     → ((x : A) → Cures (f x) (f' x)) → ((x : A) → Bare (f' x)) → Cures (r >>= f) (r' >>= f')
-cures-then {A} {B} {r} {r'} {F} {f} {f'} exact one two bare = record { accepts = λ at s x to rest e. on at s x to rest (r at s) refl e; cured = λ at s p e h. off at s p h (r at s) refl e }
+cures_then {A} {B} {r} {r'} {F} {f} {f'} exact one two bare = record { accepts = λ at s x to rest e. on at s x to rest (r at s) refl e; cured = λ at s p e h. off at s p h (r at s) refl e }
   where
     on : (at : ℕ) (s : Bytes) (x : B) (to : ℕ) (rest : Bytes) (o : Read A) → r at s ≡ o → next o f ≡ ok x to rest
         → next (r' at s) f' ≡ ok x to rest
@@ -320,9 +320,9 @@ cures-then {A} {B} {r} {r'} {F} {f} {f'} exact one two bare = record { accepts =
         }
 
 -- behind a reader that meets no limit
-pub cures-plainly : {A B : Type 0} {r : Reader A} {F : Form A} {f f' : A → Reader B} → Exact r F → Plain r
+pub cures_plainly : {A B : Type 0} {r : Reader A} {F : Form A} {f f' : A → Reader B} → Exact r F → Plain r
     → ((x : A) → Cures (f x) (f' x)) → Cures (r >>= f) (r >>= f')
-cures-plainly {A} {B} {r} {F} {f} {f'} exact one two = record { accepts = λ at s x to rest e. on at s x to rest (r at s) refl e; cured = λ at s p e h. off at s p h (r at s) refl e }
+cures_plainly {A} {B} {r} {F} {f} {f'} exact one two = record { accepts = λ at s x to rest e. on at s x to rest (r at s) refl e; cured = λ at s p e h. off at s p h (r at s) refl e }
   where
     on : (at : ℕ) (s : Bytes) (x : B) (to : ℕ) (rest : Bytes) (o : Read A) → r at s ≡ o → next o f ≡ ok x to rest
         → next (r at s) f' ≡ ok x to rest
@@ -344,13 +344,13 @@ cures-plainly {A} {B} {r} {F} {f} {f'} exact one two = record { accepts = λ at 
         }
     off at s p h (refused p') is e = clash h (subst (λ p. limited p ≡ false) (was e) (one.few at s p' is))
 
-pub cures-pick : {A : Type 0} {r r' s s' : Reader A} (b : Bool) → Cures r r' → Cures s s'
+pub cures_pick : {A : Type 0} {r r' s s' : Reader A} (b : Bool) → Cures r r' → Cures s s'
     → Cures (cond b r s) (cond b r' s')
-cures-pick true one two = one
-cures-pick false one two = two
+cures_pick true one two = one
+cures_pick false one two = two
 
-pub cures-atMost : (n m m' : ℕ) (p : Refusal) → m ≤ m' → limited p ≡ true → Cures (at_most n m p) (at_most n m' p)
-cures-atMost n m m' p low high = record { accepts = λ at s x to rest e. on at s x to rest (leb n m) refl e; cured = λ at s p' e h. off at s p' (leb n m) refl e }
+pub cures_at_most : (n m m' : ℕ) (p : Refusal) → m ≤ m' → limited p ≡ true → Cures (at_most n m p) (at_most n m' p)
+cures_at_most n m m' p low high = record { accepts = λ at s x to rest e. on at s x to rest (leb n m) refl e; cured = λ at s p' e h. off at s p' (leb n m) refl e }
   where
     on : (at : ℕ) (s : Bytes) (x : Unit {0}) (to : ℕ) (rest : Bytes) (b : Bool) → leb n m ≡ b
         → test b p at s ≡ ok x to rest → at_most n m' p at s ≡ ok x to rest
@@ -362,13 +362,13 @@ cures-atMost n m m' p low high = record { accepts = λ at s x to rest e. on at s
     off at s p' true t e = absurd (let z : ◌≡◌ {A = ℕ} 0 1 = cc in omega arith)
     off at s p' false t e = record { front = []; rest = s; whole = refl; same = ap (λ b. test b p at []) t ∙ ap refused (was e); mild = (bare-test (leb n m') p high).at_none at }
 
-pub cures-many : {A : Type 0} {r r' : Reader A} {F : Form A} (n : ℕ) → Exact r F → Cures r r' → Lacking r'
+pub cures_many : {A : Type 0} {r r' : Reader A} {F : Form A} (n : ℕ) → Exact r F → Cures r r' → Lacking r'
     → Cures (many n r) (many n r')
-cures-many zero exact one lacks = cures-plain (plain-give [])
-cures-many (suc n) exact one lacks =
-    cures-then exact one
-    (λ x. cures-then (exact-many n exact) (cures-many n exact one lacks) (λ xs. cures-plain (plain-give _)) (λ xs. bare-give _))
-    (λ x. bare-then (bare-many n lacks) λ xs. bare-give _)
+cures_many zero exact one lacks = cures_plain (plain_give [])
+cures_many (suc n) exact one lacks =
+    cures_then exact one
+    (λ x. cures_then (exact_many n exact) (cures_many n exact one lacks) (λ xs. cures_plain (plain_give _)) (λ xs. bare-give _))
+    (λ x. bare_then (bare-many n lacks) λ xs. bare-give _)
 
 module _ (L M : ResourceLimits) (wide : Raised L M) where
   abbrev l : ℕ
@@ -378,138 +378,138 @@ module _ (L M : ResourceLimits) (wide : Raised L M) where
   m = M.max_string_bytes
 
   -- ## Strings, lists and entries
-  pub cures-string : Cures (string l) (string m)
-  cures-string = cures-here λ first. cures-plainly exact-number plain-number λ size. by first size
+  pub cures_string : Cures (string l) (string m)
+  cures_string = cures_here λ first. cures_plainly exact_number plain_number λ size. by first size
     where
       by : (first size : ℕ) → Cures (content l first size) (content m first size)
-      by first zero = cures-plain (plain-give _)
+      by first zero = cures_plain (plain_give _)
       by first (suc n) =
-          cures-then (exact-atMost n l (q.StringBytes first)) (cures-atMost n l m (q.StringBytes first) wide.strings refl)
-          (λ _. cures-plain (plain_here λ place. plain_then (plain-run n) λ bytes. plain-give _)) (λ _. bare-here λ place. bare-then (bare-run n) λ bytes. bare-give _)
+          cures_then (exact_at_most n l (q.StringBytes first)) (cures_at_most n l m (q.StringBytes first) wide.strings refl)
+          (λ _. cures_plain (plain_here λ place. plain_then (plain_run n) λ bytes. plain_give _)) (λ _. bare-here λ place. bare_then (bare-run n) λ bytes. bare-give _)
 
-  pub cures-always : (instead : Bytes) → Cures (always l instead) (always m instead)
-  cures-always instead =
-      cures-then (exact-string l) cures-string (λ t. cures-plain (plain_here λ place. plain-give _)) (λ t. bare-here λ place. bare-give _)
+  pub cures_always : (instead : Bytes) → Cures (always l instead) (always m instead)
+  cures_always instead =
+      cures_then (exact_string l) cures_string (λ t. cures_plain (plain_here λ place. plain_give _)) (λ t. bare-here λ place. bare-give _)
 
-  pub cures-constant : Cures (constant l) (constant m)
-  cures-constant = cures-here λ place. cures-plainly (exact-field 1) (plain-field 1) λ tag.
-      cures-pick (eqb tag 0) (cures-plain (plain-give _))
-      (cures-pick (eqb tag 1) (cures-plain (plain-give _))
-      (cures-pick (eqb tag 17) (cures-plain (plain-give _))
-      (cures-pick (eqb tag 3) (cures-plain (plain_then (plain-field 8) λ n. plain-give _))
-      (cures-pick (eqb tag 19) (cures-plain (plain_then (plain-field 8) λ n. plain-give _))
-      (cures-pick (eqb tag 4) (cures-then (exact-always l []) (cures-always []) (λ t. cures-plain (plain-give _)) (λ t. bare-give _))
-      (cures-pick (eqb tag 20) (cures-then (exact-always l []) (cures-always []) (λ t. cures-plain (plain-give _)) (λ t. bare-give _)) (cures-plain (plain-refuse (q.ConstantTag place) refl))))))))
+  pub cures_constant : Cures (constant l) (constant m)
+  cures_constant = cures_here λ place. cures_plainly (exact_field 1) (plain_field 1) λ tag.
+      cures_pick (eqb tag 0) (cures_plain (plain_give _))
+      (cures_pick (eqb tag 1) (cures_plain (plain_give _))
+      (cures_pick (eqb tag 17) (cures_plain (plain_give _))
+      (cures_pick (eqb tag 3) (cures_plain (plain_then (plain_field 8) λ n. plain_give _))
+      (cures_pick (eqb tag 19) (cures_plain (plain_then (plain_field 8) λ n. plain_give _))
+      (cures_pick (eqb tag 4) (cures_then (exact_always l []) (cures_always []) (λ t. cures_plain (plain_give _)) (λ t. bare-give _))
+      (cures_pick (eqb tag 20) (cures_then (exact_always l []) (cures_always []) (λ t. cures_plain (plain_give _)) (λ t. bare-give _)) (cures_plain (plain_refuse (q.ConstantTag place) refl))))))))
 
-  pub cures-local : Cures (local l) (local m)
-  cures-local = cures-then (exact-always l (63 ∷ [])) (cures-always (63 ∷ [])) (λ name. cures-plain (plain_then plain-number λ startpc. plain_then plain-number λ endpc. plain-give _)) (λ name. bare-stops (lacking-then lacking-number _))
+  pub cures_local : Cures (local l) (local m)
+  cures_local = cures_then (exact_always l (63 ∷ [])) (cures_always (63 ∷ [])) (λ name. cures_plain (plain_then plain_number λ startpc. plain_then plain_number λ endpc. plain_give _)) (λ name. bare_stops (lacking_then lacking_number _))
 
-  pub lacking-local : Lacking (local m)
-  lacking-local = lacking-then (lacking-then (lacking-string m) _) _
+  pub lacking_local : Lacking (local m)
+  lacking_local = lacking_then (lacking_then (lacking_string m) _) _
 
-  pub cures-counted : {A : Type 0} {r r' : Reader A} {F : Form A} → Exact r F → Cures r r' → Lacking r'
+  pub cures_counted : {A : Type 0} {r r' : Reader A} {F : Form A} → Exact r F → Cures r r' → Lacking r'
       → Cures (counted r) (counted r')
-  cures-counted exact one lacks = cures-plainly exact-number plain-number λ n. cures-here λ place. cures-then (exact-many n exact) (cures-many n exact one lacks) (λ items. cures-plain (plain-give _)) (λ items. bare-give _)
+  cures_counted exact one lacks = cures_plainly exact_number plain_number λ n. cures_here λ place. cures_then (exact_many n exact) (cures_many n exact one lacks) (λ items. cures_plain (plain_give _)) (λ items. bare-give _)
 
-  pub cures-countedUpTo : {A : Type 0} {r r' : Reader A} {F : Form A} (low high : ℕ) (over : ℕ → Refusal) → low ≤ high
+  pub cures_counted_up_to : {A : Type 0} {r r' : Reader A} {F : Form A} (low high : ℕ) (over : ℕ → Refusal) → low ≤ high
       → ((first : ℕ) → limited (over first) ≡ true) → Exact r F → Cures r r' → Lacking r'
-      → Cures (countedUpTo low over r) (countedUpTo high over r')
-  cures-countedUpTo low high over le h exact one lacks =
-      cures-here λ first. cures-plainly exact-number plain-number λ n.
-      cures-then (exact-atMost n low (over first)) (cures-atMost n low high (over first) le (h first))
-      (λ _. cures-here λ place. cures-then (exact-many n exact) (cures-many n exact one lacks) (λ items. cures-plain (plain-give _)) (λ items. bare-give _))
-      (λ _. bare-here λ place. bare-then (bare-many n lacks) λ items. bare-give _)
+      → Cures (counted_up_to low over r) (counted_up_to high over r')
+  cures_counted_up_to low high over le h exact one lacks =
+      cures_here λ first. cures_plainly exact_number plain_number λ n.
+      cures_then (exact_at_most n low (over first)) (cures_at_most n low high (over first) le (h first))
+      (λ _. cures_here λ place. cures_then (exact_many n exact) (cures_many n exact one lacks) (λ items. cures_plain (plain_give _)) (λ items. bare-give _))
+      (λ _. bare-here λ place. bare_then (bare-many n lacks) λ items. bare-give _)
 
   -- ## Functions
-  pub cures-forest : (n : ℕ) {r r' : Where → Reader (List Prototype)} {F : Where → Form (List Prototype)} (w : Where)
+  pub cures_forest : (n : ℕ) {r r' : Where → Reader (List Prototype)} {F : Where → Form (List Prototype)} (w : Where)
       → ((w : Where) → Exact (r w) (F w)) → ((w : Where) → Cures (r w) (r' w)) → ((w : Where) → Bare (r' w))
       → Cures (forest n r w) (forest n r' w)
-  cures-forest zero w exact one bare = cures-plain (plain-give [])
-  cures-forest (suc n) w exact one bare =
-      cures-then (exact w) (one w)
-      (λ ps. cures-then (exact-forest n (after ps w) exact) (cures-forest n (after ps w) exact one bare) (λ more. cures-plain (plain-give _)) (λ more. bare-give _))
-      (λ ps. bare-then (bare-forest n (after ps w) bare) λ more. bare-give _)
+  cures_forest zero w exact one bare = cures_plain (plain_give [])
+  cures_forest (suc n) w exact one bare =
+      cures_then (exact w) (one w)
+      (λ ps. cures_then (exact_forest n (after ps w) exact) (cures_forest n (after ps w) exact one bare) (λ more. cures_plain (plain_give _)) (λ more. bare-give _))
+      (λ ps. bare_then (bare-forest n (after ps w) bare) λ more. bare-give _)
 
-  pub cures-body : {r r' : Where → Reader (List Prototype)} {F : Where → Form (List Prototype)}
+  pub cures_body : {r r' : Where → Reader (List Prototype)} {F : Where → Form (List Prototype)}
       → ((w : Where) → Exact (r w) (F w)) → ((w : Where) → Cures (r w) (r' w)) → ((w : Where) → Bare (r' w))
       → (w : Where) → Cures (body L r w) (body M r' w)
   unfolding body
-  cures-body exact one bare w =
-      cures-here λ start.
-      cures-then (exact-string l) cures-string (λ spelt.
-      cures-plainly exact-number plain-number λ line_defined.
-      cures-plainly exact-number plain-number λ last-line-defined.
-      cures-plainly (exact-field 1) (plain-field 1) λ numparams.
-      cures-plainly (exact-field 1) (plain-field 1) λ is-vararg.
-      cures-plainly (exact-field 1) (plain-field 1) λ maxstacksize.
-      cures-here λ first.
-      cures-plainly exact-number plain-number λ size.
-      cures-then (exact-atMost size L.max_instructions_per_proto (q.Instructions first)) (cures-atMost size L.max_instructions_per_proto M.max_instructions_per_proto (q.Instructions first) wide.instructions refl) (λ _.
-      cures-then (exact-atMost (w.instructions + size) L.max_total_instructions (q.TotalInstructions first)) (cures-atMost (w.instructions + size) L.max_total_instructions M.max_total_instructions (q.TotalInstructions first) wide.all-instructions refl) (λ _.
-      cures-here λ instructions-at.
-      cures-plainly (exact-many size (exact-field 4)) (plain-many size (plain-field 4)) λ instructions.
-      cures-then (exact-countedUpTo L.max_constants_per_proto q.Constants (exact-constant l)) (cures-countedUpTo L.max_constants_per_proto M.max_constants_per_proto q.Constants wide.constants (λ first. refl) (exact-constant l) cures-constant (lacking-constant m)) (λ constants.
-      cures-then (exact-countedUpTo L.max_upvalues_per_proto q.Upvalues exact-upvalue) (cures-countedUpTo L.max_upvalues_per_proto M.max_upvalues_per_proto q.Upvalues wide.upvalues (λ first. refl) exact-upvalue (cures-plain plain-upvalue) (lacking-then lacking-byte _)) (λ upvalues.
-      cures-here λ first.
-      cures-plainly exact-number plain-number λ protos.
-      cures-then (exact-atMost protos L.max_total_prototypes (q.Prototypes first)) (cures-atMost protos L.max_total_prototypes M.max_total_prototypes (q.Prototypes first) wide.functions refl) (λ _.
-      cures-here λ protos-at.
-      cures-then (exact-forest protos (within w (inherit spelt w.source) (length instructions)) exact) (cures-forest protos (within w (inherit spelt w.source) (length instructions)) exact one bare) (λ nested.
-      cures-plainly exact-number plain-number λ line-info-size.
-      cures-here λ line-info-at.
-      cures-plainly (exact-run line-info-size) (plain-run line-info-size) λ line-info.
-      cures-plainly (exact-counted exact-anchor) (plain-counted plain-anchor) λ abs-line-info.
-      cures-then (exact-counted (exact-local l)) (cures-counted (exact-local l) cures-local lacking-local) (λ loc-vars.
-      cures-then (exact-counted (exact-string l)) (cures-counted (exact-string l) cures-string (lacking-string m)) (λ upvalue-names.
-      cures-here λ end.
-      cures-plain (plain-give _))
-      (λ upvalue-names. bare-here λ end. bare-give _))
-      (λ loc-vars. bare-stops (lacking-then (lacking-then lacking-number _) _)))
-      (λ nested. bare-stops (lacking-then lacking-number _)))
-      (λ _. bare-here λ protos-at. bare-then (bare-forest protos (within w (inherit spelt w.source) (length instructions)) bare) λ nested. bare-stops (lacking-then lacking-number _)))
-      (λ upvalues. bare-here λ first. bare-stops (lacking-then lacking-number _)))
-      (λ constants. bare-stops (lacking-then (lacking-here λ first. lacking-then lacking-number _) _)))
-      (λ _. bare-here λ instructions-at. bare-then (bare-many size lacking-word) λ instructions. bare-stops (lacking-then (lacking-here λ first. lacking-then lacking-number _) _)))
-      (λ _. bare-then (bare-test (leb (w.instructions + size) M.max_total_instructions) (q.TotalInstructions first) refl) λ _. bare-here λ instructions-at. bare-then (bare-many size lacking-word) λ instructions. bare-stops (lacking-then (lacking-here λ first. lacking-then lacking-number _) _)))
-      (λ spelt. bare-stops (lacking-then lacking-number _))
+  cures_body exact one bare w =
+      cures_here λ start.
+      cures_then (exact_string l) cures_string (λ spelt.
+      cures_plainly exact_number plain_number λ line_defined.
+      cures_plainly exact_number plain_number λ last-line_defined.
+      cures_plainly (exact_field 1) (plain_field 1) λ numparams.
+      cures_plainly (exact_field 1) (plain_field 1) λ is_vararg.
+      cures_plainly (exact_field 1) (plain_field 1) λ maxstacksize.
+      cures_here λ first.
+      cures_plainly exact_number plain_number λ size.
+      cures_then (exact_at_most size L.max_instructions_per_proto (q.Instructions first)) (cures_at_most size L.max_instructions_per_proto M.max_instructions_per_proto (q.Instructions first) wide.instructions refl) (λ _.
+      cures_then (exact_at_most (w.instructions + size) L.max_total_instructions (q.TotalInstructions first)) (cures_at_most (w.instructions + size) L.max_total_instructions M.max_total_instructions (q.TotalInstructions first) wide.all-instructions refl) (λ _.
+      cures_here λ instructions-at.
+      cures_plainly (exact_many size (exact_field 4)) (plain_many size (plain_field 4)) λ instructions.
+      cures_then (exact_counted_up_to L.max_constants_per_proto q.Constants (exact_constant l)) (cures_counted_up_to L.max_constants_per_proto M.max_constants_per_proto q.Constants wide.constants (λ first. refl) (exact_constant l) cures_constant (lacking_constant m)) (λ constants.
+      cures_then (exact_counted_up_to L.max_upvalues_per_proto q.Upvalues exact_upvalue) (cures_counted_up_to L.max_upvalues_per_proto M.max_upvalues_per_proto q.Upvalues wide.upvalues (λ first. refl) exact_upvalue (cures_plain plain_upvalue) (lacking_then lacking_byte _)) (λ upvalues.
+      cures_here λ first.
+      cures_plainly exact_number plain_number λ protos.
+      cures_then (exact_at_most protos L.max_total_prototypes (q.Prototypes first)) (cures_at_most protos L.max_total_prototypes M.max_total_prototypes (q.Prototypes first) wide.functions refl) (λ _.
+      cures_here λ protos-at.
+      cures_then (exact_forest protos (within w (inherit spelt w.source) (length instructions)) exact) (cures_forest protos (within w (inherit spelt w.source) (length instructions)) exact one bare) (λ nested.
+      cures_plainly exact_number plain_number λ line-info-size.
+      cures_here λ line-info-at.
+      cures_plainly (exact_run line-info-size) (plain_run line-info-size) λ line_info_lem.
+      cures_plainly (exact_counted exact_anchor) (plain_counted plain_anchor) λ abs_line_info.
+      cures_then (exact_counted (exact_local l)) (cures_counted (exact_local l) cures_local lacking_local) (λ loc_vars.
+      cures_then (exact_counted (exact_string l)) (cures_counted (exact_string l) cures_string (lacking_string m)) (λ upvalue_names_lem.
+      cures_here λ end.
+      cures_plain (plain_give _))
+      (λ upvalue_names_lem. bare-here λ end. bare-give _))
+      (λ loc_vars. bare_stops (lacking_then (lacking_then lacking_number _) _)))
+      (λ nested. bare_stops (lacking_then lacking_number _)))
+      (λ _. bare-here λ protos-at. bare_then (bare-forest protos (within w (inherit spelt w.source) (length instructions)) bare) λ nested. bare_stops (lacking_then lacking_number _)))
+      (λ upvalues. bare-here λ first. bare_stops (lacking_then lacking_number _)))
+      (λ constants. bare_stops (lacking_then (lacking_here λ first. lacking_then lacking_number _) _)))
+      (λ _. bare-here λ instructions-at. bare_then (bare-many size lacking_word) λ instructions. bare_stops (lacking_then (lacking_here λ first. lacking_then lacking_number _) _)))
+      (λ _. bare_then (bare-test (leb (w.instructions + size) M.max_total_instructions) (q.TotalInstructions first) refl) λ _. bare-here λ instructions-at. bare_then (bare-many size lacking_word) λ instructions. bare_stops (lacking_then (lacking_here λ first. lacking_then lacking_number _) _)))
+      (λ spelt. bare_stops (lacking_then lacking_number _))
 
   -- where a nested function begins: none may, under the lower limit
   pub deeper : (left' : ℕ) (w : Where) → Cures (enter L zero w) (enter M (suc left') w)
   deeper left' w = record {
     accepts = λ at s x to rest e. never {p = q.NestingDepth at} e;
     cured =
-        λ at s p e h. record { front = []; rest = s; whole = refl; same = e; mild = (bare-enter M (suc left') w).at_none at };
+        λ at s p e h. record { front = []; rest = s; whole = refl; same = e; mild = (bare_enter M (suc left') w).at_none at };
   }
 
   pub deepest : (w : Where) → Cures (enter L zero w) (enter M zero w)
   deepest w = record {
     accepts = λ at s x to rest e. never {p = q.NestingDepth at} e;
     cured =
-        λ at s p e h. record { front = []; rest = s; whole = refl; same = e; mild = (bare-enter M zero w).at_none at };
+        λ at s p e h. record { front = []; rest = s; whole = refl; same = e; mild = (bare_enter M zero w).at_none at };
   }
 
   pub entered : (left left' : ℕ) (w : Where) → Cures (function L left w) (function M left' w)
       → Cures (enter L (suc left) w) (enter M (suc left') w)
   entered left left' w one =
-      cures-here λ place.
-      cures-then (exact-atMost w.number L.max_total_prototypes (q.TotalPrototypes place)) (cures-atMost w.number L.max_total_prototypes M.max_total_prototypes (q.TotalPrototypes place) wide.functions refl)
-      (λ _. one) (λ _. bare-stops (lacking-function M left' w))
+      cures_here λ place.
+      cures_then (exact_at_most w.number L.max_total_prototypes (q.TotalPrototypes place)) (cures_at_most w.number L.max_total_prototypes M.max_total_prototypes (q.TotalPrototypes place) wide.functions refl)
+      (λ _. one) (λ _. bare_stops (lacking_function M left' w))
 
-  pub cures-function : (left left' : ℕ) (w : Where) → left ≤ left' → Cures (function L left w) (function M left' w)
+  pub cures_function : (left left' : ℕ) (w : Where) → left ≤ left' → Cures (function L left w) (function M left' w)
   unfolding function
-  cures-function zero zero w low =
-      cures-body {r = enter L zero} {r' = enter M zero} (λ w. exact-place λ place. exact-refuse _) deepest (bare-enter M zero) w
-  cures-function zero (suc left') w low =
-      cures-body {r = enter L zero} {r' = enter M (suc left')} (λ w. exact-place λ place. exact-refuse _) (deeper left') (bare-enter M (suc left')) w
-  cures-function (suc left) zero w low = absurd (omega arith)
-  cures-function (suc left) (suc left') w low =
-      cures-body {r = enter L (suc left)} {r' = enter M (suc left')}
-      (λ w. exact-place λ place. exact-then (exact-atMost w.number L.max_total_prototypes (q.TotalPrototypes place)) λ _. exact-function L left w)
-      (λ w. entered left left' w (cures-function left left' w (omega arith))) (bare-enter M (suc left')) w
+  cures_function zero zero w low =
+      cures_body {r = enter L zero} {r' = enter M zero} (λ w. exact_place λ place. exact_refuse _) deepest (bare_enter M zero) w
+  cures_function zero (suc left') w low =
+      cures_body {r = enter L zero} {r' = enter M (suc left')} (λ w. exact_place λ place. exact_refuse _) (deeper left') (bare_enter M (suc left')) w
+  cures_function (suc left) zero w low = absurd (omega arith)
+  cures_function (suc left) (suc left') w low =
+      cures_body {r = enter L (suc left)} {r' = enter M (suc left')}
+      (λ w. exact_place λ place. exact_then (exact_at_most w.number L.max_total_prototypes (q.TotalPrototypes place)) λ _. exact_function L left w)
+      (λ w. entered left left' w (cures_function left left' w (omega arith))) (bare_enter M (suc left')) w
 
   -- ## Chunks
-  pub limits-only : Cures (main L) (main M)
-  limits-only =
-      cures-plainly exact-header plain-header λ headed.
-      cures-plainly (exact-field 1) (plain-field 1) λ forgotten.
-      cures-then (exact-function L L.max_nesting_depth _) (cures-function L.max_nesting_depth M.max_nesting_depth _ wide.nesting) (λ functions. cures-plain (plain-give _)) (λ functions. bare-give _)
+  pub limits_only : Cures (main L) (main M)
+  limits_only =
+      cures_plainly exact_header plain_header λ headed.
+      cures_plainly (exact_field 1) (plain_field 1) λ forgotten.
+      cures_then (exact_function L L.max_nesting_depth _) (cures_function L.max_nesting_depth M.max_nesting_depth _ wide.nesting) (λ functions. cures_plain (plain_give _)) (λ functions. bare-give _)

@@ -1,6 +1,6 @@
 -- Validation from the bytes of a chunk with two reading warnings, whose main has a word that breaks one rule and one that breaks two, and whose other function has a word without an opcode; antt computes all.
---     verdict-holds, count-holds       invalid; four findings (the reading's warnings are not among them)
---     findings-hold                    with room for four, for five and for three: the answer, and what stands in the list
+--     verdict_holds, count_holds       invalid; four findings (the reading's warnings are not among them)
+--     findings_hold                    with room for four, for five and for three: the answer, and what stands in the list
 -- Told apart: the reading's warnings counted or listed, the operand's finding first, numbers of functions or instructions from 1, room for exactly as many not enough, the list touched on refusal 26.
 -- Assumes nothing.
 use mathlib.Core.Path.{◌≡◌, refl}
@@ -18,13 +18,13 @@ use Rattle.validate_rules.specs.declared.finding.Rule.{Rule}
 use Rattle.validate_rules.specs.declared.finding.Rule.TheVariants.{Opcode, Register, Upvalue}
 use Rattle.validate_rules.specs.declared.finding.Verdict.TheVariants.{Invalid}
 use Rattle.validate_rules.specs.Rules.{instruction}
-use Rattle.validate_rules.specs.Findings.{codeGroups, groups, limited, chunkFindings}
+use Rattle.validate_rules.specs.Findings.{code_groups, groups, limited, chunk_findings}
 use Rattle.validate_verdict.specs.declared.verdict.VerdictAnswer.TheVariants as verdict
 use Rattle.validate_verdict.specs.declared.verdict.CountAnswer.TheVariants as count
 use Rattle.validate_verdict.specs.Answers.{shownVerdict, shownCount}
 use Rattle.validate_plan.specs.declared.FindingsAnswer.{FindingsAnswer}
 use Rattle.validate_plan.specs.declared.FindingsAnswer.TheVariants.{Ok, Err}
-use Rattle.validate_plan.specs.Validated.{shownFindings, findingsWritten}
+use Rattle.validate_plan.specs.Validated.{shown_findings, findings_written}
 
 -- stack 2; MOVE to register 2, GETUPVAL of upvalue 0 to register 2; in it 00000053; format 3 and a trailing byte
 bytes : Bytes
@@ -45,21 +45,21 @@ old n = replicate n (at 7 7 (Register 7))
 abbrev chunk : Outcome
 chunk = read ceilings bytes
 
-verdict-holds : shownVerdict chunk ≡ verdict.Ok Invalid
-unfolding bytes read body function chunkFindings groups codeGroups limited instruction decoded
-verdict-holds = refl
+verdict_holds : shownVerdict chunk ≡ verdict.Ok Invalid
+unfolding bytes read body function chunk_findings groups code_groups limited instruction decoded
+verdict_holds = refl
 
-count-holds : shownCount chunk ≡ count.Ok 4
-unfolding bytes read body function chunkFindings groups codeGroups limited instruction decoded
-count-holds = refl
+count_holds : shownCount chunk ≡ count.Ok 4
+unfolding bytes read body function chunk_findings groups code_groups limited instruction decoded
+count_holds = refl
 
 cases : List (ℕ × FindingsAnswer × List Finding)
 cases = (4, Ok Invalid 4, four) ∷ (5, Ok Invalid 4, four ++ old 1) ∷ (3, Err LentSpace, old 3) ∷ []
 
-answers-hold : map (λ c. shownFindings c.0 chunk) cases ≡ map (λ c. c.1) cases
-unfolding cases bytes read body function chunkFindings groups codeGroups limited instruction decoded
-answers-hold = refl
+answers_hold : map (λ c. shown_findings c.0 chunk) cases ≡ map (λ c. c.1) cases
+unfolding cases bytes read body function chunk_findings groups code_groups limited instruction decoded
+answers_hold = refl
 
-findings-hold : map (λ c. findingsWritten (old c.0) chunk) cases ≡ map (λ c. c.2) cases
-unfolding cases bytes read body function chunkFindings groups codeGroups limited instruction decoded
-findings-hold = refl
+findings_hold : map (λ c. findings_written (old c.0) chunk) cases ≡ map (λ c. c.2) cases
+unfolding cases bytes read body function chunk_findings groups code_groups limited instruction decoded
+findings_hold = refl

@@ -42,13 +42,13 @@ use Rattle.format.specs.Refusals.{reported}
 use Rattle.format.specs.declared.refusal.Place.{Place}
 use Rattle.format.specs.declared.refusal.Place.TheVariants.{At, None}
 use Rattle.format.specs.Reading.{Prototype}
-use Rattle.format.specs.GrammarHeader.{signature, luacData, luacInt, luacNum}
+use Rattle.format.specs.GrammarHeader.{signature, luac_data, luac_int, luac_num}
 use Rattle.format.specs.GrammarChunk.{inherit, Where, after, within}
 use Rattle.format.specs.Read.{Read, ok, refused, Reader, next, ◌>>=◌, give, here, refuse, test, at_most, short, piece, run, many}
 use Rattle.format.specs.ReadFields.{field, groups, number, content, string}
-use Rattle.format.specs.ReadHeader.{sameBytes, expect, beforeFormat, behindFormat, header}
-use Rattle.format.specs.ReadChunk.{counted, countedUpTo, always, tagged, constant, upvalue, anchor, local, forest, body, function, main}
-use Rattle.format.proofs.ExactFields.{exact-number}
+use Rattle.format.specs.ReadHeader.{same_bytes, expect, before_format, behind_format, header}
+use Rattle.format.specs.ReadChunk.{counted, counted_up_to, always, tagged, constant, upvalue, anchor, local, forest, body, function, main}
+use Rattle.format.proofs.ExactFields.{exact_number}
 use Rattle.demands.proofs.Causes.{Which, ordinary, stricter}
 
 -- a place, if there is one, is at most e
@@ -87,8 +87,8 @@ pub record ByFile (of : Which) (e : ℕ) (q : Refusal) : Type 0 where
 listed : {of : Which} {e : ℕ} (q : Refusal) → leb 1 (reported q).number ≡ true → leb (reported q).number 20 || added of (reported q).number ≡ true → Inside e (reported q).place → ByFile of e q
 listed {of} q f g h = record { from = leb-true 1 (reported q).number f; to = has of (reported q).number g; place = h }
 
-by-longer : {of : Which} {d e : ℕ} {q : Refusal} → d ≤ e → ByFile of d q → ByFile of e q
-by-longer {q} le is = record { from = is.from; to = is.to; place = inside-more le (reported q).place is.place }
+by_longer : {of : Which} {d e : ℕ} {q : Refusal} → d ≤ e → ByFile of d q → ByFile of e q
+by_longer {q} le is = record { from = is.from; to = is.to; place = inside-more le (reported q).place is.place }
 
 -- the place where a refusal's reader began
 pub own : {n : ℕ} → n ≤ n
@@ -96,7 +96,7 @@ own = omega arith
 
 -- what is given, where t stands behind the bytes, which end at e
 pub record StillRefused {A : Type 0} (of : Which) (e : ℕ) (q : Refusal) (o : Read A) : Type 0 where
-  pub by-file : ByFile of e q
+  pub by_file : ByFile of e q
   pub stays : 2 < (reported q).number → o ≡ refused q
 
 pub record Gives {A : Type 0} (at e : ℕ) (x : A) (to : ℕ) (rest : Bytes) (o : Read A) (t : Bytes) : Type 0 where
@@ -127,39 +127,39 @@ pub record Steady {A : Type 0} (of : Which) (low : ℕ) (r : Reader A) : Type 0 
 
 -- a refusal for what is there, with a place that is at most e: 3 to 20, and 31 to 33
 pub record Tested (of : Which) (e : ℕ) (q : Refusal) : Type 0 where
-  pub by-file : ByFile of e q
+  pub by_file : ByFile of e q
   pub there : 3 ≤ (reported q).number
 
 pub tested : {of : Which} {e : ℕ} (q : Refusal) → leb 3 (reported q).number ≡ true → leb (reported q).number 20 || added of (reported q).number ≡ true → Inside e (reported q).place → Tested of e q
 tested {of} q f g h =
     let low : 3 ≤ (reported q).number = leb-true 3 (reported q).number f in
-    record { by-file = record { from = omega arith; to = has of (reported q).number g; place = h }; there = low }
+    record { by_file = record { from = omega arith; to = has of (reported q).number g; place = h }; there = low }
 
 other : {A P : Type 0} {x : A} {to : ℕ} {rest : Bytes} {q : Refusal} → ok x to rest ≡ refused q → P
 other e = absurd (let z : ◌≡◌ {A = ℕ} 0 1 = cc in omega arith)
 
-pub steady-give : {of : Which} {A : Type 0} {low : ℕ} (x : A) → Steady of low (give x)
-steady-give x = record { more = λ at s t h. record { same = refl; forward = own; end = refl }; lacks = λ at s place h e. other e; overflows = λ at s h e. other e }
+pub steady_give : {of : Which} {A : Type 0} {low : ℕ} (x : A) → Steady of low (give x)
+steady_give x = record { more = λ at s t h. record { same = refl; forward = own; end = refl }; lacks = λ at s place h e. other e; overflows = λ at s h e. other e }
 
 -- what follows may keep the place for a refusal
-pub steady-here : {of : Which} {B : Type 0} {low : ℕ} {f : ℕ → Reader B} → ((place : ℕ) → Steady of place (f place)) → Steady of low (here >>= f)
-steady-here two = record {
+pub steady_here : {of : Which} {B : Type 0} {low : ℕ} {f : ℕ → Reader B} → ((place : ℕ) → Steady of place (f place)) → Steady of low (here >>= f)
+steady_here two = record {
   more = λ at s t h. (two at).more at s t own;
   lacks = λ at s place h e. (let l = (two at).lacks at s place own e in record { from = l.from; wanted = l.wanted; fewer = l.fewer; still = l.still; enough = l.enough });
   overflows = λ at s h e. (two at).overflows at s own e;
 }
 
-pub steady-refuse : {of : Which} {A : Type 0} {low : ℕ} (q : Refusal) → Tested of low q → Steady {A = A} of low (refuse q)
-steady-refuse {A} {low} q is = record {
-  more = λ at s t h. let le : low ≤ at + length s = omega arith in record { by-file = by-longer le is.by-file; stays = λ k. refl };
+pub steady_refuse : {of : Which} {A : Type 0} {low : ℕ} (q : Refusal) → Tested of low q → Steady {A = A} of low (refuse q)
+steady_refuse {A} {low} q is = record {
+  more = λ at s t h. let le : low ≤ at + length s = omega arith in record { by_file = by_longer le is.by_file; stays = λ k. refl };
   lacks = λ at s place h e. (let same : q ≡ Truncated place = cc in let n : (reported q).number ≡ 1 = ap (λ q. (reported q).number) same in let k = is.there in absurd (omega arith));
   overflows = λ at s h e. (let same : q ≡ Overflow = cc in let n : (reported q).number ≡ 2 = ap (λ q. (reported q).number) same in let k = is.there in absurd (omega arith));
 }
 
 -- behind a value of which something is known
-pub steady-known : {of : Which} {A B : Type 0} {low : ℕ} {r : Reader A} {f : A → Reader B} (Known : A → Type 0) → Steady of low r → ((at : ℕ) (s : Bytes) (x : A) (to : ℕ) (rest : Bytes) → r at s ≡ ok x to rest → Known x)
+pub steady_known : {of : Which} {A B : Type 0} {low : ℕ} {r : Reader A} {f : A → Reader B} (Known : A → Type 0) → Steady of low r → ((at : ℕ) (s : Bytes) (x : A) (to : ℕ) (rest : Bytes) → r at s ≡ ok x to rest → Known x)
     → ((x : A) → Known x → Steady of low (f x)) → Steady of low (r >>= f)
-steady-known {of} {A} {B} {low} {r} {f} Known one known two = record {
+steady_known {of} {A} {B} {low} {r} {f} Known one known two = record {
   more = λ at s t h. go at (at + length s) s (r at s) refl (r at (s ++ t)) t h (one.more at s t h);
   lacks = λ at s place h e. short at s place h (r at s) refl e;
   overflows = λ at s h e. long at s h (r at s) refl e;
@@ -174,7 +174,7 @@ steady-known {of} {A} {B} {low} {r} {f} Known one known two = record {
         let le = g.forward in
         let on = (two x (known at s x mid rest is)).more mid rest t (omega arith) in
         rw g.same (behind at mid e (f x mid rest) (f x mid (rest ++ t)) t le (rw g.end at on))
-    go at e s (refused q) is p t h g = record { by-file = g.by-file; stays = λ k. ap (λ o. next o f) (g.stays k) }
+    go at e s (refused q) is p t h g = record { by_file = g.by_file; stays = λ k. ap (λ o. next o f) (g.stays k) }
 
     -- it goes on from behind the place
     beyond : (x : A) → Steady of low (f x) → (place mid : ℕ) (u : Bytes) → low ≤ mid → place < mid → (o : Read B) → f x mid u ≡ o → Past place o
@@ -217,40 +217,40 @@ steady-known {of} {A} {B} {low} {r} {f} Known one known two = record {
     long at s h (refused q) is e = one.overflows at s h (is ∙ (let same : q ≡ Overflow = cc in ap refused same))
 
 pub steady_then : {of : Which} {A B : Type 0} {low : ℕ} {r : Reader A} {f : A → Reader B} → Steady of low r → ((x : A) → Steady of low (f x)) → Steady of low (r >>= f)
-steady_then one two = steady-known (λ x. Unit {0}) one (λ at s x to rest e. tt) (λ x _. two x)
+steady_then one two = steady_known (λ x. Unit {0}) one (λ at s x to rest e. tt) (λ x _. two x)
 
-pub steady-pick : {of : Which} {A : Type 0} {low : ℕ} {r s : Reader A} (b : Bool) → Steady of low r → Steady of low s → Steady of low (cond b r s)
-steady-pick true one two = one
-steady-pick false one two = two
+pub steady_pick : {of : Which} {A : Type 0} {low : ℕ} {r s : Reader A} (b : Bool) → Steady of low r → Steady of low s → Steady of low (cond b r s)
+steady_pick true one two = one
+steady_pick false one two = two
 
-pub steady-test : {of : Which} {low : ℕ} (b : Bool) (q : Refusal) → Tested of low q → Steady of low (test b q)
-steady-test true q is = steady-give tt
-steady-test false q is = steady-refuse q is
+pub steady_test : {of : Which} {low : ℕ} (b : Bool) (q : Refusal) → Tested of low q → Steady of low (test b q)
+steady_test true q is = steady_give tt
+steady_test false q is = steady_refuse q is
 
-pub steady-atMost : {of : Which} {low : ℕ} (n m : ℕ) (q : Refusal) → Tested of low q → Steady of low (at_most n m q)
-steady-atMost n m q is = steady-test (leb n m) q is
+pub steady_at_most : {of : Which} {low : ℕ} (n m : ℕ) (q : Refusal) → Tested of low q → Steady of low (at_most n m q)
+steady_at_most n m q is = steady_test (leb n m) q is
 
 -- bytes are missing
 missing : {of : Which} {A : Type 0} {e : ℕ} (b : Bool) (at : ℕ) (o : Read A) → at ≤ e → StillRefused of e (cond b (Truncated at) Overflow) o
-missing true at o h = record { by-file = listed (Truncated at) refl refl h; stays = λ k. absurd (omega arith) }
-missing false at o h = record { by-file = listed Overflow refl refl tt; stays = λ k. absurd (omega arith) }
+missing true at o h = record { by_file = listed (Truncated at) refl refl h; stays = λ k. absurd (omega arith) }
+missing false at o h = record { by_file = listed Overflow refl refl tt; stays = λ k. absurd (omega arith) }
 
 -- 2 is not met where place and number are small
-short-far : (b : Bool) (at n : ℕ) → ltb (at + n) (2 ^ 64) ≡ b → n < 2 ^ 64 - 128 → cond b (Truncated at) Overflow ≡ Overflow → 128 < at
-short-far true at n is few e = absurd (let z : ◌≡◌ {A = ℕ} 0 1 = cc in omega arith)
-short-far false at n is few e = let far = ltb-false (at + n) (2 ^ 64) is in omega arith
+short_far : (b : Bool) (at n : ℕ) → ltb (at + n) (2 ^ 64) ≡ b → n < 2 ^ 64 - 128 → cond b (Truncated at) Overflow ≡ Overflow → 128 < at
+short_far true at n is few e = absurd (let z : ◌≡◌ {A = ℕ} 0 1 = cc in omega arith)
+short_far false at n is few e = let far = ltb-false (at + n) (2 ^ 64) is in omega arith
 
 -- that is 1 at the place, if it is 1
 short-there : (b : Bool) (at place : ℕ) → cond b (Truncated at) Overflow ≡ Truncated place → at ≡ place
 short-there true at place e = cc
 short-there false at place e = absurd (let z : ◌≡◌ {A = ℕ} 0 1 = cc in omega arith)
 
-pub steady-run : {of : Which} {low : ℕ} (n : ℕ) → n < 2 ^ 64 - 128 → Steady of low (run n)
-steady-run {of} n few = record { more = λ at s t h. go at s t (leb n (length s)) refl; lacks = λ at s place h e. lack at s place (leb n (length s)) refl e; overflows = λ at s h e. far at s (leb n (length s)) e }
+pub steady_run : {of : Which} {low : ℕ} (n : ℕ) → n < 2 ^ 64 - 128 → Steady of low (run n)
+steady_run {of} n few = record { more = λ at s t h. go at s t (leb n (length s)) refl; lacks = λ at s place h e. lack at s place (leb n (length s)) refl e; overflows = λ at s h e. far at s (leb n (length s)) e }
   where
     far : (at : ℕ) (s : Bytes) (b : Bool) → piece b n at s ≡ refused Overflow → 128 < at + length s
     far at s true e = other e
-    far at s false e = let k : 128 < at = short-far (ltb (at + n) (2 ^ 64)) at n refl few cc in omega arith
+    far at s false e = let k : 128 < at = short_far (ltb (at + n) (2 ^ 64)) at n refl few cc in omega arith
 
     all_there : (at : ℕ) (s t : Bytes) → n ≤ length (s ++ t) → run n at (s ++ t) ≡ ok (take n (s ++ t)) (at + n) (drop n (s ++ t))
     all_there at s t k = rw (le-leb n (length (s ++ t)) k)
@@ -269,17 +269,17 @@ steady-run {of} n few = record { more = λ at s t h. go at s t (leb n (length s)
         let few : length s < n = leb-false n (length s) is in
         record { from = omega arith; wanted = n; fewer = omega arith; still = λ t k. (let less : length (s ++ t) < n = omega arith in rw (lt-leb n (length (s ++ t)) less) e); enough = λ t k. (let there : n ≤ length (s ++ t) = omega arith in let on : place < at + n = omega arith in rw (all_there at s t there) on) }
 
-pub steady-many : {of : Which} {A : Type 0} {low : ℕ} {r : Reader A} (n : ℕ) → Steady of low r → Steady of low (many n r)
-steady-many zero one = steady-give []
-steady-many (suc n) one = steady_then one λ x. steady_then (steady-many n one) λ xs. steady-give _
+pub steady_many : {of : Which} {A : Type 0} {low : ℕ} {r : Reader A} (n : ℕ) → Steady of low r → Steady of low (many n r)
+steady_many zero one = steady_give []
+steady_many (suc n) one = steady_then one λ x. steady_then (steady_many n one) λ xs. steady_give _
 
 -- ## Fields
-pub steady-field : {of : Which} {low : ℕ} (n : ℕ) → ltb n (2 ^ 64 - 128) ≡ true → Steady of low (field n)
-steady-field n few = steady_then (steady-run n (ltb-true n (2 ^ 64 - 128) few)) λ bytes. steady-give _
+pub steady_field : {of : Which} {low : ℕ} (n : ℕ) → ltb n (2 ^ 64 - 128) ≡ true → Steady of low (field n)
+steady_field n few = steady_then (steady_run n (ltb-true n (2 ^ 64 - 128) few)) λ bytes. steady_give _
 
-steady-groups : (of : Which) (high at : ℕ) (s t : Bytes) → Same of at (at + length s) (groups high at s) (groups high at (s ++ t)) t
-steady-groups of high at [] t = missing (ltb (at + 1) (2 ^ 64)) at _ (omega arith)
-steady-groups of high at (x ∷ s) t = go (ltb high (2 ^ 57 - 1)) (ltb x 128) (groups (high * 128 + x) (at + 1) s) (groups (high * 128 + x) (at + 1) (s ++ t)) (steady-groups of (high * 128 + x) (at + 1) s t)
+steady_groups : (of : Which) (high at : ℕ) (s t : Bytes) → Same of at (at + length s) (groups high at s) (groups high at (s ++ t)) t
+steady_groups of high at [] t = missing (ltb (at + 1) (2 ^ 64)) at _ (omega arith)
+steady_groups of high at (x ∷ s) t = go (ltb high (2 ^ 57 - 1)) (ltb x 128) (groups (high * 128 + x) (at + 1) s) (groups (high * 128 + x) (at + 1) (s ++ t)) (steady_groups of (high * 128 + x) (at + 1) s t)
   where
     end : at + 1 + length s ≡ at + suc (length s)
     end = omega arith
@@ -292,7 +292,7 @@ steady-groups of high at (x ∷ s) t = go (ltb high (2 ^ 57 - 1)) (ltb x 128) (g
         → Same of at (at + suc (length s)) (cond fits (cond low o (ok (high * 128 + x % 128) (at + 1) s)) (refused VarintOverflow)) (cond fits (cond low p (ok (high * 128 + x % 128) (at + 1) (s ++ t))) (refused VarintOverflow)) t
     go true true o p on = first o p on
     go true false o p on = record { same = refl; forward = omega arith; end = end }
-    go false low o p on = record { by-file = listed VarintOverflow refl refl tt; stays = λ h. refl }
+    go false low o p on = record { by_file = listed VarintOverflow refl refl tt; stays = λ h. refl }
 
 -- a number takes a byte at least, and what it lacks it lacks from there on
 abbrev Onward : ℕ → Read ℕ → Type 0
@@ -313,8 +313,8 @@ onward-groups high at (x ∷ s) = go (ltb high (2 ^ 57 - 1)) (ltb x 128) (groups
     go false low o k = λ place e. absurd (let z : ◌≡◌ {A = ℕ} 0 1 = cc in omega arith)
 
 -- one more byte
-past-byte : (high at x : ℕ) (t : Bytes) → Past at (groups high at (x ∷ t))
-past-byte high at x t = go (ltb high (2 ^ 57 - 1)) (ltb x 128) (groups (high * 128 + x) (at + 1) t) (onward-groups (high * 128 + x) (at + 1) t)
+past_byte : (high at x : ℕ) (t : Bytes) → Past at (groups high at (x ∷ t))
+past_byte high at x t = go (ltb high (2 ^ 57 - 1)) (ltb x 128) (groups (high * 128 + x) (at + 1) t) (onward-groups (high * 128 + x) (at + 1) t)
   where
     on : (o : Read ℕ) → Onward (at + 1) o → Past at o
     on (ok y to rest) k = omega arith
@@ -325,8 +325,8 @@ past-byte high at x t = go (ltb high (2 ^ 57 - 1)) (ltb x 128) (groups (high * 1
     go true false o k = omega arith
     go false low o k = λ e. let z : ◌≡◌ {A = ℕ} 0 1 = cc in omega arith
 
-lack-groups : (high at : ℕ) (s : Bytes) (place : ℕ) → groups high at s ≡ refused (Truncated place) → Lack (groups high) at s place
-lack-groups high at [] place e =
+lack_groups : (high at : ℕ) (s : Bytes) (place : ℕ) → groups high at s ≡ refused (Truncated place) → Lack (groups high) at s place
+lack_groups high at [] place e =
     let same : at ≡ place = short-there (ltb (at + 1) (2 ^ 64)) at place cc in
     record { from = omega arith; wanted = 1; fewer = omega arith; still = λ t k. none-there t (omega arith); enough = λ t k. there t (omega arith) same }
   where
@@ -336,8 +336,8 @@ lack-groups high at [] place e =
 
     there : (t : Bytes) → 1 ≤ length t → {place : ℕ} → at ≡ place → Past place (groups high at t)
     there [] k same = absurd (omega arith)
-    there (x ∷ t) k same = rw (← same) (past-byte high at x t)
-lack-groups high at (x ∷ s) place e = go (ltb high (2 ^ 57 - 1)) refl (ltb x 128) refl (λ e. lack-groups (high * 128 + x) (at + 1) s place e) e
+    there (x ∷ t) k same = rw (← same) (past_byte high at x t)
+lack_groups high at (x ∷ s) place e = go (ltb high (2 ^ 57 - 1)) refl (ltb x 128) refl (λ e. lack_groups (high * 128 + x) (at + 1) s place e) e
   where
     go : (fits : Bool) → ltb high (2 ^ 57 - 1) ≡ fits → (low : Bool) → ltb x 128 ≡ low → (groups (high * 128 + x) (at + 1) s ≡ refused (Truncated place) → Lack (groups (high * 128 + x)) (at + 1) s place)
         → cond fits (cond low (groups (high * 128 + x) (at + 1) s) (ok (high * 128 + x % 128) (at + 1) s)) (refused VarintOverflow) ≡ refused (Truncated place) → Lack (groups high) at (x ∷ s) place
@@ -349,9 +349,9 @@ lack-groups high at (x ∷ s) place e = go (ltb high (2 ^ 57 - 1)) refl (ltb x 1
     go true f false l rest e = other e
     go false f low l rest e = absurd (let z : ◌≡◌ {A = ℕ} 0 1 = cc in omega arith)
 
-far-groups : (high at : ℕ) (s : Bytes) → groups high at s ≡ refused Overflow → 128 < at + length s
-far-groups high at [] e = let k : 128 < at = short-far (ltb (at + 1) (2 ^ 64)) at 1 refl (ltb-true 1 (2 ^ 64 - 128) refl) cc in omega arith
-far-groups high at (x ∷ s) e = go (ltb high (2 ^ 57 - 1)) (ltb x 128) (λ e. far-groups (high * 128 + x) (at + 1) s e) e
+far_groups : (high at : ℕ) (s : Bytes) → groups high at s ≡ refused Overflow → 128 < at + length s
+far_groups high at [] e = let k : 128 < at = short_far (ltb (at + 1) (2 ^ 64)) at 1 refl (ltb-true 1 (2 ^ 64 - 128) refl) cc in omega arith
+far_groups high at (x ∷ s) e = go (ltb high (2 ^ 57 - 1)) (ltb x 128) (λ e. far_groups (high * 128 + x) (at + 1) s e) e
   where
     go : (fits low : Bool) → (groups (high * 128 + x) (at + 1) s ≡ refused Overflow → 128 < at + 1 + length s)
         → cond fits (cond low (groups (high * 128 + x) (at + 1) s) (ok (high * 128 + x % 128) (at + 1) s)) (refused VarintOverflow) ≡ refused Overflow → 128 < at + suc (length s)
@@ -359,123 +359,123 @@ far-groups high at (x ∷ s) e = go (ltb high (2 ^ 57 - 1)) (ltb x 128) (λ e. f
     go true false rest e = other e
     go false low rest e = absurd (let z : ◌≡◌ {A = ℕ} 0 1 = cc in omega arith)
 
-pub steady-number : {of : Which} {low : ℕ} → Steady of low number
-steady-number {of} = record { more = λ at s t h. steady-groups of 0 at s t; lacks = λ at s place h e. lack-groups 0 at s place e; overflows = λ at s h e. far-groups 0 at s e }
+pub steady_number : {of : Which} {low : ℕ} → Steady of low number
+steady_number {of} = record { more = λ at s t h. steady_groups of 0 at s t; lacks = λ at s place h e. lack_groups 0 at s place e; overflows = λ at s h e. far_groups 0 at s e }
 
 -- behind a number, which is below 2^64 − 128
-pub steady-numbered : {of : Which} {B : Type 0} {low : ℕ} {f : ℕ → Reader B} → ((n : ℕ) → n < 2 ^ 64 - 128 → Steady of low (f n)) → Steady of low (number >>= f)
-steady-numbered two = steady-known (λ n. n < 2 ^ 64 - 128) steady-number (λ at s n to rest e. (exact-number.sound {at = at} {s = s} {x = n} {to = to} {rest = rest} e).spelt.fits) two
+pub steady_numbered : {of : Which} {B : Type 0} {low : ℕ} {f : ℕ → Reader B} → ((n : ℕ) → n < 2 ^ 64 - 128 → Steady of low (f n)) → Steady of low (number >>= f)
+steady_numbered two = steady_known (λ n. n < 2 ^ 64 - 128) steady_number (λ at s n to rest e. (exact_number.sound {at = at} {s = s} {x = n} {to = to} {rest = rest} e).spelt.fits) two
 
-steady-content : {of : Which} (limit first size : ℕ) → size < 2 ^ 64 - 128 → Steady of first (content limit first size)
-steady-content limit first zero few = steady-give _
-steady-content limit first (suc n) few =
-    steady_then (steady-atMost n limit (StringBytes first) (tested (StringBytes first) refl refl own)) λ _. steady-here λ place. steady_then (steady-run n (omega arith)) λ bytes. steady-give _
+steady_content : {of : Which} (limit first size : ℕ) → size < 2 ^ 64 - 128 → Steady of first (content limit first size)
+steady_content limit first zero few = steady_give _
+steady_content limit first (suc n) few =
+    steady_then (steady_at_most n limit (StringBytes first) (tested (StringBytes first) refl refl own)) λ _. steady_here λ place. steady_then (steady_run n (omega arith)) λ bytes. steady_give _
 
-pub steady-string : {of : Which} {low : ℕ} (limit : ℕ) → Steady of low (string limit)
-steady-string limit = steady-here λ first. steady-numbered λ size few. steady-content limit first size few
+pub steady_string : {of : Which} {low : ℕ} (limit : ℕ) → Steady of low (string limit)
+steady_string limit = steady_here λ first. steady_numbered λ size few. steady_content limit first size few
 
 -- ## The header
-pub steady-expect : {of : Which} {low : ℕ} (bytes : Bytes) (refusal : ℕ → Refusal) → ltb (length bytes) (2 ^ 64 - 128) ≡ true → ((place : ℕ) → Tested of place (refusal place)) → Steady of low (expect bytes refusal)
-steady-expect bytes refusal few is = steady-here λ place. steady_then (steady-run (length bytes) (ltb-true (length bytes) (2 ^ 64 - 128) few)) λ b. steady-test (sameBytes b bytes) (refusal place) (is place)
+pub steady_expect : {of : Which} {low : ℕ} (bytes : Bytes) (refusal : ℕ → Refusal) → ltb (length bytes) (2 ^ 64 - 128) ≡ true → ((place : ℕ) → Tested of place (refusal place)) → Steady of low (expect bytes refusal)
+steady_expect bytes refusal few is = steady_here λ place. steady_then (steady_run (length bytes) (ltb-true (length bytes) (2 ^ 64 - 128) few)) λ b. steady_test (same_bytes b bytes) (refusal place) (is place)
 
-pub steady-before : {of : Which} {low : ℕ} → Steady of low beforeFormat
-steady-before = steady_then (steady-expect signature Signature refl λ place. tested (Signature place) refl refl own) λ _. steady-expect (0x54 ∷ []) Version refl λ place. tested (Version place) refl refl own
+pub steady_before : {of : Which} {low : ℕ} → Steady of low before_format
+steady_before = steady_then (steady_expect signature Signature refl λ place. tested (Signature place) refl refl own) λ _. steady_expect (0x54 ∷ []) Version refl λ place. tested (Version place) refl refl own
 
-pub steady-behind : {of : Which} {low : ℕ} → Steady of low behindFormat
-steady-behind =
-    steady_then (steady-expect luacData LuacData refl λ place. tested (LuacData place) refl refl own) λ _.
-    steady_then (steady-expect (4 ∷ []) InstructionSize refl λ place. tested (InstructionSize place) refl refl own) λ _.
-    steady_then (steady-expect (8 ∷ []) LuaIntegerSize refl λ place. tested (LuaIntegerSize place) refl refl own) λ _.
-    steady_then (steady-expect (8 ∷ []) LuaNumberSize refl λ place. tested (LuaNumberSize place) refl refl own) λ _.
-    steady_then (steady-expect luacInt LuacInt refl λ place. tested (LuacInt place) refl refl own) λ _.
-    steady-expect luacNum LuacNum refl λ place. tested (LuacNum place) refl refl own
+pub steady_behind : {of : Which} {low : ℕ} → Steady of low behind_format
+steady_behind =
+    steady_then (steady_expect luac_data LuacData refl λ place. tested (LuacData place) refl refl own) λ _.
+    steady_then (steady_expect (4 ∷ []) InstructionSize refl λ place. tested (InstructionSize place) refl refl own) λ _.
+    steady_then (steady_expect (8 ∷ []) LuaIntegerSize refl λ place. tested (LuaIntegerSize place) refl refl own) λ _.
+    steady_then (steady_expect (8 ∷ []) LuaNumberSize refl λ place. tested (LuaNumberSize place) refl refl own) λ _.
+    steady_then (steady_expect luac_int LuacInt refl λ place. tested (LuacInt place) refl refl own) λ _.
+    steady_expect luac_num LuacNum refl λ place. tested (LuacNum place) refl refl own
 
-steady-header : {of : Which} {low : ℕ} → Steady of low header
-steady-header = steady_then steady-before λ _. steady-here λ place. steady_then (steady-field 1 refl) λ format. steady_then steady-behind λ _. steady-give _
+steady_header : {of : Which} {low : ℕ} → Steady of low header
+steady_header = steady_then steady_before λ _. steady_here λ place. steady_then (steady_field 1 refl) λ format. steady_then steady_behind λ _. steady_give _
 
 -- ## Lists and entries
 -- (an item may begin at any place)
-pub steady-counted : {of : Which} {low : ℕ} {A : Type 0} {r : Reader A} → ((low : ℕ) → Steady of low r) → Steady of low (counted r)
-steady-counted one = steady_then steady-number λ n. steady-here λ place. steady_then (steady-many n (one place)) λ items. steady-give _
+pub steady_counted : {of : Which} {low : ℕ} {A : Type 0} {r : Reader A} → ((low : ℕ) → Steady of low r) → Steady of low (counted r)
+steady_counted one = steady_then steady_number λ n. steady_here λ place. steady_then (steady_many n (one place)) λ items. steady_give _
 
-pub steady-countedUpTo : {of : Which} {low : ℕ} {A : Type 0} {r : Reader A} (limit : ℕ) (refusal : ℕ → Refusal) → ((first : ℕ) → Tested of first (refusal first)) → ((low : ℕ) → Steady of low r) → Steady of low (countedUpTo limit refusal r)
-steady-countedUpTo limit refusal is one =
-    steady-here λ first.
-    steady_then steady-number λ n.
-    steady_then (steady-atMost n limit (refusal first) (is first)) λ _.
-    steady-here λ place.
-    steady_then (steady-many n (one place)) λ items.
-    steady-give _
+pub steady_counted_up_to : {of : Which} {low : ℕ} {A : Type 0} {r : Reader A} (limit : ℕ) (refusal : ℕ → Refusal) → ((first : ℕ) → Tested of first (refusal first)) → ((low : ℕ) → Steady of low r) → Steady of low (counted_up_to limit refusal r)
+steady_counted_up_to limit refusal is one =
+    steady_here λ first.
+    steady_then steady_number λ n.
+    steady_then (steady_at_most n limit (refusal first) (is first)) λ _.
+    steady_here λ place.
+    steady_then (steady_many n (one place)) λ items.
+    steady_give _
 
-pub steady-always : {of : Which} {low : ℕ} (limit : ℕ) (instead : Bytes) → Steady of low (always limit instead)
-steady-always limit instead = steady_then (steady-string limit) λ t. steady-here λ place. steady-give _
+pub steady_always : {of : Which} {low : ℕ} (limit : ℕ) (instead : Bytes) → Steady of low (always limit instead)
+steady_always limit instead = steady_then (steady_string limit) λ t. steady_here λ place. steady_give _
 
-steady-tagged : {of : Which} (limit place tag : ℕ) → Steady of place (tagged limit place tag)
-steady-tagged limit place tag =
-    steady-pick (eqb tag 0) (steady-give _)
-    (steady-pick (eqb tag 1) (steady-give _)
-    (steady-pick (eqb tag 17) (steady-give _)
-    (steady-pick (eqb tag 3) (steady_then (steady-field 8 refl) λ n. steady-give _)
-    (steady-pick (eqb tag 19) (steady_then (steady-field 8 refl) λ n. steady-give _)
-    (steady-pick (eqb tag 4) (steady_then (steady-always limit []) λ t. steady-give _)
-    (steady-pick (eqb tag 20) (steady_then (steady-always limit []) λ t. steady-give _)
-    (steady-refuse (ConstantTag place) (tested (ConstantTag place) refl refl own))))))))
+steady_tagged : {of : Which} (limit place tag : ℕ) → Steady of place (tagged limit place tag)
+steady_tagged limit place tag =
+    steady_pick (eqb tag 0) (steady_give _)
+    (steady_pick (eqb tag 1) (steady_give _)
+    (steady_pick (eqb tag 17) (steady_give _)
+    (steady_pick (eqb tag 3) (steady_then (steady_field 8 refl) λ n. steady_give _)
+    (steady_pick (eqb tag 19) (steady_then (steady_field 8 refl) λ n. steady_give _)
+    (steady_pick (eqb tag 4) (steady_then (steady_always limit []) λ t. steady_give _)
+    (steady_pick (eqb tag 20) (steady_then (steady_always limit []) λ t. steady_give _)
+    (steady_refuse (ConstantTag place) (tested (ConstantTag place) refl refl own))))))))
 
-pub steady-constant : {of : Which} {low : ℕ} (limit : ℕ) → Steady of low (constant limit)
-steady-constant limit = steady-here λ place. steady_then (steady-field 1 refl) λ tag. steady-tagged limit place tag
+pub steady_constant : {of : Which} {low : ℕ} (limit : ℕ) → Steady of low (constant limit)
+steady_constant limit = steady_here λ place. steady_then (steady_field 1 refl) λ tag. steady_tagged limit place tag
 
-pub steady-upvalue : {of : Which} {low : ℕ} → Steady of low upvalue
-steady-upvalue = steady_then (steady-field 1 refl) λ instack. steady_then (steady-field 1 refl) λ idx. steady_then (steady-field 1 refl) λ kind. steady-give _
+pub steady_upvalue : {of : Which} {low : ℕ} → Steady of low upvalue
+steady_upvalue = steady_then (steady_field 1 refl) λ instack. steady_then (steady_field 1 refl) λ idx. steady_then (steady_field 1 refl) λ kind. steady_give _
 
-pub steady-anchor : {of : Which} {low : ℕ} → Steady of low anchor
-steady-anchor = steady_then steady-number λ pc. steady_then steady-number λ line. steady-give _
+pub steady_anchor : {of : Which} {low : ℕ} → Steady of low anchor
+steady_anchor = steady_then steady_number λ pc. steady_then steady_number λ line. steady_give _
 
-pub steady-local : {of : Which} {low : ℕ} (limit : ℕ) → Steady of low (local limit)
-steady-local limit = steady_then (steady-always limit (63 ∷ [])) λ name. steady_then steady-number λ startpc. steady_then steady-number λ endpc. steady-give _
+pub steady_local : {of : Which} {low : ℕ} (limit : ℕ) → Steady of low (local limit)
+steady_local limit = steady_then (steady_always limit (63 ∷ [])) λ name. steady_then steady_number λ startpc. steady_then steady_number λ endpc. steady_give _
 
 -- ## Functions
-pub steady-forest : {of : Which} {low : ℕ} (n : ℕ) {r : Where → Reader (List Prototype)} (w : Where) → ((low : ℕ) (w : Where) → Steady of low (r w)) → Steady of low (forest n r w)
-steady-forest zero w one = steady-give []
-steady-forest {low} (suc n) w one = steady_then (one low w) λ ps. steady_then (steady-forest n (after ps w) one) λ more. steady-give (ps ++ more)
+pub steady_forest : {of : Which} {low : ℕ} (n : ℕ) {r : Where → Reader (List Prototype)} (w : Where) → ((low : ℕ) (w : Where) → Steady of low (r w)) → Steady of low (forest n r w)
+steady_forest zero w one = steady_give []
+steady_forest {low} (suc n) w one = steady_then (one low w) λ ps. steady_then (steady_forest n (after ps w) one) λ more. steady_give (ps ++ more)
 
-steady-body : {of : Which} {low : ℕ} (L : ResourceLimits) {r : Where → Reader (List Prototype)} → ((low : ℕ) (w : Where) → Steady of low (r w)) → (w : Where) → Steady of low (body L r w)
+steady_body : {of : Which} {low : ℕ} (L : ResourceLimits) {r : Where → Reader (List Prototype)} → ((low : ℕ) (w : Where) → Steady of low (r w)) → (w : Where) → Steady of low (body L r w)
 unfolding body
-steady-body L one w =
-    steady-here λ start.
-    steady_then (steady-string L.max_string_bytes) λ spelt.
-    steady_then steady-number λ line_defined.
-    steady_then steady-number λ last-line-defined.
-    steady_then (steady-field 1 refl) λ numparams.
-    steady_then (steady-field 1 refl) λ is-vararg.
-    steady_then (steady-field 1 refl) λ maxstacksize.
-    steady-here λ first.
-    steady_then steady-number λ size.
-    steady_then (steady-atMost size L.max_instructions_per_proto (Instructions first) (tested (Instructions first) refl refl own)) λ _.
-    steady_then (steady-atMost (w.instructions + size) L.max_total_instructions (TotalInstructions first) (tested (TotalInstructions first) refl refl own)) λ _.
-    steady-here λ instructions-at.
-    steady_then (steady-many size (steady-field 4 refl)) λ instructions.
-    steady_then (steady-countedUpTo L.max_constants_per_proto Constants (λ first. tested (Constants first) refl refl own) (λ low. steady-constant L.max_string_bytes)) λ constants.
-    steady_then (steady-countedUpTo L.max_upvalues_per_proto Upvalues (λ first. tested (Upvalues first) refl refl own) λ low. steady-upvalue) λ upvalues.
-    steady-here λ first.
-    steady_then steady-number λ protos.
-    steady_then (steady-atMost protos L.max_total_prototypes (Prototypes first) (tested (Prototypes first) refl refl own)) λ _.
-    steady-here λ protos-at.
-    steady_then (steady-forest protos (within w (inherit spelt w.source) (length instructions)) one) λ nested.
-    steady-numbered λ line-info-size few.
-    steady-here λ line-info-at.
-    steady_then (steady-run line-info-size few) λ line-info.
-    steady_then (steady-counted λ low. steady-anchor) λ abs-line-info.
-    steady_then (steady-counted λ low. steady-local L.max_string_bytes) λ loc-vars.
-    steady_then (steady-counted λ low. steady-string L.max_string_bytes) λ upvalue-names.
-    steady-here λ end.
-    steady-give _
+steady_body L one w =
+    steady_here λ start.
+    steady_then (steady_string L.max_string_bytes) λ spelt.
+    steady_then steady_number λ line_defined.
+    steady_then steady_number λ last-line_defined.
+    steady_then (steady_field 1 refl) λ numparams.
+    steady_then (steady_field 1 refl) λ is_vararg.
+    steady_then (steady_field 1 refl) λ maxstacksize.
+    steady_here λ first.
+    steady_then steady_number λ size.
+    steady_then (steady_at_most size L.max_instructions_per_proto (Instructions first) (tested (Instructions first) refl refl own)) λ _.
+    steady_then (steady_at_most (w.instructions + size) L.max_total_instructions (TotalInstructions first) (tested (TotalInstructions first) refl refl own)) λ _.
+    steady_here λ instructions-at.
+    steady_then (steady_many size (steady_field 4 refl)) λ instructions.
+    steady_then (steady_counted_up_to L.max_constants_per_proto Constants (λ first. tested (Constants first) refl refl own) (λ low. steady_constant L.max_string_bytes)) λ constants.
+    steady_then (steady_counted_up_to L.max_upvalues_per_proto Upvalues (λ first. tested (Upvalues first) refl refl own) λ low. steady_upvalue) λ upvalues.
+    steady_here λ first.
+    steady_then steady_number λ protos.
+    steady_then (steady_at_most protos L.max_total_prototypes (Prototypes first) (tested (Prototypes first) refl refl own)) λ _.
+    steady_here λ protos-at.
+    steady_then (steady_forest protos (within w (inherit spelt w.source) (length instructions)) one) λ nested.
+    steady_numbered λ line-info-size few.
+    steady_here λ line-info-at.
+    steady_then (steady_run line-info-size few) λ line_info_lem.
+    steady_then (steady_counted λ low. steady_anchor) λ abs_line_info.
+    steady_then (steady_counted λ low. steady_local L.max_string_bytes) λ loc_vars.
+    steady_then (steady_counted λ low. steady_string L.max_string_bytes) λ upvalue_names_lem.
+    steady_here λ end.
+    steady_give _
 
-steady-function : {of : Which} {low : ℕ} (L : ResourceLimits) (left : ℕ) (w : Where) → Steady of low (function L left w)
+steady_function : {of : Which} {low : ℕ} (L : ResourceLimits) (left : ℕ) (w : Where) → Steady of low (function L left w)
 unfolding function
-steady-function L zero w = steady-body L (λ low w. steady-here λ place. steady-refuse (NestingDepth place) (tested (NestingDepth place) refl refl own)) w
-steady-function L (suc left) w =
-    steady-body L (λ low w. steady-here λ place. steady_then (steady-atMost w.number L.max_total_prototypes (TotalPrototypes place) (tested (TotalPrototypes place) refl refl own)) λ _. steady-function L left w) w
+steady_function L zero w = steady_body L (λ low w. steady_here λ place. steady_refuse (NestingDepth place) (tested (NestingDepth place) refl refl own)) w
+steady_function L (suc left) w =
+    steady_body L (λ low w. steady_here λ place. steady_then (steady_at_most w.number L.max_total_prototypes (TotalPrototypes place) (tested (TotalPrototypes place) refl refl own)) λ _. steady_function L left w) w
 
 -- ## Chunks
-pub steady-main : {of : Which} {low : ℕ} (L : ResourceLimits) → Steady of low (main L)
-steady-main L = steady_then steady-header λ headed. steady_then (steady-field 1 refl) λ forgotten. steady_then (steady-function L L.max_nesting_depth _) λ functions. steady-give _
+pub steady_main : {of : Which} {low : ℕ} (L : ResourceLimits) → Steady of low (main L)
+steady_main L = steady_then steady_header λ headed. steady_then (steady_field 1 refl) λ forgotten. steady_then (steady_function L L.max_nesting_depth _) λ functions. steady_give _

@@ -1,7 +1,7 @@
 -- The source of every function that is read is what it spells or, where it spells none, the source of its parent, by the parent's number.
 --     Inherited outer p    what p spells, read in a function with the source `outer`
 --     all-inherit          so it is with every function that nests in main, by its parent's source
---     missing-above        so a function that misses a source has a parent that misses one
+--     missing_above        so a function that misses a source has a parent that misses one
 -- Assumes nothing.
 use mathlib.Core.Path.{◌≡◌, refl, sym, ◌∙◌, ap, subst}
 use mathlib.Core.List.{List, [], ◌∷◌}
@@ -16,9 +16,9 @@ use Rattle.format.specs.Form.{Bytes, All, Form}
 use Rattle.format.specs.GrammarFields.{LuaString}
 use Rattle.format.specs.Reading.{Prototype, Reading}
 use Rattle.format.specs.GrammarChunk.{Where, after, within, inherit, outermost, Forest, Body, Function, Loaded, Chunk}
-use Rattle.format.proofs.Every.{Every, any, every-then, every-is, every-nothing, all_append}
+use Rattle.format.proofs.Every.{Every, any, every_then, every_is, every_nothing, all_append}
 use Rattle.format_lua.proofs.LdumpWhole.{source_of}
-use Rattle.format_lua.proofs.LdumpFull.{Are, are-split, are_all}
+use Rattle.format_lua.proofs.LdumpFull.{Are, are_split, are_all}
 
 pub record Inherited (outer : Option LuaString) (p : Prototype) : Type 0 where
   pub spelt : Option LuaString
@@ -40,45 +40,45 @@ These w ps = (source : ℕ → Option LuaString) → source w.parent ≡ w.sourc
 abbrev EachHere : (Where → Form (List Prototype)) → Type 0
 EachHere F = (w : Where) → Every (F w) (Here w)
 
-forest-these : (n : ℕ) {F : Where → Form (List Prototype)} (w : Where) → EachHere F → Every (Forest n F w) (These w)
-forest-these zero w one = every-is (λ source parent are. tt)
-forest-these (suc n) w one =
-    every-then (one w) λ ps a.
-    every-then (forest-these n (after ps w) one) λ more b.
-    every-is (λ source parent are.
-    let split = are-split source w.number ps more are in
+forest_these : (n : ℕ) {F : Where → Form (List Prototype)} (w : Where) → EachHere F → Every (Forest n F w) (These w)
+forest_these zero w one = every_is (λ source parent are. tt)
+forest_these (suc n) w one =
+    every_then (one w) λ ps a.
+    every_then (forest_these n (after ps w) one) λ more b.
+    every_is (λ source parent are.
+    let split = are_split source w.number ps more are in
     let first : Inherited (source a.its.parent) a.its = subst (λ t. Inherited t a.its) (sym (ap source a.stands ∙ parent)) a.own in
     all_append (λ p. Inherited (source p.parent) p) ps more (subst (λ ps. All (λ p. Inherited (source p.parent) p) ps) (sym a.is) (first, a.rest source split.0)) (b source parent split.1))
 
 body-here : (L : ResourceLimits) {F : Where → Form (List Prototype)} → EachHere F → EachHere (Body L F)
 unfolding Body
 body-here L one w =
-    every-then any λ start _.
-    every-then any λ spelt _.
-    every-then any λ line_defined _.
-    every-then any λ last-line-defined _.
-    every-then any λ numparams _.
-    every-then any λ is-vararg _.
-    every-then any λ maxstacksize _.
-    every-then any λ size _.
-    every-then any λ _ _.
-    every-then any λ _ _.
-    every-then any λ instructions-at _.
-    every-then any λ instructions _.
-    every-then any λ constants _.
-    every-then any λ upvalues _.
-    every-then any λ protos _.
-    every-then any λ _ _.
-    every-then any λ protos-at _.
-    every-then (forest-these protos (within w (inherit spelt w.source) (length instructions)) one) λ nested a.
-    every-then any λ line-info-size _.
-    every-then any λ line-info-at _.
-    every-then any λ line-info _.
-    every-then any λ abs-line-info _.
-    every-then any λ loc-vars _.
-    every-then any λ upvalue-names _.
-    every-then any λ end _.
-    every-is (record {
+    every_then any λ start _.
+    every_then any λ spelt _.
+    every_then any λ line_defined _.
+    every_then any λ last-line_defined _.
+    every_then any λ numparams _.
+    every_then any λ is_vararg _.
+    every_then any λ maxstacksize _.
+    every_then any λ size _.
+    every_then any λ _ _.
+    every_then any λ _ _.
+    every_then any λ instructions-at _.
+    every_then any λ instructions _.
+    every_then any λ constants _.
+    every_then any λ upvalues _.
+    every_then any λ protos _.
+    every_then any λ _ _.
+    every_then any λ protos-at _.
+    every_then (forest_these protos (within w (inherit spelt w.source) (length instructions)) one) λ nested a.
+    every_then any λ line-info-size _.
+    every_then any λ line-info-at _.
+    every_then any λ line_info_lem _.
+    every_then any λ abs_line_info _.
+    every_then any λ loc_vars _.
+    every_then any λ upvalue_names_lem _.
+    every_then any λ end _.
+    every_is (record {
       its = _;
       others = nested;
       is = refl;
@@ -89,8 +89,8 @@ body-here L one w =
 
 function-here : (L : ResourceLimits) (left : ℕ) → EachHere (Function L left)
 unfolding Function
-function-here L zero = body-here L λ w. every-nothing
-function-here L (suc left) = body-here L λ w. every-then any λ _ _. function-here L left w
+function-here L zero = body-here L λ w. every_nothing
+function-here L (suc left) = body-here L λ w. every_then any λ _ _. function-here L left w
 
 -- ## The functions of a chunk
 -- all but main
@@ -98,8 +98,8 @@ abbrev pub Nested : (Prototype → Type 0) → List Prototype → Type 0
 Nested P [] = Unit {0}
 Nested P (p ∷ ps) = All P ps
 
-nested-of : (P : Prototype → Type 0) (w : Where) (fs : List Prototype) (h : Here w fs) → All P h.others → Nested P fs
-nested-of P w fs h a = subst (Nested P) (sym h.is) a
+nested_of : (P : Prototype → Type 0) (w : Where) (fs : List Prototype) (h : Here w fs) → All P h.others → Nested P fs
+nested_of P w fs h a = subst (Nested P) (sym h.is) a
 
 pub all-inherit : (L : ResourceLimits) (chunk : Bytes) (r : Reading) → Chunk L chunk r → Nested (λ p. Inherited (source_of r.functions p.parent) p) r.functions
 all-inherit L chunk r c =
@@ -107,10 +107,10 @@ all-inherit L chunk r c =
     let fs = r.functions in
     let same : f.value ≡ fs = ap (λ (m : Loaded). m.functions) f.two.1 ∙ ap (λ (q : Reading). q.functions) c.shows in
     let here : Here outermost fs = subst (Here outermost) same ((function-here L L.max_nesting_depth outermost).holds _ f.front f.value f.one) in
-    nested-of _ outermost fs here (here.rest (source_of fs) (are_all fs fs 0 (λ k. rw zero-add refl)))
+    nested_of _ outermost fs here (here.rest (source_of fs) (are_all fs fs 0 (λ k. rw zero-add refl)))
 
-pub missing-above : (outer : Option LuaString) (p : Prototype) → Inherited outer p → p.source_name ≡ none → outer ≡ none
-missing-above outer p i e = by i.spelt (sym i.is ∙ e)
+pub missing_above : (outer : Option LuaString) (p : Prototype) → Inherited outer p → p.source_name ≡ none → outer ≡ none
+missing_above outer p i e = by i.spelt (sym i.is ∙ e)
   where
     by : (t : Option LuaString) → inherit t outer ≡ none → outer ≡ none
     by none f = f

@@ -5,11 +5,11 @@ use mathlib.Core.Path.{◌≡◌}
 use mathlib.Core.List.{List, [], ◌∷◌}
 use lib.ListN.{drop}
 use Rattle.format.specs.ReadFields.{number}
-use Rattle.format_spelling.specs.ReadSpelling.{isPadded}
-use Rattle.read_field.specs.Shown.{numberResult}
+use Rattle.format_spelling.specs.ReadSpelling.{is_padded}
+use Rattle.read_field.specs.Shown.{number_result}
 use Rattle.validate_rules.specs.Rules.{severity}
-use Rattle.word_opcodes.specs.Table.{opcodeAt, number_of, mode_of}
-use Rattle.word_fields.specs.Word.{encodedIABC, encodedIABx, encodedIAsBx, encodedIAx, encodedIsJ}
+use Rattle.word_opcodes.specs.Table.{opcode_at, number_of, mode_of}
+use Rattle.word_fields.specs.Word.{encodedIABC, encodedIABx, encodedIAs_bx, encodedIAx, encoded_isJ}
 use Rattle.read_field.proofs.varint.read_varint_lua54 as varint-call
 use Rattle.validate_verdict.proofs.tally.severity as severity-call
 use Rattle.word_opcodes.proofs.opcode.Opcode54.from_u8 as from-u8-call
@@ -22,32 +22,32 @@ use Rattle.word_fields.proofs.instruction.RawInstruction54.encode_iax as iax-cal
 use Rattle.word_fields.proofs.instruction.RawInstruction54.encode_isj as isj-call
 use Rattle.demands.proofs.Promise.{Promise}
 
-pub read-varint-lua54 : Promise varint-call.ended varint-call.Symbol.routine (λ _ s cursor r. (r ≡ numberResult (isPadded (drop cursor.at s.now)) (number cursor.at (drop cursor.at s.now))) ∷ [])
-read-varint-lua54 _ = varint-call.Met.met
+pub read_varint_lua54 : Promise varint-call.ended varint-call.Symbol.routine (λ _ s cursor r. (r ≡ number_result (is_padded (drop cursor.at s.now)) (number cursor.at (drop cursor.at s.now))) ∷ [])
+read_varint_lua54 _ = varint-call.Met.met
 
 pub severity-of : Promise severity-call.ended severity-call.Symbol.routine (λ _ rule r. (r ≡ severity rule) ∷ [])
 severity-of _ = severity-call.Met.met
 
-pub from-u8 : Promise from-u8-call.ended from-u8-call.Symbol.routine (λ _ op r. (r ≡ opcodeAt op) ∷ [])
-from-u8 _ = from-u8-call.Met.met
+pub from_u8 : Promise from-u8-call.ended from-u8-call.Symbol.routine (λ _ op r. (r ≡ opcode_at op) ∷ [])
+from_u8 _ = from-u8-call.Met.met
 
-pub opcode-number : Promise number-call.ended number-call.Symbol.routine (λ _ o r. (r ≡ number_of o) ∷ [])
-opcode-number _ = number-call.Met.met
+pub opcode_number : Promise number-call.ended number-call.Symbol.routine (λ _ o r. (r ≡ number_of o) ∷ [])
+opcode_number _ = number-call.Met.met
 
-pub opcode-mode : Promise mode-call.ended mode-call.Symbol.routine (λ _ o r. (r ≡ mode_of o) ∷ [])
-opcode-mode _ = mode-call.Met.met
+pub opcode_mode : Promise mode-call.ended mode-call.Symbol.routine (λ _ o r. (r ≡ mode_of o) ∷ [])
+opcode_mode _ = mode-call.Met.met
 
-pub encode-iabc : Promise iabc-call.ended iabc-call.Symbol.routine (λ _ o a b c k r. (r ≡ encodedIABC o a b c k) ∷ [])
-encode-iabc _ = iabc-call.Met.met
+pub encode_iabc : Promise iabc-call.ended iabc-call.Symbol.routine (λ _ o a b c k r. (r ≡ encodedIABC o a b c k) ∷ [])
+encode_iabc _ = iabc-call.Met.met
 
-pub encode-iabx : Promise iabx-call.ended iabx-call.Symbol.routine (λ _ o a bx r. (r ≡ encodedIABx o a bx) ∷ [])
-encode-iabx _ = iabx-call.Met.met
+pub encode_iabx : Promise iabx-call.ended iabx-call.Symbol.routine (λ _ o a bx r. (r ≡ encodedIABx o a bx) ∷ [])
+encode_iabx _ = iabx-call.Met.met
 
-pub encode-iasbx : Promise iasbx-call.ended iasbx-call.Symbol.routine (λ _ o a sbx r. (r ≡ encodedIAsBx o a sbx) ∷ [])
-encode-iasbx _ = iasbx-call.Met.met
+pub encode_iasbx : Promise iasbx-call.ended iasbx-call.Symbol.routine (λ _ o a sbx r. (r ≡ encodedIAs_bx o a sbx) ∷ [])
+encode_iasbx _ = iasbx-call.Met.met
 
-pub encode-iax : Promise iax-call.ended iax-call.Symbol.routine (λ _ o ax r. (r ≡ encodedIAx o ax) ∷ [])
-encode-iax _ = iax-call.Met.met
+pub encode_iax : Promise iax-call.ended iax-call.Symbol.routine (λ _ o ax r. (r ≡ encodedIAx o ax) ∷ [])
+encode_iax _ = iax-call.Met.met
 
-pub encode-isj : Promise isj-call.ended isj-call.Symbol.routine (λ _ o sj r. (r ≡ encodedIsJ o sj) ∷ [])
-encode-isj _ = isj-call.Met.met
+pub encode_isj : Promise isj-call.ended isj-call.Symbol.routine (λ _ o sj r. (r ≡ encoded_isJ o sj) ∷ [])
+encode_isj _ = isj-call.Met.met

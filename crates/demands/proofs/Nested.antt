@@ -1,7 +1,7 @@
 -- Each function of a chunk that is read is found again in two parts: its head where it begins, its tail behind the functions that nest in it.
 --     last_end k place ps             of the functions ps, the end of the last one that nests in function k; the place itself where none does
 --     Parted L s before p later      the function p, with those before it and those behind it, is found so; the head as one that no instruction of another function comes before
---     all-parted                     so it is with every function of a chunk that is read
+--     all_parted                     so it is with every function of a chunk that is read
 -- Assumes nothing.
 use mathlib.Core.Path.{◌≡◌, refl, sym, ◌∙◌, ap, subst}
 use mathlib.Core.Bool.{false, cond}
@@ -20,22 +20,22 @@ use Rattle.format.specs.GrammarChunk.{Where, after, Loaded, reading}
 use Rattle.format.specs.Read.{Read, ok, refused, Reader}
 use Rattle.format.specs.ReadChunk.{forest, function, main, outcome, shown, read}
 use Rattle.format.proofs.Every.{all_append}
-use Rattle.format.proofs.Exact.{Exact, exact-atMost}
-use Rattle.format.proofs.ExactFields.{exact-field, exact-number}
-use Rattle.format.proofs.ExactHeader.{exact-header}
-use Rattle.format.proofs.ExactChunk.{exact-forest, exact-function}
-use Rattle.format.proofs.Located.{Found, AtPlace, any, at_give, at-refuse, at_here, at-then}
+use Rattle.format.proofs.Exact.{Exact, exact_at_most}
+use Rattle.format.proofs.ExactFields.{exact_field, exact_number}
+use Rattle.format.proofs.ExactHeader.{exact_header}
+use Rattle.format.proofs.ExactChunk.{exact_forest, exact_function}
+use Rattle.format.proofs.Located.{Found, AtPlace, any, at_give, at-refuse, at_here, at_then}
 use Rattle.format_lua.proofs.LdumpWhole.{source_of}
-use Rattle.format.proofs.ReadChunkLaws.{read-sound, main-complete}
-use Rattle.read_entry.specs.Readers.{protosCount}
-use Rattle.read_list.proofs.Within.{exact-protosCount}
+use Rattle.format.proofs.ReadChunkLaws.{read_sound, main_complete}
+use Rattle.read_entry.specs.Readers.{protos_count}
+use Rattle.read_list.proofs.Within.{exact_protos_count}
 use Rattle.read_prototype.specs.Parts.{Head, head, Tail, tail}
-use Rattle.read_prototype.specs.Inner.Whole.{prototypeOf, inside, parts}
-use Rattle.read_prototype.proofs.FrontAnswers.{exact-front}
-use Rattle.read_prototype.proofs.HeadAnswers.{exact-lists}
+use Rattle.read_prototype.specs.Inner.Whole.{prototype_of, inside, parts}
+use Rattle.read_prototype.proofs.FrontAnswers.{exact_front}
+use Rattle.read_prototype.proofs.HeadAnswers.{exact_lists}
 use Rattle.read_walk.specs.Inner.Skim.{entered}
-use Rattle.read_walk.proofs.Entering.{exact-entered}
-use Rattle.read_walk.proofs.HeadTail.{exact-head, exact-tail}
+use Rattle.read_walk.proofs.Entering.{exact_entered}
+use Rattle.read_walk.proofs.HeadTail.{exact_head, exact_tail}
 use Rattle.read_walk.proofs.OneFunction.{by_parts}
 use Rattle.read_next.proofs.Fewer.{fewer_head}
 
@@ -48,11 +48,11 @@ pub record Parted (L : ResourceLimits) (s : Bytes) (before : List Prototype) (p 
   pub place : Where
   pub first : Head
   pub rest : Tail
-  pub is : p ≡ prototypeOf place p.start first rest p.end
+  pub is : p ≡ prototype_of place p.start first rest p.end
   pub source : place.source ≡ source_of before p.parent
   pub at-start : Found s (head L 0) p.start first
   pub trailing : Bytes
-  pub behind-nested : tail L.max_string_bytes (last_end (length before) p.places.protos later) (drop (last_end (length before) p.places.protos later) s) ≡ ok rest p.end trailing
+  pub behind_nested : tail L.max_string_bytes (last_end (length before) p.places.protos later) (drop (last_end (length before) p.places.protos later) s) ≡ ok rest p.end trailing
 
 -- ## Laws of these
 last-append : (k place : ℕ) (ps more : List Prototype) → last_end k place (ps ++ more) ≡ last_end k (last_end k place ps) more
@@ -84,12 +84,12 @@ abbrev EachOf : (List Prototype → Prototype → List Prototype → Type 0) →
 EachOf P before [] = Unit {0}
 EachOf P before (p ∷ ps) = P before p ps × EachOf P (before ++ (p ∷ [])) ps
 
-each-nth : (P : List Prototype → Prototype → List Prototype → Type 0) (before ps : List Prototype) → EachOf P before ps → (k : ℕ) {p : Prototype} → get_elem? ps k ≡ some p → P (before ++ take k ps) p (drop (suc k) ps)
-each-nth P before [] e k there = absurd (let z : ◌≡◌ {A = ℕ} 0 1 = cc in omega arith)
-each-nth P before (q ∷ ps) e zero {p} there =
+each_nth : (P : List Prototype → Prototype → List Prototype → Type 0) (before ps : List Prototype) → EachOf P before ps → (k : ℕ) {p : Prototype} → get_elem? ps k ≡ some p → P (before ++ take k ps) p (drop (suc k) ps)
+each_nth P before [] e k there = absurd (let z : ◌≡◌ {A = ℕ} 0 1 = cc in omega arith)
+each_nth P before (q ∷ ps) e zero {p} there =
     let same : q ≡ p = cc in
     subst (λ b. P b p ps) (sym (append-nil before)) (subst (λ q. P before q ps) same e.0)
-each-nth P before (q ∷ ps) e (suc k) {p} there = subst (λ b. P b p (drop (suc k) ps)) (append_assoc before (q ∷ []) (take k ps)) (each-nth P (before ++ (q ∷ [])) ps e.1 k there)
+each_nth P before (q ∷ ps) e (suc k) {p} there = subst (λ b. P b p (drop (suc k) ps)) (append_assoc before (q ∷ []) (take k ps)) (each_nth P (before ++ (q ∷ [])) ps e.1 k there)
 
 -- what a reader gave at a place
 pub record Got {A : Type 0} (s : Bytes) (at : ℕ) (r : Reader A) (to : ℕ) (x : A) : Type 0 where
@@ -121,8 +121,8 @@ module _ (L : ResourceLimits) (s : Bytes) where
   Beyond parent number y = (parent ≤ y.parent) × ((n : ℕ) → parent < n → n < number → NotIn n y)
 
   -- ### Functions one behind the other
-  later-too : {before : List Prototype} {p : Prototype} {ps : List Prototype} (more : List Prototype) → All (NotIn (length before)) more → Parted L s before p ps → Parted L s before p (ps ++ more)
-  later-too {before} {p} {ps} more none_of f =
+  later_too : {before : List Prototype} {p : Prototype} {ps : List Prototype} (more : List Prototype) → All (NotIn (length before)) more → Parted L s before p ps → Parted L s before p (ps ++ more)
+  later_too {before} {p} {ps} more none_of f =
       let same = last-append (length before) p.places.protos ps more ∙ last_none (length before) (last_end (length before) p.places.protos ps) more none_of in
       record {
         place = f.place;
@@ -132,25 +132,25 @@ module _ (L : ResourceLimits) (s : Bytes) where
         source = f.source;
         at-start = f.at-start;
         trailing = f.trailing;
-        behind-nested = ap (λ at. tail L.max_string_bytes at (drop at s)) same ∙ f.behind-nested;
+        behind_nested = ap (λ at. tail L.max_string_bytes at (drop at s)) same ∙ f.behind_nested;
       }
 
   each_append : (before ps more : List Prototype) → ((n : ℕ) → length before ≤ n → n < length before + length ps → All (NotIn n) more) → Each before ps → Each (before ++ ps) more → Each before (ps ++ more)
   each_append before [] more out e f = rw (append-nil before) at f
   each_append before (p ∷ ps) more out e f =
       let size = length-append before (p ∷ []) in (
-        later-too more (out (length before) (omega arith) (omega arith)) e.0,
+        later_too more (out (length before) (omega arith) (omega arith)) e.0,
         each_append (before ++ (p ∷ [])) ps more (λ n h k. out n (omega arith) (omega arith)) e.1 (rw (← append_assoc before (p ∷ []) ps) at f),
       )
 
-  top-end : (w : Where) (at to : ℕ) (ps : List Prototype) → w.parent < w.number → Top w to ps → last_end w.parent at ps ≡ to
-  top-end w at to [] h t = absurd t
-  top-end w at to (p ∷ nested) h t =
+  top_end : (w : Where) (at to : ℕ) (ps : List Prototype) → w.parent < w.number → Top w to ps → last_end w.parent at ps ≡ to
+  top_end w at to [] h t = absurd t
+  top_end w at to (p ∷ nested) h t =
       rw (eq-eqb p.parent w.parent t.0) (last_none w.parent p.end nested (all_map (λ y k. ne_eqb y.parent w.parent (λ e. omega (arith, e))) nested t.2) ∙ t.1)
 
-  top-beyond : (w : Where) (to : ℕ) (ps : List Prototype) → w.parent < w.number → Top w to ps → All (Beyond w.parent w.number) ps
-  top-beyond w to [] h t = absurd t
-  top-beyond w to (p ∷ nested) h t =
+  top_beyond : (w : Where) (to : ℕ) (ps : List Prototype) → w.parent < w.number → Top w to ps → All (Beyond w.parent w.number) ps
+  top_beyond w to [] h t = absurd t
+  top_beyond w to (p ∷ nested) h t =
       let own = t.0 in (
         (omega arith, λ n k m. ne_eqb p.parent n (λ e. omega (arith, e))),
         all_map (λ y k. (omega arith, λ n i m. ne_eqb y.parent n (λ e. omega (arith, e)))) nested t.2,
@@ -166,39 +166,39 @@ module _ (L : ResourceLimits) (s : Bytes) where
         (λ n i m. all_map (λ y k. k.1 n (omega arith) (omega arith)) more others.1)
         (one.0 before size source)
         (others.0 (before ++ ps) (length-append before ps ∙ ap (λ n. n + length ps) size) (source ∙ sym (source-append w.parent before ps (omega arith)))),
-    all_append (Beyond w.parent w.number) ps more (top-beyond w to ps h one.1) (all_map (λ y k. (k.0, λ n i m. k.1 n i (omega arith))) more others.1),
-    last-append w.parent at ps more ∙ ap (λ place. last_end w.parent place more) (top-end w at to ps h one.1) ∙ others.2,
+    all_append (Beyond w.parent w.number) ps more (top_beyond w to ps h one.1) (all_map (λ y k. (k.0, λ n i m. k.1 n i (omega arith))) more others.1),
+    last-append w.parent at ps more ∙ ap (λ place. last_end w.parent place more) (top_end w at to ps h one.1) ∙ others.2,
   )
 
   at-forest : (n : ℕ) {at : ℕ} {r : Where → Reader (List Prototype)} {F : Where → Form (List Prototype)} (w : Where) → ((w : Where) → Exact (r w) (F w))
       → ((w : Where) (at : ℕ) → AtPlace s at (r w) (λ to ps. EachFrom w ps × Top w to ps)) → w.parent < w.number → AtPlace s at (forest n r w) (Forest w at)
   at-forest zero w exact one h = at_give (λ before size source. tt, tt, refl)
   at-forest (suc n) {at} w exact one h =
-      at-then (exact w) (one w at) λ ps to top.
-      at-then (exact-forest n (after ps w) exact) (at-forest n {at = to} (after ps w) exact one (omega arith)) λ more end others.
+      at_then (exact w) (one w at) λ ps to top.
+      at_then (exact_forest n (after ps w) exact) (at-forest n {at = to} (after ps w) exact one (omega arith)) λ more end others.
       at_give (joined w at to end ps more h top others)
 
   -- ### A function
-  at-protos : {at : ℕ} (limit : ℕ) → AtPlace s at (protosCount limit) (λ to c. c.place ≡ to)
+  at-protos : {at : ℕ} (limit : ℕ) → AtPlace s at (protos_count limit) (λ to c. c.place ≡ to)
   at-protos limit =
       at_here λ first.
-      at-then exact-number any λ protos _ _.
-      at-then (exact-atMost protos limit (Prototypes first)) any λ _ _ _.
+      at_then exact_number any λ protos _ _.
+      at_then (exact_at_most protos limit (Prototypes first)) any λ _ _ _.
       at_here λ place.
       at_give λ p _. p
 
   at_head : {at : ℕ} (before : ℕ) → AtPlace s at (head L before) (λ to h. h.protos.place ≡ to)
   at_head before =
-      at-then (exact-front L.max_string_bytes) any λ _ _ _.
-      at-then (exact-lists L before) any λ _ _ _.
-      at-then (exact-protosCount L.max_total_prototypes) (at-protos L.max_total_prototypes) λ _ _ p.
+      at_then (exact_front L.max_string_bytes) any λ _ _ _.
+      at_then (exact_lists L before) any λ _ _ _.
+      at_then (exact_protos_count L.max_total_prototypes) (at-protos L.max_total_prototypes) λ _ _ p.
       at_give p
 
-  put-together : (w : Where) (at start first behind end to : ℕ) (h : Head) (nested : List Prototype) (t : Tail) → start ≡ at → end ≡ to
+  put_together : (w : Where) (at start first behind end to : ℕ) (h : Head) (nested : List Prototype) (t : Tail) → start ≡ at → end ≡ to
       → Got s at (head L w.instructions) first h × (h.protos.place ≡ first) → Forest (inside w h) first behind nested → Got s behind (tail L.max_string_bytes) to t
-      → EachFrom w (prototypeOf w start h t end ∷ nested) × Top w to (prototypeOf w start h t end ∷ nested)
-  put-together w at start first behind end to h nested t from upto one others two =
-      let p = prototypeOf w start h t end in (
+      → EachFrom w (prototype_of w start h t end ∷ nested) × Top w to (prototype_of w start h t end ∷ nested)
+  put_together w at start first behind end to h nested t from upto one others two =
+      let p = prototype_of w start h t end in (
         λ before size source.
             let place : last_end (length before) h.protos.place nested ≡ behind = ap (λ k. last_end k h.protos.place nested) size ∙ ap (λ k. last_end w.number k nested) one.1 ∙ others.2 in (
               record {
@@ -209,7 +209,7 @@ module _ (L : ResourceLimits) (s : Bytes) where
                 source = source;
                 at-start = record { to = first; rest = one.0.rest; is = ap (λ at. head L 0 at (drop at s)) from ∙ (fewer_head L w.instructions at (drop at s)).holds h first one.0.rest one.0.is };
                 trailing = two.rest;
-                behind-nested = ap (λ at. tail L.max_string_bytes at (drop at s)) place ∙ two.is ∙ ap (λ k. ok t k two.rest) (sym upto);
+                behind_nested = ap (λ at. tail L.max_string_bytes at (drop at s)) place ∙ two.is ∙ ap (λ k. ok t k two.rest) (sym upto);
               },
               others.0 (before ++ (p ∷ [])) (length-append before (p ∷ []) ∙ ap (λ n. n + 1) size) (sym (ap (λ k. source_of (before ++ (p ∷ [])) k) (sym size) ∙ source-last before p)),
             ),
@@ -220,28 +220,28 @@ module _ (L : ResourceLimits) (s : Bytes) where
   as_parts : (left : ℕ) (w : Where) (at : ℕ) {P : ℕ → List Prototype → Type 0} → AtPlace s at (parts L (entered L left) w) P → AtPlace s at (function L left w) P
   as_parts left w at a = record { holds = λ e. a.holds (sym (by_parts s L left w at) ∙ e) }
 
-  at-entering : (left : ℕ) (w : Where) (at : ℕ) {P : ℕ → List Prototype → Type 0} → ((to : ℕ) → AtPlace s to (function L left w) P) → AtPlace s at (entered L (suc left) w) P
-  at-entering left w at inner = record { holds = λ e. (at-then (exact-atMost w.number L.max_total_prototypes (TotalPrototypes at)) any λ _ to _. inner to).holds e }
+  at_entering : (left : ℕ) (w : Where) (at : ℕ) {P : ℕ → List Prototype → Type 0} → ((to : ℕ) → AtPlace s to (function L left w) P) → AtPlace s at (entered L (suc left) w) P
+  at_entering left w at inner = record { holds = λ e. (at_then (exact_at_most w.number L.max_total_prototypes (TotalPrototypes at)) any λ _ to _. inner to).holds e }
 
   at-parts : {r : Where → Reader (List Prototype)} {F : Where → Form (List Prototype)} → ((w : Where) → Exact (r w) (F w))
       → ((w : Where) (at : ℕ) → AtPlace s at (r w) (λ to ps. EachFrom w ps × Top w to ps)) → (w : Where) (at : ℕ) → AtPlace s at (parts L r w) (λ to ps. EachFrom w ps × Top w to ps)
   at-parts exact one w at =
       at_here λ start.
-      at-then (exact-head L w.instructions) (both got (at_head w.instructions)) λ h first front.
-      at-then (exact-forest h.protos.count (inside w h) exact) (at-forest h.protos.count {at = first} (inside w h) exact one (omega arith)) λ nested behind others.
-      at-then (exact-tail L.max_string_bytes) got λ t to back.
+      at_then (exact_head L w.instructions) (both got (at_head w.instructions)) λ h first front.
+      at_then (exact_forest h.protos.count (inside w h) exact) (at-forest h.protos.count {at = first} (inside w h) exact one (omega arith)) λ nested behind others.
+      at_then (exact_tail L.max_string_bytes) got λ t to back.
       at_here λ end.
-      at_give λ upto from. put-together w at start first behind end to h nested t from upto front others back
+      at_give λ upto from. put_together w at start first behind end to h nested t from upto front others back
 
   at-function : (left : ℕ) (w : Where) (at : ℕ) → AtPlace s at (function L left w) (λ to ps. EachFrom w ps × Top w to ps)
-  at-function zero w at = as_parts zero w at (at-parts (exact-entered L zero) (λ w at. at_here λ place. at-refuse) w at)
-  at-function (suc left) w at = as_parts (suc left) w at (at-parts (exact-entered L (suc left)) (λ w at. at-entering left w at (λ to. at-function left w to)) w at)
+  at-function zero w at = as_parts zero w at (at-parts (exact_entered L zero) (λ w at. at_here λ place. at-refuse) w at)
+  at-function (suc left) w at = as_parts (suc left) w at (at-parts (exact_entered L (suc left)) (λ w at. at_entering left w at (λ to. at-function left w to)) w at)
 
   at-main : AtPlace s 0 (main L) (λ to m. Each [] m.functions)
   at-main =
-      at-then exact-header any λ headed _ _.
-      at-then (exact-field 1) any λ forgotten _ _.
-      at-then (exact-function L L.max_nesting_depth _) (at-function L.max_nesting_depth _ _) λ functions _ h.
+      at_then exact_header any λ headed _ _.
+      at_then (exact_field 1) any λ forgotten _ _.
+      at_then (exact_function L L.max_nesting_depth _) (at-function L.max_nesting_depth _ _) λ functions _ h.
       at_give (h.0 [] refl refl)
 
   from : (o : Read Loaded) → main L 0 s ≡ o → (r : Reading) → outcome L o ≡ shown r → Each [] r.functions
@@ -251,5 +251,5 @@ module _ (L : ResourceLimits) (s : Bytes) where
       rw functions at (at-main.holds e)
   from (refused q) e r p = absurd (let z : ◌≡◌ {A = ℕ} 0 1 = cc in omega arith)
 
-  pub all-parted : (r : Reading) → read L s ≡ shown r → (k : ℕ) {p : Prototype} → get_elem? r.functions k ≡ some p → Parted L s (take k r.functions) p (drop (suc k) r.functions)
-  all-parted r e k there = each-nth (Parted L s) [] r.functions (from (main L 0 s) refl r (main-complete L s r (read-sound L s r e))) k there
+  pub all_parted : (r : Reading) → read L s ≡ shown r → (k : ℕ) {p : Prototype} → get_elem? r.functions k ≡ some p → Parted L s (take k r.functions) p (drop (suc k) r.functions)
+  all_parted r e k there = each_nth (Parted L s) [] r.functions (from (main L 0 s) refl r (main_complete L s r (read_sound L s r e))) k there

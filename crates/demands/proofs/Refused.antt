@@ -1,9 +1,9 @@
 -- The refusals of a call, in 01's order, each with its condition, its number and its place; and the refusal that an answer holds, as 01's number and place (`reported`).
 --     first qs         the first of the conditions that holds
---     ofChunk L s      21, 22, then 1 to 20: what every call on a chunk tests
---     noFunction ..    23, 24, 25, 26, 29 and 30, of a chunk that is read
---     forChunk ..      all conditions of a call, in their order
---     inSummary ..     the refusal in an answer
+--     of_chunk L s      21, 22, then 1 to 20: what every call on a chunk tests
+--     no_function ..    23, 24, 25, 26, 29 and 30, of a chunk that is read
+--     for_chunk ..      all conditions of a call, in their order
+--     in_summary ..     the refusal in an answer
 use mathlib.Core.Path.{◌≡◌, refl}
 use mathlib.Core.Bool.{Bool, cond}
 use mathlib.Core.List.{List, [], ◌∷◌}
@@ -15,12 +15,12 @@ use Rattle.format.specs.declared.limits.ResourceLimits.{ResourceLimits}
 use Rattle.format.specs.declared.refusal.Report.{Report}
 use Rattle.format.specs.Refusals.{bare, reported}
 use Rattle.format.specs.Form.{Bytes}
-use Rattle.format.specs.Limits.{withinCeilings}
+use Rattle.format.specs.Limits.{within_ceilings}
 use Rattle.format.specs.Reading.{Reading, Prototype, LocalVar}
 use Rattle.format.specs.Read.{Read, ok, refused}
 use Rattle.format.specs.ReadChunk.{Outcome, shown, refusal, main, read}
 use Rattle.line_lookup.specs.Lines.{large}
-use Rattle.line_batch.specs.Batch.{rises, neverFalls}
+use Rattle.line_batch.specs.Batch.{rises, never_falls}
 use Rattle.word_opcodes.specs.declared.opcode.OptionOpcode54.{OptionOpcode54}
 use Rattle.word_opcodes.specs.declared.opcode.OptionOpcode54.TheVariants as option
 use Rattle.word_opcodes.specs.Table.{mode_of}
@@ -76,12 +76,12 @@ first (none ∷ qs) = first qs
 first (some q ∷ qs) = some q
 
 -- ## 21, 22, 1 to 20
-abbrev pub byReader : {A : Type 0} → Read A → Option Report
-byReader (ok x to rest) = none
-byReader (refused q) = some (reported q)
+abbrev pub by_reader : {A : Type 0} → Read A → Option Report
+by_reader (ok x to rest) = none
+by_reader (refused q) = some (reported q)
 
-abbrev pub ofChunk : ResourceLimits → Bytes → List (Option Report) → List (Option Report)
-ofChunk L s later = unless (withinCeilings L) (bare 21) ∷ unless (leb (length s) L.max_input_bytes) (bare 22) ∷ byReader (main L 0 s) ∷ later
+abbrev pub of_chunk : ResourceLimits → Bytes → List (Option Report) → List (Option Report)
+of_chunk L s later = unless (within_ceilings L) (bare 21) ∷ unless (leb (length s) L.max_input_bytes) (bare 22) ∷ by_reader (main L 0 s) ∷ later
 
 -- what a chunk that is read is then held to
 abbrev pub and_then : Outcome → (Reading → List (Option Report)) → List (Option Report)
@@ -89,47 +89,47 @@ and_then (shown r) later = later r
 and_then (refusal q) later = []
 
 -- ## 23 to 26
-abbrev pub noFunction : ℕ → Reading → Option Report
-noFunction f r = missing (get_elem? r.functions f) (bare 23)
+abbrev pub no_function : ℕ → Reading → Option Report
+no_function f r = missing (get_elem? r.functions f) (bare 23)
 
 -- of a function that is there
-abbrev pub ofFunction : Option Prototype → (Prototype → Option Report) → Option Report
-ofFunction none q = none
-ofFunction (some p) q = q p
+abbrev pub of_function_lem : Option Prototype → (Prototype → Option Report) → Option Report
+of_function_lem none q = none
+of_function_lem (some p) q = q p
 
-abbrev pub noEntry : {A : Type 0} → (Prototype → List A) → ℕ → ℕ → Reading → Option Report
-noEntry list f i r = ofFunction (get_elem? r.functions f) (λ p. missing (get_elem? (list p) i) (bare 24))
+abbrev pub no_entry : {A : Type 0} → (Prototype → List A) → ℕ → ℕ → Reading → Option Report
+no_entry list f i r = of_function_lem (get_elem? r.functions f) (λ p. missing (get_elem? (list p) i) (bare 24))
 
-abbrev pub largeLine : ℕ → Reading → Option Report
-largeLine f r = ofFunction (get_elem? r.functions f) (λ p. cond (large p.line_defined p.abs-line-info) (some (bare 25)) none)
+abbrev pub large_line : ℕ → Reading → Option Report
+large_line f r = of_function_lem (get_elem? r.functions f) (λ p. cond (large p.line_defined p.abs_line_info) (some (bare 25)) none)
 
 -- 02, item 3: the function's anchors, whatever the pcs are; the list of pcs
-abbrev pub anchorOrder : ℕ → Reading → Option Report
-anchorOrder f r = ofFunction (get_elem? r.functions f) (λ p. unless (rises p.abs-line-info) (bare 29))
+abbrev pub anchor_order : ℕ → Reading → Option Report
+anchor_order f r = of_function_lem (get_elem? r.functions f) (λ p. unless (rises p.abs_line_info) (bare 29))
 
-abbrev pub pcOrder : List ℕ → Option Report
-pcOrder pcs = unless (neverFalls pcs) (bare 30)
+abbrev pub pc_order : List ℕ → Option Report
+pc_order pcs = unless (never_falls pcs) (bare 30)
 
-abbrev pub tooLong : {A : Type 0} → List A → ℕ → Option Report
-tooLong result space = unless (leb (length result) space) (bare 26)
+abbrev pub too_long_lem : {A : Type 0} → List A → ℕ → Option Report
+too_long_lem result space = unless (leb (length result) space) (bare 26)
 
-abbrev pub ofLocal : Option LocalVar → (LocalVar → Option Report) → Option Report
-ofLocal none q = none
-ofLocal (some l) q = q l
+abbrev pub of_local : Option LocalVar → (LocalVar → Option Report) → Option Report
+of_local none q = none
+of_local (some l) q = q l
 
 -- a local variable's name that is longer than the lent space
-abbrev pub longName : ℕ → ℕ → ℕ → Reading → Option Report
-longName space f i r = ofFunction (get_elem? r.functions f) (λ p. ofLocal (get_elem? p.loc-vars i) (λ l. tooLong l.name.bytes space))
+abbrev pub long_name : ℕ → ℕ → ℕ → Reading → Option Report
+long_name space f i r = of_function_lem (get_elem? r.functions f) (λ p. of_local (get_elem? p.loc_vars i) (λ l. too_long_lem l.name.bytes space))
 
 -- ## 28, 27
-abbrev pub noOpcode : OptionOpcode54 → Option Report
-noOpcode option.None = some (bare 28)
-noOpcode (option.Some o) = none
+abbrev pub no_opcode : OptionOpcode54 → Option Report
+no_opcode option.None = some (bare 28)
+no_opcode (option.Some o) = none
 
 -- a field that the opcode's mode uses is out of its range
-abbrev pub outOfRange : OptionOpcode54 → RawInstruction54 → Option Report
-outOfRange option.None r = none
-outOfRange (option.Some o) r = unless (in_range (mode_of o) r) (bare 27)
+abbrev pub out_of_range : OptionOpcode54 → RawInstruction54 → Option Report
+out_of_range option.None r = none
+out_of_range (option.Some o) r = unless (in_range (mode_of o) r) (bare 27)
 
 -- ## Two laws
 -- one condition alone
@@ -138,113 +138,113 @@ alone none = refl
 alone (some q) = refl
 
 -- nothing is tested of what is read
-pub nothing-later : (o : Outcome) → and_then o (λ r. []) ≡ []
-nothing-later (shown r) = refl
-nothing-later (refusal q) = refl
+pub nothing_later : (o : Outcome) → and_then o (λ r. []) ≡ []
+nothing_later (shown r) = refl
+nothing_later (refusal q) = refl
 
 -- ## The conditions of each call, in 01's order
 module _ (L : ResourceLimits) (s : Bytes) where
   -- on a chunk as a whole: 21, 22, 1 to 20
-  abbrev pub forChunk : List (Option Report)
-  forChunk = ofChunk L s []
+  abbrev pub for_chunk : List (Option Report)
+  for_chunk = of_chunk L s []
 
   -- and then on what is read
-  abbrev pub forReading : (Reading → List (Option Report)) → List (Option Report)
-  forReading later = ofChunk L s (and_then (read L s) later)
+  abbrev pub for_reading : (Reading → List (Option Report)) → List (Option Report)
+  for_reading later = of_chunk L s (and_then (read L s) later)
 
   -- where a result is written into lent space: 26
-  abbrev pub forSpace : {A : Type 0} → (Reading → List A) → ℕ → List (Option Report)
-  forSpace result space = forReading (λ r. tooLong (result r) space ∷ [])
+  abbrev pub for_space : {A : Type 0} → (Reading → List A) → ℕ → List (Option Report)
+  for_space result space = for_reading (λ r. too_long_lem (result r) space ∷ [])
 
   -- on a function: 23
-  abbrev pub forFunction : ℕ → List (Option Report)
-  forFunction f = forReading (λ r. noFunction f r ∷ [])
+  abbrev pub for_function : ℕ → List (Option Report)
+  for_function f = for_reading (λ r. no_function f r ∷ [])
 
   -- on its lines: 23, 25
-  abbrev pub forLine : ℕ → List (Option Report)
-  forLine f = forReading (λ r. noFunction f r ∷ largeLine f r ∷ [])
+  abbrev pub for_line : ℕ → List (Option Report)
+  for_line f = for_reading (λ r. no_function f r ∷ large_line f r ∷ [])
 
   -- on the lines of a list of pcs, which are written into lent space, a line for each pc: 23, 25, 29, 30, 26
-  abbrev pub forLines : ℕ → List ℕ → ℕ → List (Option Report)
-  forLines f pcs space = forReading (λ r. noFunction f r ∷ largeLine f r ∷ anchorOrder f r ∷ pcOrder pcs ∷ tooLong pcs space ∷ [])
+  abbrev pub for_lines : ℕ → List ℕ → ℕ → List (Option Report)
+  for_lines f pcs space = for_reading (λ r. no_function f r ∷ large_line f r ∷ anchor_order f r ∷ pc_order pcs ∷ too_long_lem pcs space ∷ [])
 
   -- on an entry of a list of it: 23, 24
-  abbrev pub forEntry : {A : Type 0} → (Prototype → List A) → ℕ → ℕ → List (Option Report)
-  forEntry list f i = forReading (λ r. noFunction f r ∷ noEntry list f i r ∷ [])
+  abbrev pub for_entry : {A : Type 0} → (Prototype → List A) → ℕ → ℕ → List (Option Report)
+  for_entry list f i = for_reading (λ r. no_function f r ∷ no_entry list f i r ∷ [])
 
   -- on a local variable, whose name is written into lent space: 23, 24, 26
-  abbrev pub forLocal : ℕ → ℕ → ℕ → List (Option Report)
-  forLocal f i space = forReading (λ r. noFunction f r ∷ noEntry (λ p. p.loc-vars) f i r ∷ longName space f i r ∷ [])
+  abbrev pub for_local : ℕ → ℕ → ℕ → List (Option Report)
+  for_local f i space = for_reading (λ r. no_function f r ∷ no_entry (λ p. p.loc_vars) f i r ∷ long_name space f i r ∷ [])
 
 -- on a word that is encoded: 28, 27
-abbrev pub forWord : RawInstruction54 → List (Option Report)
-forWord r = noOpcode r.opcode ∷ outOfRange r.opcode r ∷ []
+abbrev pub for_word : RawInstruction54 → List (Option Report)
+for_word r = no_opcode r.opcode ∷ out_of_range r.opcode r ∷ []
 
 -- ## The refusal in an answer
-abbrev pub inSummary : SummaryAnswer → Option Report
-inSummary (summary.Ok x) = none
-inSummary (summary.Err q) = some (reported q)
+abbrev pub in_summary : SummaryAnswer → Option Report
+in_summary (summary.Ok x) = none
+in_summary (summary.Err q) = some (reported q)
 
-abbrev pub inFields : FieldsAnswer → Option Report
-inFields (fields.Ok x) = none
-inFields (fields.Err q) = some (reported q)
+abbrev pub in_fields : FieldsAnswer → Option Report
+in_fields (fields.Ok x) = none
+in_fields (fields.Err q) = some (reported q)
 
 abbrev pub in_word : WordAnswer → Option Report
 in_word (word.Ok x) = none
 in_word (word.Err q) = some (reported q)
 
-abbrev pub inConstant : ConstantAnswer → Option Report
-inConstant (constant.Ok x) = none
-inConstant (constant.Err q) = some (reported q)
+abbrev pub in_constant : ConstantAnswer → Option Report
+in_constant (constant.Ok x) = none
+in_constant (constant.Err q) = some (reported q)
 
-abbrev pub inUpvalue : UpvalueAnswer → Option Report
-inUpvalue (upvalue.Ok x) = none
-inUpvalue (upvalue.Err q) = some (reported q)
+abbrev pub in_upvalue : UpvalueAnswer → Option Report
+in_upvalue (upvalue.Ok x) = none
+in_upvalue (upvalue.Err q) = some (reported q)
 
-abbrev pub inDelta : DeltaAnswer → Option Report
-inDelta (delta.Ok x) = none
-inDelta (delta.Err q) = some (reported q)
+abbrev pub in_delta : DeltaAnswer → Option Report
+in_delta (delta.Ok x) = none
+in_delta (delta.Err q) = some (reported q)
 
-abbrev pub inAnchor : AnchorAnswer → Option Report
-inAnchor (anchor.Ok x) = none
-inAnchor (anchor.Err q) = some (reported q)
+abbrev pub in_anchor : AnchorAnswer → Option Report
+in_anchor (anchor.Ok x) = none
+in_anchor (anchor.Err q) = some (reported q)
 
-abbrev pub inName : NameAnswer → Option Report
-inName (name.Ok x) = none
-inName (name.Err q) = some (reported q)
+abbrev pub in_name : NameAnswer → Option Report
+in_name (name.Ok x) = none
+in_name (name.Err q) = some (reported q)
 
-abbrev pub inLocal : LocalAnswer → Option Report
-inLocal (local.Ok x y z) = none
-inLocal (local.Err q) = some (reported q)
+abbrev pub in_local : LocalAnswer → Option Report
+in_local (local.Ok x y z) = none
+in_local (local.Err q) = some (reported q)
 
-abbrev pub inLine : LineAnswer → Option Report
-inLine (line.Ok x) = none
-inLine (line.Err q) = some (reported q)
+abbrev pub in_line : LineAnswer → Option Report
+in_line (line.Ok x) = none
+in_line (line.Err q) = some (reported q)
 
-abbrev pub inLines : LinesAnswer → Option Report
-inLines (lines.Ok x) = none
-inLines (lines.Err q) = some (reported q)
+abbrev pub in_lines : LinesAnswer → Option Report
+in_lines (lines.Ok x) = none
+in_lines (lines.Err q) = some (reported q)
 
-abbrev pub inIndex : IndexAnswer → Option Report
-inIndex (index.Ok x) = none
-inIndex (index.Err q) = some (reported q)
+abbrev pub in_index : IndexAnswer → Option Report
+in_index (index.Ok x) = none
+in_index (index.Err q) = some (reported q)
 
-abbrev pub inCopy : CopyAnswer → Option Report
-inCopy (copy.Ok x) = none
-inCopy (copy.Err q) = some (reported q)
+abbrev pub in_copy : CopyAnswer → Option Report
+in_copy (copy.Ok x) = none
+in_copy (copy.Err q) = some (reported q)
 
-abbrev pub inVerdict : VerdictAnswer → Option Report
-inVerdict (verdict.Ok x) = none
-inVerdict (verdict.Err q) = some (reported q)
+abbrev pub in_verdict : VerdictAnswer → Option Report
+in_verdict (verdict.Ok x) = none
+in_verdict (verdict.Err q) = some (reported q)
 
-abbrev pub inCount : CountAnswer → Option Report
-inCount (count.Ok x) = none
-inCount (count.Err q) = some (reported q)
+abbrev pub in_count : CountAnswer → Option Report
+in_count (count.Ok x) = none
+in_count (count.Err q) = some (reported q)
 
-abbrev pub inFindings : FindingsAnswer → Option Report
-inFindings (findings.Ok x y) = none
-inFindings (findings.Err q) = some (reported q)
+abbrev pub in_findings : FindingsAnswer → Option Report
+in_findings (findings.Ok x y) = none
+in_findings (findings.Err q) = some (reported q)
 
-abbrev pub inEncoded : Encoded → Option Report
-inEncoded (encoded.Word x) = none
-inEncoded (encoded.Refused q) = some (reported q)
+abbrev pub in_encoded : Encoded → Option Report
+in_encoded (encoded.Word x) = none
+in_encoded (encoded.Refused q) = some (reported q)

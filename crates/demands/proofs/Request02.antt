@@ -1,15 +1,15 @@
 -- REQUEST 2 (02, item 2): two more columns in the index. Each sentence of it once, of what `function_index` answers and leaves in the numbers lent to it (`shownIndex`, `indexWritten`, crates/index/specs/Index.antt;
 -- that it does is Demand2.antt, `function-index`, and behind C Demand2C.antt, `index`).
---     index-size          "An index for n functions now takes 14 times n numbers"
+--     index_size          "An index for n functions now takes 14 times n numbers"
 --     row                 "Each index row grows from 12 to 14 numbers": from number 14 f on stand those of function f, the first twelve as they were, then the rows of the functions behind it
 --     columns             "The new ones are, last in the row, the place of the first instruction word and the place of the first constant": those of the reading
 --     code-there          at these places the words and the constants of that function are read again, as many as there are
 --     (AfterCounts.antt, `after-counts`: "For an empty list it is the place just after its count", and so it is for every list, however its count is spelt)
 --     shown-there         so do the calls behind C: from these places on `lafzimdo_word_at` shows the words, and `lafzimdo_constant_at` the constants
 --     written             where 14 n numbers or more are lent, the index is written at their front, and what stood behind it stays
---     columns-written     so there the two places stand
+--     columns_written     so there the two places stand
 --     too_short           "and refusal 26 is judged by that": where fewer are lent the answer is 26, and they are as they were
---     judged-last         after every other refusal: a chunk that is refused is refused so, however few are lent, and they are as they were
+--     judged_last         after every other refusal: a chunk that is refused is refused so, however few are lent, and they are as they were
 -- Assumes nothing.
 use mathlib.Core.Path.{◌≡◌, refl, sym, ◌∙◌, ap}
 use mathlib.Core.List.{List, [], ◌∷◌, ◌++◌}
@@ -29,21 +29,21 @@ use Rattle.format.specs.ReadFields.{field}
 use Rattle.format.specs.ReadChunk.{constant, shown, refusal, read}
 use Rattle.format.proofs.Located.{Found}
 use Rattle.index.specs.declared.IndexAnswer.TheVariants as answer
-use Rattle.index.specs.Index.{index, shownIndex, indexWritten}
+use Rattle.index.specs.Index.{index, shown_index, index_written}
 use Rattle.index.proofs.Whole.{index-length}
-use Rattle.c_boundary.specs.Status.{limitsOf}
-use Rattle.c_entries_at.specs.EntryNumbers.{word_at, constantAt}
+use Rattle.c_boundary.specs.Status.{limits_of}
+use Rattle.c_entries_at.specs.EntryNumbers.{word_at, constant_at}
 use Rattle.demands.proofs.Calls.{located, shows, refuses}
-use Rattle.demands.proofs.ShownAt.{constantInNumbers, Numbered, Entries, shown-at}
+use Rattle.demands.proofs.ShownAt.{constant_in_numbers, Numbered, Entries, shown-at}
 
 -- ## The rows
-pub index-size : (ps : List Prototype) → length (index ps) ≡ 14 * length ps
-index-size ps = index-length ps
+pub index_size : (ps : List Prototype) → length (index ps) ≡ 14 * length ps
+index_size ps = index-length ps
 
 pub row : (ps : List Prototype) (f : ℕ) (p : Prototype) → get_elem? ps f ≡ some p
     → drop (14 * f) (index ps)
     ≡ (p.start ∷ p.end ∷ p.depth ∷ p.parent
-    ∷ length p.instructions ∷ length p.constants ∷ length p.upvalues ∷ p.protos ∷ length p.line-info ∷ length p.abs-line-info ∷ length p.loc-vars ∷ length p.upvalue-names
+    ∷ length p.instructions ∷ length p.constants ∷ length p.upvalues ∷ p.protos ∷ length p.line_info_lem ∷ length p.abs_line_info ∷ length p.loc_vars ∷ length p.upvalue_names_lem
     ∷ p.places.instructions ∷ p.places.constants ∷ []) ++ index (drop (suc f) ps)
 row [] f p e = absurd (let z : ◌≡◌ {A = ℕ} 0 1 = cc in omega arith)
 row (q ∷ ps) zero p e = let same : q ≡ p = cc in ap (λ p. index (p ∷ ps)) same
@@ -51,16 +51,16 @@ row (q ∷ ps) (suc f) p e =
     let next : 14 * suc f ≡ 14 + 14 * f = omega arith in
     ap (λ k. drop k (index (q ∷ ps))) next ∙ drop-append-add (index (q ∷ [])) (index ps) (14 * f) ∙ row ps f p e
 
-nth-behind : (k i : ℕ) (l : List ℕ) → get_elem? l (k + i) ≡ get_elem? (drop k l) i
-nth-behind zero i l = ap (get_elem? l) (zero-add i)
-nth-behind (suc k) i [] = refl
-nth-behind (suc k) i (x ∷ l) = ap (get_elem? (x ∷ l)) (suc-add k i) ∙ nth-behind k i l
+nth_behind : (k i : ℕ) (l : List ℕ) → get_elem? l (k + i) ≡ get_elem? (drop k l) i
+nth_behind zero i l = ap (get_elem? l) (zero-add i)
+nth_behind (suc k) i [] = refl
+nth_behind (suc k) i (x ∷ l) = ap (get_elem? (x ∷ l)) (suc-add k i) ∙ nth_behind k i l
 
 pub columns : (ps : List Prototype) (f : ℕ) (p : Prototype) → get_elem? ps f ≡ some p
     → (get_elem? (index ps) (14 * f + 12) ≡ some p.places.instructions) × (get_elem? (index ps) (14 * f + 13) ≡ some p.places.constants)
 columns ps f p there = (
-  nth-behind (14 * f) 12 (index ps) ∙ ap (λ l. get_elem? l 12) (row ps f p there),
-  nth-behind (14 * f) 13 (index ps) ∙ ap (λ l. get_elem? l 13) (row ps f p there),
+  nth_behind (14 * f) 12 (index ps) ∙ ap (λ l. get_elem? l 12) (row ps f p there),
+  nth_behind (14 * f) 13 (index ps) ∙ ap (λ l. get_elem? l 13) (row ps f p there),
 )
 
 -- ## What stands at the places
@@ -77,9 +77,9 @@ module _ (L : ResourceLimits) (s : Bytes) (r : Reading) (is : read L s ≡ shown
       (rw (← same_place own.0 at_words) lists.instructions, rw (← same_place own.1 at-constants) lists.constants)
 
 -- limits are an array of nine numbers
-module _ (l : List ℕ) (s : Bytes) (r : Reading) (is : read (limitsOf l) s ≡ shown r) (f : ℕ) (p : Prototype) (there : get_elem? r.functions f ≡ some p) (words constants : ℕ)
+module _ (l : List ℕ) (s : Bytes) (r : Reading) (is : read (limits_of l) s ≡ shown r) (f : ℕ) (p : Prototype) (there : get_elem? r.functions f ≡ some p) (words constants : ℕ)
     (at_words : get_elem? (index r.functions) (14 * f + 12) ≡ some words) (at-constants : get_elem? (index r.functions) (14 * f + 13) ≡ some constants) where
-  pub shown-there : Entries (λ at. word_at l at s) (Numbered (λ w. w ∷ [])) words p.instructions × Entries (λ at. constantAt l at s) (Numbered constantInNumbers) constants p.constants
+  pub shown-there : Entries (λ at. word_at l at s) (Numbered (λ w. w ∷ [])) words p.instructions × Entries (λ at. constant_at l at s) (Numbered constant_in_numbers) constants p.constants
   shown-there =
       let own = columns r.functions f p there in
       let lists = shown-at l s r is f there in
@@ -88,27 +88,27 @@ module _ (l : List ℕ) (s : Bytes) (r : Reading) (is : read (limitsOf l) s ≡ 
 -- ## What is lent
 module _ (L : ResourceLimits) (s : Bytes) (r : Reading) (is : read L s ≡ shown r) (old : List ℕ) where
   module _ (room : 14 * length r.functions ≤ length old) where
-    pub written : (shownIndex (length old) (read L s) ≡ answer.Ok (length r.functions)) × (indexWritten old (read L s) ≡ index r.functions ++ drop (14 * length r.functions) old)
+    pub written : (shown_index (length old) (read L s) ≡ answer.Ok (length r.functions)) × (index_written old (read L s) ≡ index r.functions ++ drop (14 * length r.functions) old)
     written =
-        let size = index-size r.functions in
-        let both = (shows L s r is).index-rows old (omega arith) in
+        let size = index_size r.functions in
+        let both = (shows L s r is).index_rows old (omega arith) in
         (both.0, both.1 ∙ ap (λ n. index r.functions ++ drop n old) size)
 
-    nth-front : (xs ys : List ℕ) (k : ℕ) {x : ℕ} → get_elem? xs k ≡ some x → get_elem? (xs ++ ys) k ≡ some x
-    nth-front [] ys k e = absurd (let z : ◌≡◌ {A = ℕ} 0 1 = cc in omega arith)
-    nth-front (y ∷ xs) ys zero e = e
-    nth-front (y ∷ xs) ys (suc k) e = nth-front xs ys k e
+    nth_front : (xs ys : List ℕ) (k : ℕ) {x : ℕ} → get_elem? xs k ≡ some x → get_elem? (xs ++ ys) k ≡ some x
+    nth_front [] ys k e = absurd (let z : ◌≡◌ {A = ℕ} 0 1 = cc in omega arith)
+    nth_front (y ∷ xs) ys zero e = e
+    nth_front (y ∷ xs) ys (suc k) e = nth_front xs ys k e
 
-    pub columns-written : (f : ℕ) (p : Prototype) → get_elem? r.functions f ≡ some p
-        → (get_elem? (indexWritten old (read L s)) (14 * f + 12) ≡ some p.places.instructions) × (get_elem? (indexWritten old (read L s)) (14 * f + 13) ≡ some p.places.constants)
-    columns-written f p there =
+    pub columns_written : (f : ℕ) (p : Prototype) → get_elem? r.functions f ≡ some p
+        → (get_elem? (index_written old (read L s)) (14 * f + 12) ≡ some p.places.instructions) × (get_elem? (index_written old (read L s)) (14 * f + 13) ≡ some p.places.constants)
+    columns_written f p there =
         let own = columns r.functions f p there in (
-          ap (λ l. get_elem? l (14 * f + 12)) written.1 ∙ nth-front (index r.functions) _ (14 * f + 12) own.0,
-          ap (λ l. get_elem? l (14 * f + 13)) written.1 ∙ nth-front (index r.functions) _ (14 * f + 13) own.1,
+          ap (λ l. get_elem? l (14 * f + 12)) written.1 ∙ nth_front (index r.functions) _ (14 * f + 12) own.0,
+          ap (λ l. get_elem? l (14 * f + 13)) written.1 ∙ nth_front (index r.functions) _ (14 * f + 13) own.1,
         )
 
-  pub too_short : length old < 14 * length r.functions → (shownIndex (length old) (read L s) ≡ answer.Err LentSpace) × (indexWritten old (read L s) ≡ old)
-  too_short short = let size = index-size r.functions in (shows L s r is).index-too-long old (omega arith)
+  pub too_short : length old < 14 * length r.functions → (shown_index (length old) (read L s) ≡ answer.Err LentSpace) × (index_written old (read L s) ≡ old)
+  too_short short = let size = index_size r.functions in (shows L s r is).index_too_long old (omega arith)
 
-pub judged-last : (L : ResourceLimits) (s : Bytes) (q : Refusal) → read L s ≡ refusal q → (old : List ℕ) → (shownIndex (length old) (read L s) ≡ answer.Err q) × (indexWritten old (read L s) ≡ old)
-judged-last L s q is old = (refuses L s q is).index-rows old
+pub judged_last : (L : ResourceLimits) (s : Bytes) (q : Refusal) → read L s ≡ refusal q → (old : List ℕ) → (shown_index (length old) (read L s) ≡ answer.Err q) × (index_written old (read L s) ≡ old)
+judged_last L s q is old = (refuses L s q is).index_rows old

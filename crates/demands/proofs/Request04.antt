@@ -1,9 +1,9 @@
 -- REQUEST 4 (02, item 4): the length of a number from a table. Each sentence of it once.
---     table-of-65          "A table of 65 lengths"
---     looked-up            "looked up by the count of leading zeros": there it has the length of the shortest spelling, for every number of 64 bits
---     none-idle            and each of the 65 is the length of some number: 0 to 64 leading zeros there are
+--     table_of_65          "A table of 65 lengths"
+--     looked_up            "looked up by the count of leading zeros": there it has the length of the shortest spelling, for every number of 64 bits
+--     none_idle            and each of the 65 is the length of some number: 0 to 64 leading zeros there are
 --                          (That the code's table is this list is the contract of `length_at`, crates/copy_put/src/shortest.rt: it is exported to nobody.)
---     varint-len           "What the length is promised to be stays the same": all that `varint_len` promises, of any number, is as it was.
+--     varint_len           "What the length is promised to be stays the same": all that `varint_len` promises, of any number, is as it was.
 --                          "and no caller changes": `put_varint` and all above it are as they were, code, promises and proofs
 -- Assumes nothing.
 use mathlib.Core.Path.{◌≡◌, refl, sym}
@@ -17,28 +17,28 @@ use lib.Dec.{lit<}
 use lib.ListN.{length, get_elem?}
 use Rattle.format.specs.Shortest.{shortest}
 use Rattle.copy_put.specs.Lengths.{lengths}
-use Rattle.copy_put.proofs.Table.{table-rule}
+use Rattle.copy_put.proofs.Table.{table_rule}
 use Rattle.copy_put.proofs.shortest.varint_len as varint-len-call
 use Rattle.demands.proofs.Promise.{Promise}
 
 -- ## The table
-pub table-of-65 : length lengths ≡ 65
+pub table_of_65 : length lengths ≡ 65
 unfolding lengths
-table-of-65 = refl
+table_of_65 = refl
 
-pub looked-up : (v : ℕ) → v < 2 ^ 64 → get_elem? lengths (count_leading_zeros 64 v) ≡ some (length (shortest v))
-looked-up = table-rule
+pub looked_up : (v : ℕ) → v < 2 ^ 64 → get_elem? lengths (count_leading_zeros 64 v) ≡ some (length (shortest v))
+looked_up = table_rule
 
 -- the largest number with so many leading zeros has a bit 1 everywhere behind them
-pub none-idle : (zeros : ℕ) → zeros ≤ 64 → (v : ℕ) × (v < 2 ^ 64) × (count_leading_zeros 64 v ≡ zeros)
-none-idle zeros h =
+pub none_idle : (zeros : ℕ) → zeros ≤ 64 → (v : ℕ) × (v < 2 ^ 64) × (count_leading_zeros 64 v ≡ zeros)
+none_idle zeros h =
     let bits = 64 - zeros in
     let one : 2 ^ 0 ≤ 2 ^ bits = pow-le-pow_right {n = 2} (lit< tt) {i = 0} {j = bits} (omega arith) in
     let most : 2 ^ bits ≤ 2 ^ 64 = pow-le-pow_right {n = 2} (lit< tt) {i = bits} {j = 64} (omega arith) in
     (2 ^ bits - 1, omega (arith, one, most), sym (leading_unique 64 (2 ^ bits - 1) zeros bits (omega arith) (omega (arith, one)) (omega (arith, one))))
 
 -- ## The code
-pub varint-len : Promise varint-len-call.ended varint-len-call.Symbol.routine (λ _ v r.
+pub varint_len : Promise varint-len-call.ended varint-len-call.Symbol.routine (λ _ v r.
     (r ≡ length (shortest v))
     ∷ [])
-varint-len _ = varint-len-call.Met.met
+varint_len _ = varint-len-call.Met.met

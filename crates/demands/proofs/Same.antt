@@ -2,8 +2,8 @@
 --     SameOption, SameConstant, SameLocal      the same but for a string's place
 --     SameFunction                             the same fields and entries, but for places (start and end are places too) and the source
 --     SameButFor                               of readings: the same header but for the format byte, main's source, every function, the trailing bytes
---     header-fixed                             of what belongs, the header is fixed but for the format byte: so `kept` may set it to that of format 0 and lose no more
---     same-exactly                             of what belongs, readings are equal in what is kept exactly when they are the same but for these
+--     header_fixed                             of what belongs, the header is fixed but for the format byte: so `kept` may set it to that of format 0 and lose no more
+--     same_exactly                             of what belongs, readings are equal in what is kept exactly when they are the same but for these
 -- Refused: a `kept` that drops a field, as the vararg byte, or main's source (left to right); one that keeps a place, a warning or a nested source (right to left).
 -- Assumes nothing.
 use mathlib.Core.Path.{◌≡◌, refl, ap}
@@ -17,11 +17,11 @@ use Rattle.format.specs.declared.limits.ResourceLimits.{ResourceLimits}
 use Rattle.format.specs.declared.header.Header as declared
 use Rattle.format.specs.Form.{Bytes}
 use Rattle.format.specs.GrammarFields.{LuaString}
-use Rattle.format.specs.GrammarHeader.{headerOf, Header}
+use Rattle.format.specs.GrammarHeader.{header_of, Header}
 use Rattle.format.specs.Reading.{ConstantValue, nil, boolean, integer, float, short-string, long-string, LocalVar, Prototype, Reading}
 use Rattle.format.specs.GrammarChunk.{Main, Chunk}
-use Rattle.format.specs.Copy.{keptConstant, keptLocal, keptFunction, keptNested, keptFunctions, kept, keptString}
-use Rattle.format.proofs.Every.{Every, any, every-then, every-is}
+use Rattle.format.specs.Copy.{kept_constant, kept_local, kept_function, kept_nested, kept_functions, kept, kept_string}
+use Rattle.format.proofs.Every.{Every, any, every_then, every_is}
 
 -- ## Entries
 abbrev pub Pairwise : {A : Type 0} → (A → A → Type 0) → List A → List A → Type 0
@@ -58,18 +58,18 @@ pub record SameFunction (p q : Prototype) : Type 0 where
   pub depth : p.depth ≡ q.depth
   pub parent : p.parent ≡ q.parent
   pub line_defined : p.line_defined ≡ q.line_defined
-  pub last-line-defined : p.last-line-defined ≡ q.last-line-defined
+  pub last-line_defined : p.last-line_defined ≡ q.last-line_defined
   pub numparams : p.numparams ≡ q.numparams
-  pub is-vararg : p.is-vararg ≡ q.is-vararg
+  pub is_vararg : p.is_vararg ≡ q.is_vararg
   pub maxstacksize : p.maxstacksize ≡ q.maxstacksize
   pub instructions : p.instructions ≡ q.instructions
   pub constants : Pairwise SameConstant p.constants q.constants
   pub upvalues : p.upvalues ≡ q.upvalues
   pub protos : p.protos ≡ q.protos
-  pub line-info : p.line-info ≡ q.line-info
-  pub abs-line-info : p.abs-line-info ≡ q.abs-line-info
-  pub loc-vars : Pairwise SameLocal p.loc-vars q.loc-vars
-  pub upvalue-names : Pairwise SameOption p.upvalue-names q.upvalue-names
+  pub line_info_lem : p.line_info_lem ≡ q.line_info_lem
+  pub abs_line_info : p.abs_line_info ≡ q.abs_line_info
+  pub loc_vars : Pairwise SameLocal p.loc_vars q.loc_vars
+  pub upvalue_names_lem : Pairwise SameOption p.upvalue_names_lem q.upvalue_names_lem
 
 -- main with its source, and the others
 abbrev pub SameFunctions : List Prototype → List Prototype → Type 0
@@ -82,12 +82,12 @@ SameFunctions (p ∷ ps) (q ∷ qs) = SameOption p.source_name q.source_name × 
 -- all but the format byte
 pub record SameHeader (h k : declared.Header) : Type 0 where
   pub version : h.version ≡ k.version
-  pub instruction-size : h.instruction_size ≡ k.instruction_size
-  pub lua-integer-size : h.lua_integer_size ≡ k.lua_integer_size
-  pub sizeof-sizet : h.sizeof_sizet ≡ k.sizeof_sizet
-  pub lua-number-size : h.lua_number_size ≡ k.lua_number_size
-  pub luac-int : h.luac_int ≡ k.luac_int
-  pub luac-num : h.luac_num ≡ k.luac_num
+  pub instruction_size : h.instruction_size ≡ k.instruction_size
+  pub lua_integer_size : h.lua_integer_size ≡ k.lua_integer_size
+  pub sizeof_sizet : h.sizeof_sizet ≡ k.sizeof_sizet
+  pub lua_number_size : h.lua_number_size ≡ k.lua_number_size
+  pub luac_int_lem : h.luac_int ≡ k.luac_int
+  pub luac_num_lem : h.luac_num ≡ k.luac_num
 
 pub record SameButFor (r q : Reading) : Type 0 where
   pub header : SameHeader r.header q.header
@@ -96,60 +96,60 @@ pub record SameButFor (r q : Reading) : Type 0 where
 
 -- ## The header
 abbrev Fixed : declared.Header → Type 0
-Fixed h = h ≡ headerOf h.format
+Fixed h = h ≡ header_of h.format
 
-every-header : Every Header (λ h. Fixed h.header)
-every-header = every-then any λ _ _. every-then any λ place _. every-then any λ format _. every-then any λ _ _. every-is refl
+every_header : Every Header (λ h. Fixed h.header)
+every_header = every_then any λ _ _. every_then any λ place _. every_then any λ format _. every_then any λ _ _. every_is refl
 
-every-main : (L : ResourceLimits) → Every (Main L) (λ m. Fixed m.headed.header)
-every-main L = every-then every-header λ headed fixed. every-then any λ _ _. every-then any λ functions _. every-is fixed
+every_main : (L : ResourceLimits) → Every (Main L) (λ m. Fixed m.headed.header)
+every_main L = every_then every_header λ headed fixed. every_then any λ _ _. every_then any λ functions _. every_is fixed
 
-pub header-fixed : (L : ResourceLimits) (s : Bytes) (r : Reading) → Chunk L s r → r.header ≡ headerOf r.header.format
-header-fixed L s r c = rw (← ap (λ x. x.header) c.shows) ((every-main L).holds 0 c.front c.value c.main)
+pub header_fixed : (L : ResourceLimits) (s : Bytes) (r : Reading) → Chunk L s r → r.header ≡ header_of r.header.format
+header_fixed L s r c = rw (← ap (λ x. x.header) c.shows) ((every_main L).holds 0 c.front c.value c.main)
 
 pub same-header : (h k : declared.Header) → Fixed h → Fixed k → SameHeader h k
-same-header h k p q = rw (p, q) (record { version = refl; instruction-size = refl; lua-integer-size = refl; sizeof-sizet = refl; lua-number-size = refl; luac-int = refl; luac-num = refl })
+same-header h k p q = rw (p, q) (record { version = refl; instruction_size = refl; lua_integer_size = refl; sizeof_sizet = refl; lua_number_size = refl; luac_int_lem = refl; luac_num_lem = refl })
 
 -- ## What is kept, and back
 module _ {A : Type 0} (R : A → A → Type 0) (plainly : A → A) where
-  pub to-pairs : ((x y : A) → plainly x ≡ plainly y → R x y) → (xs ys : List A) → map plainly xs ≡ map plainly ys → Pairwise R xs ys
-  to-pairs one [] [] e = tt
-  to-pairs one [] (y ∷ ys) e = let z : ◌≡◌ {A = ℕ} 0 1 = cc in absurd (omega arith)
-  to-pairs one (x ∷ xs) [] e = let z : ◌≡◌ {A = ℕ} 0 1 = cc in absurd (omega arith)
-  to-pairs one (x ∷ xs) (y ∷ ys) e = (one x y (cc), to-pairs one xs ys (cc))
+  pub to_pairs : ((x y : A) → plainly x ≡ plainly y → R x y) → (xs ys : List A) → map plainly xs ≡ map plainly ys → Pairwise R xs ys
+  to_pairs one [] [] e = tt
+  to_pairs one [] (y ∷ ys) e = let z : ◌≡◌ {A = ℕ} 0 1 = cc in absurd (omega arith)
+  to_pairs one (x ∷ xs) [] e = let z : ◌≡◌ {A = ℕ} 0 1 = cc in absurd (omega arith)
+  to_pairs one (x ∷ xs) (y ∷ ys) e = (one x y (cc), to_pairs one xs ys (cc))
 
-  pub from-pairs : ((x y : A) → R x y → plainly x ≡ plainly y) → (xs ys : List A) → Pairwise R xs ys → map plainly xs ≡ map plainly ys
-  from-pairs one [] [] e = refl
-  from-pairs one [] (y ∷ ys) e = absurd e
-  from-pairs one (x ∷ xs) [] e = absurd e
-  from-pairs one (x ∷ xs) (y ∷ ys) e = let head = one x y e.0 in let tail = from-pairs one xs ys e.1 in cc
+  pub from_pairs : ((x y : A) → R x y → plainly x ≡ plainly y) → (xs ys : List A) → Pairwise R xs ys → map plainly xs ≡ map plainly ys
+  from_pairs one [] [] e = refl
+  from_pairs one [] (y ∷ ys) e = absurd e
+  from_pairs one (x ∷ xs) [] e = absurd e
+  from_pairs one (x ∷ xs) (y ∷ ys) e = let head = one x y e.0 in let tail = from_pairs one xs ys e.1 in cc
 
 -- an option
-option-self : (u : Option LuaString) → SameOption (Option.map keptString u) u
-option-self none = refl
-option-self (some t) = record { string = t; is = refl; bytes = refl }
+option_self : (u : Option LuaString) → SameOption (Option.map kept_string u) u
+option_self none = refl
+option_self (some t) = record { string = t; is = refl; bytes = refl }
 
-option-of : (t u : Option LuaString) → SameOption (Option.map keptString t) u → SameOption t u
-option-of none u h = h
-option-of (some t) u h = record { string = h.string; is = h.is; bytes = h.bytes }
+option_of_lem : (t u : Option LuaString) → SameOption (Option.map kept_string t) u → SameOption t u
+option_of_lem none u h = h
+option_of_lem (some t) u h = record { string = h.string; is = h.is; bytes = h.bytes }
 
-pub to-option : (t u : Option LuaString) → Option.map keptString t ≡ Option.map keptString u → SameOption t u
-to-option t u e = option-of t u (rw e (option-self u))
+pub to_option : (t u : Option LuaString) → Option.map kept_string t ≡ Option.map kept_string u → SameOption t u
+to_option t u e = option_of_lem t u (rw e (option_self u))
 
-pub from-option : (t u : Option LuaString) → SameOption t u → Option.map keptString t ≡ Option.map keptString u
-from-option none u h = rw h
-from-option (some t) u h = rw (h.is, h.bytes)
+pub from_option : (t u : Option LuaString) → SameOption t u → Option.map kept_string t ≡ Option.map kept_string u
+from_option none u h = rw h
+from_option (some t) u h = rw (h.is, h.bytes)
 
 -- a constant
-constant-self : (d : ConstantValue) → SameConstant (keptConstant d) d
-constant-self nil = refl
-constant-self (boolean b) = refl
-constant-self (integer n) = refl
-constant-self (float n) = refl
-constant-self (short-string t) = record { string = t; is = refl; bytes = refl }
-constant-self (long-string t) = record { string = t; is = refl; bytes = refl }
+constant_self : (d : ConstantValue) → SameConstant (kept_constant d) d
+constant_self nil = refl
+constant_self (boolean b) = refl
+constant_self (integer n) = refl
+constant_self (float n) = refl
+constant_self (short-string t) = record { string = t; is = refl; bytes = refl }
+constant_self (long-string t) = record { string = t; is = refl; bytes = refl }
 
-constant_of : (c d : ConstantValue) → SameConstant (keptConstant c) d → SameConstant c d
+constant_of : (c d : ConstantValue) → SameConstant (kept_constant c) d → SameConstant c d
 constant_of nil d h = h
 constant_of (boolean b) d h = h
 constant_of (integer n) d h = h
@@ -157,10 +157,10 @@ constant_of (float n) d h = h
 constant_of (short-string t) d h = record { string = h.string; is = h.is; bytes = h.bytes }
 constant_of (long-string t) d h = record { string = h.string; is = h.is; bytes = h.bytes }
 
-to-constant : (c d : ConstantValue) → keptConstant c ≡ keptConstant d → SameConstant c d
-to-constant c d e = constant_of c d (rw e (constant-self d))
+to_constant : (c d : ConstantValue) → kept_constant c ≡ kept_constant d → SameConstant c d
+to_constant c d e = constant_of c d (rw e (constant_self d))
 
-from-constant : (c d : ConstantValue) → SameConstant c d → keptConstant c ≡ keptConstant d
+from-constant : (c d : ConstantValue) → SameConstant c d → kept_constant c ≡ kept_constant d
 from-constant nil d h = rw h
 from-constant (boolean b) d h = rw h
 from-constant (integer n) d h = rw h
@@ -169,37 +169,37 @@ from-constant (short-string t) d h = rw (h.is, h.bytes)
 from-constant (long-string t) d h = rw (h.is, h.bytes)
 
 -- a local variable
-to-local : (l m : LocalVar) → keptLocal l ≡ keptLocal m → SameLocal l m
-to-local l m e = record { name = ap (λ x. x.name.bytes) e; startpc = ap (λ x. x.startpc) e; endpc = ap (λ x. x.endpc) e }
+to_local : (l m : LocalVar) → kept_local l ≡ kept_local m → SameLocal l m
+to_local l m e = record { name = ap (λ x. x.name.bytes) e; startpc = ap (λ x. x.startpc) e; endpc = ap (λ x. x.endpc) e }
 
-from-local : (l m : LocalVar) → SameLocal l m → keptLocal l ≡ keptLocal m
+from-local : (l m : LocalVar) → SameLocal l m → kept_local l ≡ kept_local m
 from-local l m h = rw (h.name, h.startpc, h.endpc)
 
 -- a function
-pub to_function : (a b : Option LuaString) (p q : Prototype) → keptFunction a p ≡ keptFunction b q → SameFunction p q
+pub to_function : (a b : Option LuaString) (p q : Prototype) → kept_function a p ≡ kept_function b q → SameFunction p q
 to_function a b p q e = record {
   depth = ap (λ x. x.depth) e;
   parent = ap (λ x. x.parent) e;
   line_defined = ap (λ x. x.line_defined) e;
-  last-line-defined = ap (λ x. x.last-line-defined) e;
+  last-line_defined = ap (λ x. x.last-line_defined) e;
   numparams = ap (λ x. x.numparams) e;
-  is-vararg = ap (λ x. x.is-vararg) e;
+  is_vararg = ap (λ x. x.is_vararg) e;
   maxstacksize = ap (λ x. x.maxstacksize) e;
   instructions = ap (λ x. x.instructions) e;
-  constants = to-pairs SameConstant keptConstant to-constant p.constants q.constants (ap (λ x. x.constants) e);
+  constants = to_pairs SameConstant kept_constant to_constant p.constants q.constants (ap (λ x. x.constants) e);
   upvalues = ap (λ x. x.upvalues) e;
   protos = ap (λ x. x.protos) e;
-  line-info = ap (λ x. x.line-info) e;
-  abs-line-info = ap (λ x. x.abs-line-info) e;
-  loc-vars = to-pairs SameLocal keptLocal to-local p.loc-vars q.loc-vars (ap (λ x. x.loc-vars) e);
-  upvalue-names = to-pairs SameOption (Option.map keptString) to-option p.upvalue-names q.upvalue-names (ap (λ x. x.upvalue-names) e);
+  line_info_lem = ap (λ x. x.line_info_lem) e;
+  abs_line_info = ap (λ x. x.abs_line_info) e;
+  loc_vars = to_pairs SameLocal kept_local to_local p.loc_vars q.loc_vars (ap (λ x. x.loc_vars) e);
+  upvalue_names_lem = to_pairs SameOption (Option.map kept_string) to_option p.upvalue_names_lem q.upvalue_names_lem (ap (λ x. x.upvalue_names_lem) e);
 }
 
-pub from-function : (a b : Option LuaString) (p q : Prototype) → a ≡ b → SameFunction p q → keptFunction a p ≡ keptFunction b q
+pub from-function : (a b : Option LuaString) (p q : Prototype) → a ≡ b → SameFunction p q → kept_function a p ≡ kept_function b q
 from-function a b p q s h =
-    let constants = from-pairs SameConstant keptConstant from-constant p.constants q.constants h.constants in
-    let locals = from-pairs SameLocal keptLocal from-local p.loc-vars q.loc-vars h.loc-vars in
-    let names = from-pairs SameOption (Option.map keptString) from-option p.upvalue-names q.upvalue-names h.upvalue-names in
+    let constants = from_pairs SameConstant kept_constant from-constant p.constants q.constants h.constants in
+    let locals = from_pairs SameLocal kept_local from-local p.loc_vars q.loc_vars h.loc_vars in
+    let names = from_pairs SameOption (Option.map kept_string) from_option p.upvalue_names_lem q.upvalue_names_lem h.upvalue_names_lem in
     λ i. record {
       depth = h.depth i;
       parent = h.parent i;
@@ -207,46 +207,46 @@ from-function a b p q s h =
       end = 0;
       source_name = s i;
       line_defined = h.line_defined i;
-      last-line-defined = h.last-line-defined i;
+      last-line_defined = h.last-line_defined i;
       numparams = h.numparams i;
-      is-vararg = h.is-vararg i;
+      is_vararg = h.is_vararg i;
       maxstacksize = h.maxstacksize i;
       instructions = h.instructions i;
       constants = constants i;
       upvalues = h.upvalues i;
       protos = h.protos i;
-      line-info = h.line-info i;
-      abs-line-info = h.abs-line-info i;
-      loc-vars = locals i;
-      upvalue-names = names i;
-      places = (keptFunction a p).places;
+      line_info_lem = h.line_info_lem i;
+      abs_line_info = h.abs_line_info i;
+      loc_vars = locals i;
+      upvalue_names_lem = names i;
+      places = (kept_function a p).places;
     }
 
-to-functions : (ps qs : List Prototype) → keptFunctions ps ≡ keptFunctions qs → SameFunctions ps qs
-to-functions [] [] e = tt
-to-functions [] (q ∷ qs) e = let z : ◌≡◌ {A = ℕ} 0 1 = cc in absurd (omega arith)
-to-functions (p ∷ ps) [] e = let z : ◌≡◌ {A = ℕ} 0 1 = cc in absurd (omega arith)
-to-functions (p ∷ ps) (q ∷ qs) e =
-    let head : keptFunction (Option.map keptString p.source_name) p ≡ keptFunction (Option.map keptString q.source_name) q = cc in
-    let tail : map keptNested ps ≡ map keptNested qs = cc in
-    (to-option p.source_name q.source_name (ap (λ x. x.source_name) head), (to_function _ _ p q head, to-pairs SameFunction keptNested (λ x y. to_function none none x y) ps qs tail))
+to_functions : (ps qs : List Prototype) → kept_functions ps ≡ kept_functions qs → SameFunctions ps qs
+to_functions [] [] e = tt
+to_functions [] (q ∷ qs) e = let z : ◌≡◌ {A = ℕ} 0 1 = cc in absurd (omega arith)
+to_functions (p ∷ ps) [] e = let z : ◌≡◌ {A = ℕ} 0 1 = cc in absurd (omega arith)
+to_functions (p ∷ ps) (q ∷ qs) e =
+    let head : kept_function (Option.map kept_string p.source_name) p ≡ kept_function (Option.map kept_string q.source_name) q = cc in
+    let tail : map kept_nested ps ≡ map kept_nested qs = cc in
+    (to_option p.source_name q.source_name (ap (λ x. x.source_name) head), (to_function _ _ p q head, to_pairs SameFunction kept_nested (λ x y. to_function none none x y) ps qs tail))
 
-from-functions : (ps qs : List Prototype) → SameFunctions ps qs → keptFunctions ps ≡ keptFunctions qs
+from-functions : (ps qs : List Prototype) → SameFunctions ps qs → kept_functions ps ≡ kept_functions qs
 from-functions [] [] h = refl
 from-functions [] (q ∷ qs) h = absurd h
 from-functions (p ∷ ps) [] h = absurd h
 from-functions (p ∷ ps) (q ∷ qs) h =
-    let head = from-function _ _ p q (from-option p.source_name q.source_name h.0) h.1.0 in
-    let tail = from-pairs SameFunction keptNested (λ x y. from-function none none x y refl) ps qs h.1.1 in
+    let head = from-function _ _ p q (from_option p.source_name q.source_name h.0) h.1.0 in
+    let tail = from_pairs SameFunction kept_nested (λ x y. from-function none none x y refl) ps qs h.1.1 in
     cc
 
 -- ## Of what belongs, readings are equal in what is kept exactly when they are the same but for what demand 3 sets aside
-pub same-exactly : (L M : ResourceLimits) (s t : Bytes) (r q : Reading) → Chunk L s r → Chunk M t q → kept r ≡ kept q ↔ SameButFor r q
+pub same_exactly : (L M : ResourceLimits) (s t : Bytes) (r q : Reading) → Chunk L s r → Chunk M t q → kept r ≡ kept q ↔ SameButFor r q
 unfolding kept
-same-exactly L M s t r q c d = (
+same_exactly L M s t r q c d = (
   λ e. record {
-    header = same-header r.header q.header (header-fixed L s r c) (header-fixed M t q d);
-    functions = to-functions r.functions q.functions (ap (λ x. x.functions) e);
+    header = same-header r.header q.header (header_fixed L s r c) (header_fixed M t q d);
+    functions = to_functions r.functions q.functions (ap (λ x. x.functions) e);
     trailing = ap (λ x. x.trailing) e;
   },
   λ h. let functions = from-functions r.functions q.functions h.functions in rw (functions, h.trailing),

@@ -15,13 +15,13 @@ use Rattle.format.specs.Form.{Bytes}
 use Rattle.format.specs.GrammarFields.{LuaString}
 use Rattle.format.specs.Read.{at_most}
 use Rattle.format.specs.ReadFields.{number, content, string}
-use Rattle.format.proofs.Exact.{exact-give, exact-then, exact-atMost, exact-run}
-use Rattle.format.proofs.ExactFields.{exact-field, exact-number, exact-string}
-use Rattle.format.proofs.Located.{AtPlace, any, at_give, at_here, at-then}
+use Rattle.format.proofs.Exact.{exact_give, exact_then, exact_at_most, exact_run}
+use Rattle.format.proofs.ExactFields.{exact_field, exact_number, exact_string}
+use Rattle.format.proofs.Located.{AtPlace, any, at_give, at_here, at_then}
 use Rattle.read_prototype.specs.Parts.{head}
-use Rattle.read_prototype.proofs.FrontAnswers.{exact-front}
-use Rattle.read_prototype.proofs.HeadAnswers.{exact-lists}
-use Rattle.read_list.proofs.Within.{exact-protosCount}
+use Rattle.read_prototype.proofs.FrontAnswers.{exact_front}
+use Rattle.read_prototype.proofs.HeadAnswers.{exact_lists}
+use Rattle.read_list.proofs.Within.{exact_protos_count}
 
 abbrev pub Behind : ℕ → Option LuaString → Type 0
 Behind at none = Unit {0}
@@ -29,32 +29,32 @@ Behind at (some t) = at < t.place
 
 number-on : {s : Bytes} {at : ℕ} → AtPlace s at number (λ to n. at < to)
 number-on {s} {at} = record {
-  holds = λ {x} {to} {rest} e. (let a = exact-number.sound {at = at} {s = drop at s} {x = x} {to = to} {rest = rest} e in omega (arith, a.place, ap length a.spelt.whole, length-append a.spelt.more (a.spelt.last ∷ [])));
+  holds = λ {x} {to} {rest} e. (let a = exact_number.sound {at = at} {s = drop at s} {x = x} {to = to} {rest = rest} e in omega (arith, a.place, ap length a.spelt.whole, length-append a.spelt.more (a.spelt.last ∷ [])));
 }
 
-pub limit-stays : {s : Bytes} {at : ℕ} (n limit : ℕ) (p : Refusal) → AtPlace s at (at_most n limit p) (λ to _. at ≡ to)
-limit-stays {s} {at} n limit p = record {
-  holds = λ {x} {to} {rest} e. (let a = (exact-atMost n limit p).sound {at = at} {s = drop at s} {x = x} {to = to} {rest = rest} e in let empty : length a.bytes ≡ 0 = ap length a.spelt.0 in omega (arith, a.place, empty));
+pub limit_stays : {s : Bytes} {at : ℕ} (n limit : ℕ) (p : Refusal) → AtPlace s at (at_most n limit p) (λ to _. at ≡ to)
+limit_stays {s} {at} n limit p = record {
+  holds = λ {x} {to} {rest} e. (let a = (exact_at_most n limit p).sound {at = at} {s = drop at s} {x = x} {to = to} {rest = rest} e in let empty : length a.bytes ≡ 0 = ap length a.spelt.0 in omega (arith, a.place, empty));
 }
 
 content-behind : {s : Bytes} {at from : ℕ} (limit first size : ℕ) → from < at → AtPlace s at (content limit first size) (λ to t. Behind from t)
 content-behind limit first zero h = at_give tt
 content-behind limit first (suc n) h =
-    at-then (exact-atMost n limit (StringBytes first)) (limit-stays n limit (StringBytes first)) λ _ mid same.
+    at_then (exact_at_most n limit (StringBytes first)) (limit_stays n limit (StringBytes first)) λ _ mid same.
     at_here λ place.
-    at-then (exact-run n) any λ bytes _ _.
+    at_then (exact_run n) any λ bytes _ _.
     at_give λ p. omega (arith, h, same, p)
 
 pub string-behind : {s : Bytes} {at : ℕ} (limit : ℕ) → AtPlace s at (string limit) (λ to t. Behind at t)
-string-behind {s} {at} limit = record { holds = λ e. (at-then {s = s} {at = at} exact-number number-on λ size to h. content-behind limit at size h).holds e }
+string-behind {s} {at} limit = record { holds = λ e. (at_then {s = s} {at = at} exact_number number-on λ size to h. content-behind limit at size h).holds e }
 
 pub head-behind : {s : Bytes} {at : ℕ} (L : ResourceLimits) (before : ℕ) → AtPlace s at (head L before) (λ to h. Behind at h.front.source)
 head-behind {s} {at} L before =
-    at-then {Q = λ to x. Behind at x.source} (exact-front L.max_string_bytes)
-    (at-then (exact-string L.max_string_bytes) (string-behind L.max_string_bytes) λ source _ h.
-    at-then (exact-then exact-number λ line. exact-then exact-number λ last. exact-give _) any λ _ _ _.
-    at-then (exact-then (exact-field 1) λ a. exact-then (exact-field 1) λ b. exact-then (exact-field 1) λ c. exact-give _) any λ _ _ _.
+    at_then {Q = λ to x. Behind at x.source} (exact_front L.max_string_bytes)
+    (at_then (exact_string L.max_string_bytes) (string-behind L.max_string_bytes) λ source _ h.
+    at_then (exact_then exact_number λ line. exact_then exact_number λ last. exact_give _) any λ _ _ _.
+    at_then (exact_then (exact_field 1) λ a. exact_then (exact_field 1) λ b. exact_then (exact_field 1) λ c. exact_give _) any λ _ _ _.
     at_give h) λ x _ h.
-    at-then (exact-lists L before) any λ _ _ _.
-    at-then (exact-protosCount L.max_total_prototypes) any λ _ _ _.
+    at_then (exact_lists L before) any λ _ _ _.
+    at_then (exact_protos_count L.max_total_prototypes) any λ _ _ _.
     at_give h

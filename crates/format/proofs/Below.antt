@@ -11,9 +11,9 @@ below_split n (x ∷ xs) ys h =
     let s = below_split n xs ys h.1 in
     ((h.0, s.0), s.1)
 
-pub below-join : (n : ℕ) (xs ys : List ℕ) → Below n xs → Below n ys → Below n (xs ++ ys)
-below-join n [] ys h k = k
-below-join n (x ∷ xs) ys h k = (h.0, below-join n xs ys h.1 k)
+pub below_join : (n : ℕ) (xs ys : List ℕ) → Below n xs → Below n ys → Below n (xs ++ ys)
+below_join n [] ys h k = k
+below_join n (x ∷ xs) ys h k = (h.0, below_join n xs ys h.1 k)
 
 pub below_more : (n m : ℕ) (xs : List ℕ) → n ≤ m → Below n xs → Below m xs
 below_more n m [] le h = tt

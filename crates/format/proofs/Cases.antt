@@ -26,6 +26,6 @@ numbers =
     ∷ record { input = 0x01 ∷ replicate 8 0x7f; result = refused (Truncated 9) }
     ∷ []
 
-numbers-hold : map (λ (c : Case). number 0 c.input) numbers ≡ map (λ (c : Case). c.result) numbers
+numbers_hold : map (λ (c : Case). number 0 c.input) numbers ≡ map (λ (c : Case). c.result) numbers
 unfolding numbers
-numbers-hold = refl
+numbers_hold = refl

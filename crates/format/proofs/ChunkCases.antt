@@ -34,11 +34,11 @@ use Rattle.format.specs.declared.header.Warning.{Warning}
 use Rattle.format.specs.declared.header.Warning.TheVariants.{NonStandardFormat, TrailingBytes}
 use Rattle.format.specs.Form.{Bytes}
 use Rattle.format.specs.GrammarFields.{LuaString}
-use Rattle.format.specs.GrammarHeader.{headerOf}
+use Rattle.format.specs.GrammarHeader.{header_of}
 use Rattle.format.specs.Limits.{DEEPEST, ceilings}
 use Rattle.format.specs.Reading.{ConstantValue, integer, short-string, Places, Prototype, Reading}
 use Rattle.format.specs.ReadChunk.{body, function, Outcome, shown, refusal, read}
-use Rattle.format.specs.Copy.{listBytes, behindSource, copy}
+use Rattle.format.specs.Copy.{list_bytes, behind_source, copy}
 use Rattle.format.specs.Shortest.{shortest}
 
 -- 31 bytes, with this format byte
@@ -54,12 +54,12 @@ small = header 0 ++ 0 ∷ 0x80 ∷ 0x80 ∷ 0x80 ∷ 0 ∷ 0 ∷ 2 ∷ replicate
 
 -- eight empty lists of which the first begins behind the count at `at`
 empty : ℕ → ℕ → ℕ → ℕ → ℕ → ℕ → ℕ → ℕ → Places
-empty a b c d e f g h = record { instructions = a; constants = b; upvalues = c; protos = d; line-info = e; abs-line-info = f; loc-vars = g; upvalue-names = h }
+empty a b c d e f g h = record { instructions = a; constants = b; upvalues = c; protos = d; line_info_lem = e; abs_line_info = f; loc_vars = g; upvalue_names_lem = h }
 
 small-reading : Reading
 unfolding empty
 small-reading = record {
-  header = headerOf 0;
+  header = header_of 0;
   warnings = [];
   functions = record {
     depth = 0;
@@ -68,25 +68,25 @@ small-reading = record {
     end = 46;
     source_name = none;
     line_defined = 0;
-    last-line-defined = 0;
+    last-line_defined = 0;
     numparams = 0;
-    is-vararg = 0;
+    is_vararg = 0;
     maxstacksize = 2;
     instructions = [];
     constants = [];
     upvalues = [];
     protos = 0;
-    line-info = [];
-    abs-line-info = [];
-    loc-vars = [];
-    upvalue-names = [];
+    line_info_lem = [];
+    abs_line_info = [];
+    loc_vars = [];
+    upvalue_names_lem = [];
     places = empty 39 40 41 42 43 44 45 46;
   } ∷ [];
   trailing_at = 46;
   trailing = [];
 }
 
--- ## A line-info size of 2^64 - 129, behind so many leading zeros that its deltas would begin at 52 and as many
+-- ## A line_info_lem size of 2^64 - 129, behind so many leading zeros that its deltas would begin at 52 and as many
 deltas : ℕ → Bytes
 unfolding header
 deltas zeros = header 0 ++ 0 ∷ 0x80 ∷ 0x80 ∷ 0x80 ∷ 0 ∷ 0 ∷ 2 ∷ 0x80 ∷ 0x80 ∷ 0x80 ∷ 0x80 ∷ replicate zeros 0 ++ 0x01 ∷ replicate 7 0x7f ++ 0x7e ∷ 0xff ∷ []
@@ -113,9 +113,9 @@ nested =
 ab : Option LuaString
 ab = some (record { place = 33; bytes = 0x61 ∷ 0x62 ∷ [] })
 
-nested-functions : List Prototype
+nested_functions : List Prototype
 unfolding ab empty
-nested-functions =
+nested_functions =
     record {
       depth = 0;
       parent = 0;
@@ -123,18 +123,18 @@ nested-functions =
       end = 120;
       source_name = ab;
       line_defined = 1;
-      last-line-defined = 9;
+      last-line_defined = 9;
       numparams = 0;
-      is-vararg = 1;
+      is_vararg = 1;
       maxstacksize = 2;
       instructions = 0x7fffff38 ∷ [];
       constants = short-string (record { place = 48; bytes = 0x78 ∷ [] }) ∷ integer 0xffffffffffffffff ∷ [];
       upvalues = record { instack = 1; idx = 0; kind = 0 } ∷ [];
       protos = 2;
-      line-info = [];
-      abs-line-info = [];
-      loc-vars = [];
-      upvalue-names = [];
+      line_info_lem = [];
+      abs_line_info = [];
+      loc_vars = [];
+      upvalue_names_lem = [];
       places = empty 41 46 59 63 117 118 119 120;
     }
     ∷ record {
@@ -144,18 +144,18 @@ nested-functions =
       end = 102;
       source_name = ab;
       line_defined = 2;
-      last-line-defined = 3;
+      last-line_defined = 3;
       numparams = 0;
-      is-vararg = 0;
+      is_vararg = 0;
       maxstacksize = 2;
       instructions = [];
       constants = [];
       upvalues = [];
       protos = 1;
-      line-info = 0x01 ∷ 0xff ∷ [];
-      abs-line-info = record { pc = 0; line = 5 } ∷ [];
-      loc-vars = record { name = record { place = 96; bytes = 0x3f ∷ [] }; startpc = 0; endpc = 1 } ∷ [];
-      upvalue-names = none ∷ some (record { place = 101; bytes = 0x75 ∷ [] }) ∷ [];
+      line_info_lem = 0x01 ∷ 0xff ∷ [];
+      abs_line_info = record { pc = 0; line = 5 } ∷ [];
+      loc_vars = record { name = record { place = 96; bytes = 0x3f ∷ [] }; startpc = 0; endpc = 1 } ∷ [];
+      upvalue_names_lem = none ∷ some (record { place = 101; bytes = 0x75 ∷ [] }) ∷ [];
       places = empty 70 71 72 73 89 92 95 99;
     }
     ∷ record {
@@ -165,18 +165,18 @@ nested-functions =
       end = 88;
       source_name = some (record { place = 74; bytes = 0x67 ∷ [] });
       line_defined = 0;
-      last-line-defined = 0;
+      last-line_defined = 0;
       numparams = 0;
-      is-vararg = 0;
+      is_vararg = 0;
       maxstacksize = 2;
       instructions = [];
       constants = [];
       upvalues = [];
       protos = 0;
-      line-info = [];
-      abs-line-info = [];
-      loc-vars = [];
-      upvalue-names = [];
+      line_info_lem = [];
+      abs_line_info = [];
+      loc_vars = [];
+      upvalue_names_lem = [];
       places = empty 81 82 83 84 85 86 87 88;
     }
     ∷ record {
@@ -186,36 +186,36 @@ nested-functions =
       end = 116;
       source_name = some (record { place = 103; bytes = [] });
       line_defined = 0;
-      last-line-defined = 0;
+      last-line_defined = 0;
       numparams = 0;
-      is-vararg = 0;
+      is_vararg = 0;
       maxstacksize = 2;
       instructions = [];
       constants = [];
       upvalues = [];
       protos = 0;
-      line-info = [];
-      abs-line-info = [];
-      loc-vars = [];
-      upvalue-names = [];
+      line_info_lem = [];
+      abs_line_info = [];
+      loc_vars = [];
+      upvalue_names_lem = [];
       places = empty 109 110 111 112 113 114 115 116;
     }
     ∷ []
 
 -- with these warnings
 warned-reading : List Warning → Reading
-unfolding nested-functions ab empty
+unfolding nested_functions ab empty
 warned-reading warnings = record {
-  header = headerOf 1;
+  header = header_of 1;
   warnings = warnings;
-  functions = nested-functions;
+  functions = nested_functions;
   trailing_at = 120;
   trailing = 9 ∷ [];
 }
 
-nested-reading : Reading
-unfolding warned-reading nested-functions ab empty
-nested-reading = warned-reading (NonStandardFormat 5 ∷ TrailingBytes 120 ∷ [])
+nested_reading : Reading
+unfolding warned-reading nested_functions ab empty
+nested_reading = warned-reading (NonStandardFormat 5 ∷ TrailingBytes 120 ∷ [])
 
 -- ## Main and two functions side by side in it, each with one word
 sibling : Bytes
@@ -265,7 +265,7 @@ limited nesting functions instructions input = record {
 }
 
 cases : List Case
-unfolding header small small-reading empty deltas grandchild child second nested ab nested-functions warned-reading nested-reading sibling siblings tagged entries limited
+unfolding header small small-reading empty deltas grandchild child second nested ab nested_functions warned-reading nested_reading sibling siblings tagged entries limited
 cases =
     record { limits = ceilings; input = small; result = shown small-reading }
     ∷ record { limits = ceilings; input = take 45 small; result = refusal (Truncated 45) }
@@ -273,8 +273,8 @@ cases =
     ∷ record { limits = ceilings; input = 0x1b ∷ 0x4c ∷ []; result = refusal (Truncated 0) }
     ∷ record { limits = ceilings; input = deltas 76; result = refusal (Truncated 128) }
     ∷ record { limits = ceilings; input = deltas 77; result = refusal Overflow }
-    ∷ record { limits = ceilings; input = nested; result = shown nested-reading }
-    ∷ record { limits = limited 2 3 1 121; input = nested; result = shown nested-reading }
+    ∷ record { limits = ceilings; input = nested; result = shown nested_reading }
+    ∷ record { limits = limited 2 3 1 121; input = nested; result = shown nested_reading }
     ∷ record { limits = limited 1 3 1 121; input = nested; result = refusal (NestingDepth 73) }
     ∷ record { limits = limited 2 2 1 121; input = nested; result = refusal (TotalPrototypes 102) }
     ∷ record { limits = limited 2 1 1 121; input = nested; result = refusal (Prototypes 62) }
@@ -285,7 +285,7 @@ cases =
     ∷ record { limits = entries 1 1 1 2 2; input = nested; result = refusal (Constants 45) }
     ∷ record { limits = entries 1 2 0 2 2; input = nested; result = refusal (Upvalues 58) }
     ∷ record { limits = entries 1 2 1 1 2; input = nested; result = refusal (StringBytes 32) }
-    ∷ record { limits = entries 1 2 1 2 2; input = nested; result = shown nested-reading }
+    ∷ record { limits = entries 1 2 1 2 2; input = nested; result = shown nested_reading }
     ∷ record { limits = entries 1 2 1 2 1; input = nested; result = shown (warned-reading (NonStandardFormat 5 ∷ [])) }
     ∷ record { limits = entries 1 2 1 2 0; input = nested; result = shown (warned-reading []) }
     ∷ record { limits = limited DEEPEST 2 2 200; input = siblings; result = refusal (TotalInstructions 70) }
@@ -303,9 +303,9 @@ cases =
     ∷ record { limits = ceilings; input = set small 30 0xc0; result = refusal (LuacNum 23) }
     ∷ []
 
-cases-hold : map (λ (c : Case). read c.limits c.input) cases ≡ map (λ (c : Case). c.result) cases
-unfolding cases read body function header small small-reading empty deltas grandchild child second nested ab nested-functions warned-reading nested-reading sibling siblings tagged entries limited
-cases-hold = refl
+cases_hold : map (λ (c : Case). read c.limits c.input) cases ≡ map (λ (c : Case). c.result) cases
+unfolding cases read body function header small small-reading empty deltas grandchild child second nested ab nested_functions warned-reading nested_reading sibling siblings tagged entries limited
+cases_hold = refl
 
 -- the copies: format 0, byte 31 is main's one upvalue, nested sources absent, the absent local name written as `?`
 copied : List Bytes
@@ -322,14 +322,14 @@ copied =
     ∷ []
 
 -- three functions, where the total of instructions is not above the limit
-functionCount : Outcome → ℕ
-functionCount (shown r) = length r.functions
-functionCount (refusal q) = 0
+function_count : Outcome → ℕ
+function_count (shown r) = length r.functions
+function_count (refusal q) = 0
 
-siblings-read : functionCount (read (limited DEEPEST 2 3 200) siblings) ≡ 3
-unfolding functionCount read body function header sibling siblings limited
-siblings-read = refl
+siblings_read : function_count (read (limited DEEPEST 2 3 200) siblings) ≡ 3
+unfolding function_count read body function header sibling siblings limited
+siblings_read = refl
 
-copies-hold : copy small-reading ∷ copy nested-reading ∷ [] ≡ copied
-unfolding copied copy behindSource listBytes shortest mathlib.Core.List.flatten header small small-reading empty nested-functions warned-reading nested-reading ab
-copies-hold = refl
+copies_hold : copy small-reading ∷ copy nested_reading ∷ [] ≡ copied
+unfolding copied copy behind_source list_bytes shortest mathlib.Core.List.flatten header small small-reading empty nested_functions warned-reading nested_reading ab
+copies_hold = refl

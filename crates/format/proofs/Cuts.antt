@@ -1,7 +1,7 @@
 -- Where a file is cut short, and other places that 01 leaves to the Rust's `byte_offset`; antt computes each list.
---     cuts-hold        fronts of a chunk (Distinct.antt), and the place of refusal 1: a field's first byte, where the field has several (header fields, words, 8-byte values, a string's content, the run of deltas), else the missing byte
---     zeros-hold       a size or a count with leading zeros that is above its limit: the place of its first byte
---     absent-holds     string constants of size 0 and 1 are both empty, at the place behind the size
+--     cuts_hold        fronts of a chunk (Distinct.antt), and the place of refusal 1: a field's first byte, where the field has several (header fields, words, 8-byte values, a string's content, the run of deltas), else the missing byte
+--     zeros_hold       a size or a count with leading zeros that is above its limit: the place of its first byte
+--     absent_holds     string constants of size 0 and 1 are both empty, at the place behind the size
 -- Told apart: the end of the file for every place, the place behind the leading zeros, an absent string constant left out.
 -- Assumes nothing.
 use mathlib.Core.Path.{◌≡◌, refl}
@@ -15,7 +15,7 @@ use Rattle.format.specs.Form.{Bytes}
 use Rattle.format.specs.Limits.{DEEPEST, ceilings}
 use Rattle.format.specs.Reading.{ConstantValue, short-string, long-string, Prototype}
 use Rattle.format.specs.ReadChunk.{body, function, refusal, read}
-use Rattle.format.proofs.Distinct.{header, distinct, functionsOf}
+use Rattle.format.proofs.Distinct.{header, distinct, functions_of}
 
 -- ## Cut short
 -- how many bytes are left, and the place
@@ -31,9 +31,9 @@ cuts =
     ∷ (227, 227) ∷ (235, 228) ∷ (238, 238) ∷ (256, 256) ∷ (257, 257) ∷ (259, 259) ∷ (289, 289) ∷ (307, 307)
     ∷ []
 
-cuts-hold : map (λ c. read ceilings (take c.0 distinct)) cuts ≡ map (λ c. refusal (Truncated c.1)) cuts
+cuts_hold : map (λ c. read ceilings (take c.0 distinct)) cuts ≡ map (λ c. refusal (Truncated c.1)) cuts
 unfolding cuts distinct read body function
-cuts-hold = refl
+cuts_hold = refl
 
 -- ## Leading zeros
 -- a limit of 0 for strings, for instructions of a function and in all, constants, upvalues and nested functions; the other limits at their ceilings
@@ -68,20 +68,20 @@ zeros =
     ∷ (none 9 9 9 9 9 0, main (behind 3), Prototypes 41)
     ∷ []
 
-zeros-hold : map (λ c. read c.0 c.1) zeros ≡ map (λ c. refusal c.2) zeros
+zeros_hold : map (λ c. read c.0 c.1) zeros ≡ map (λ c. refusal c.2) zeros
 unfolding zeros read body function
-zeros-hold = refl
+zeros_hold = refl
 
 -- ## Absent string constants
 -- short and long of size 0, short and long of size 1
 constants : Bytes
 constants = main (0x80 ∷ 0x80 ∷ 0x80 ∷ 0 ∷ 0 ∷ 2 ∷ 0x80 ∷ 0x84 ∷ 4 ∷ 0x80 ∷ 20 ∷ 0x80 ∷ 4 ∷ 0x81 ∷ 20 ∷ 0x81 ∷ replicate 6 0x80)
 
-constantsOf : List Prototype → List ConstantValue
-constantsOf [] = []
-constantsOf (p ∷ ps) = p.constants
+constants_of : List Prototype → List ConstantValue
+constants_of [] = []
+constants_of (p ∷ ps) = p.constants
 
-absent-holds : constantsOf (functionsOf (read ceilings constants))
+absent_holds : constants_of (functions_of (read ceilings constants))
     ≡ short-string (record { place = 42; bytes = [] }) ∷ long-string (record { place = 44; bytes = [] }) ∷ short-string (record { place = 46; bytes = [] }) ∷ long-string (record { place = 48; bytes = [] }) ∷ []
-unfolding constants constantsOf read body function
-absent-holds = refl
+unfolding constants constants_of read body function
+absent_holds = refl

@@ -1,7 +1,7 @@
 -- A chunk whose function 4 has numbers that all differ, so that no two of its fields, list counts or entries' parts can be exchanged unseen: what crates above hold their orders against.
 --     distinct         the chunk, of 311 bytes: main, in it 1 with 2 in it, and 3 with 4 in it, which has four small ones, 5 to 8
 --     fourth           function 4, as 01 and the Rust read it
---     fourth-read      it is what the reader gives
+--     fourth_read      it is what the reader gives
 --     header_read      and the header's fields
 --     whole-read       and of the chunk the warnings, the number of functions and the trailing bytes
 -- Assumes nothing.
@@ -64,11 +64,11 @@ distinct =
 abbrev pub unnamed : ℕ → LocalVar
 unnamed place = record { name = record { place = place; bytes = 0x3f ∷ [] }; startpc = 0; endpc = 0 }
 
-abbrev pub noUpvalue : UpvalueDesc
-noUpvalue = record { instack = 0; idx = 0; kind = 0 }
+abbrev pub no_upvalue : UpvalueDesc
+no_upvalue = record { instack = 0; idx = 0; kind = 0 }
 
-abbrev pub noAnchor : AbsLineInfo
-noAnchor = record { pc = 0; line = 0 }
+abbrev pub no_anchor : AbsLineInfo
+no_anchor = record { pc = 0; line = 0 }
 
 unfoldable pub fourth : Prototype
 fourth = record {
@@ -78,9 +78,9 @@ fourth = record {
   end = 300;
   source_name = some (record { place = 82; bytes = replicate 12 0x61 });
   line_defined = 13;
-  last-line-defined = 14;
+  last-line_defined = 14;
   numparams = 15;
-  is-vararg = 16;
+  is_vararg = 16;
   maxstacksize = 17;
   instructions = 0x04030201 ∷ replicate 4 0;
   constants =
@@ -88,30 +88,30 @@ fourth = record {
       ∷ short-string (record { place = 144; bytes = 0x70 ∷ 0x71 ∷ [] })
       ∷ long-string (record { place = 148; bytes = 0x72 ∷ 0x73 ∷ 0x74 ∷ [] })
       ∷ [];
-  upvalues = record { instack = 1; idx = 2; kind = 3 } ∷ replicate 5 noUpvalue;
+  upvalues = record { instack = 1; idx = 2; kind = 3 } ∷ replicate 5 no_upvalue;
   protos = 4;
-  line-info = 0xff ∷ replicate 7 0;
-  abs-line-info = record { pc = 3; line = 4 } ∷ replicate 8 noAnchor;
-  loc-vars = record { name = record { place = 257; bytes = 0x76 ∷ [] }; startpc = 5; endpc = 6 } ∷ map unnamed (261 ∷ 264 ∷ 267 ∷ 270 ∷ 273 ∷ 276 ∷ 279 ∷ 282 ∷ 285 ∷ []);
-  upvalue-names = some (record { place = 289; bytes = 0x77 ∷ [] }) ∷ replicate 10 none;
-  places = record { instructions = 100; constants = 121; upvalues = 152; protos = 171; line-info = 228; abs-line-info = 237; loc-vars = 256; upvalue-names = 288 };
+  line_info_lem = 0xff ∷ replicate 7 0;
+  abs_line_info = record { pc = 3; line = 4 } ∷ replicate 8 no_anchor;
+  loc_vars = record { name = record { place = 257; bytes = 0x76 ∷ [] }; startpc = 5; endpc = 6 } ∷ map unnamed (261 ∷ 264 ∷ 267 ∷ 270 ∷ 273 ∷ 276 ∷ 279 ∷ 282 ∷ 285 ∷ []);
+  upvalue_names_lem = some (record { place = 289; bytes = 0x77 ∷ [] }) ∷ replicate 10 none;
+  places = record { instructions = 100; constants = 121; upvalues = 152; protos = 171; line_info_lem = 228; abs_line_info = 237; loc_vars = 256; upvalue_names_lem = 288 };
 }
 
 -- ## What is read
-abbrev pub functionsOf : Outcome → List Prototype
-functionsOf (shown r) = r.functions
-functionsOf (refusal q) = []
+abbrev pub functions_of : Outcome → List Prototype
+functions_of (shown r) = r.functions
+functions_of (refusal q) = []
 
-pub fourth-read : take 1 (drop 4 (functionsOf (read ceilings distinct))) ≡ fourth ∷ []
+pub fourth_read : take 1 (drop 4 (functions_of (read ceilings distinct))) ≡ fourth ∷ []
 unfolding distinct fourth read body function
-fourth-read = refl
+fourth_read = refl
 
 -- `sizeof_sizet` is not in the file; 370.5 by its bits
-abbrev pub headersOf : Outcome → List declared.Header
-headersOf (shown r) = r.header ∷ []
-headersOf (refusal q) = []
+abbrev pub headers_of : Outcome → List declared.Header
+headers_of (shown r) = r.header ∷ []
+headers_of (refusal q) = []
 
-pub header_read : headersOf (read ceilings distinct) ≡ record {
+pub header_read : headers_of (read ceilings distinct) ≡ record {
   version = 0x54;
   format = 3;
   instruction_size = 4;

@@ -18,27 +18,27 @@ Any x = Unit {0}
 pub any : {A : Type 0} {F : Form A} → Every F Any
 any = record { holds = λ at b x d. tt }
 
-pub every-then : {A B : Type 0} {F : Form A} {G : A → Form B} {Q : A → Type 0} {P : B → Type 0} → Every F Q → ((x : A) → Q x → Every (G x) P) → Every (Then F G) P
-every-then one two = record { holds = λ at b y d. (two d.value (one.holds at d.front d.value d.one)).holds _ d.back y d.two }
+pub every_then : {A B : Type 0} {F : Form A} {G : A → Form B} {Q : A → Type 0} {P : B → Type 0} → Every F Q → ((x : A) → Q x → Every (G x) P) → Every (Then F G) P
+every_then one two = record { holds = λ at b y d. (two d.value (one.holds at d.front d.value d.one)).holds _ d.back y d.two }
 
-pub every-is : {A : Type 0} {x : A} {P : A → Type 0} → P x → Every (Is x) P
-every-is {P} p = record { holds = λ at b y d. rw (← d.1) p }
+pub every_is : {A : Type 0} {x : A} {P : A → Type 0} → P x → Every (Is x) P
+every_is {P} p = record { holds = λ at b y d. rw (← d.1) p }
 
 pub every_given : {Q : Type 0} → Every (Given Q) (λ _. Q)
 every_given = record { holds = λ at b x d. d.1 }
 
-pub every-nothing : {A : Type 0} {P : A → Type 0} → Every {A = A} Nothing P
-every-nothing = record { holds = λ at b x d. absurd d }
+pub every_nothing : {A : Type 0} {P : A → Type 0} → Every {A = A} Nothing P
+every_nothing = record { holds = λ at b x d. absurd d }
 
-pub every-when : {A : Type 0} {F G : Form A} {P : A → Type 0} (t : Bool) → Every F P → Every G P → Every (When t F G) P
-every-when true one two = one
-every-when false one two = two
+pub every_when : {A : Type 0} {F G : Form A} {P : A → Type 0} (t : Bool) → Every F P → Every G P → Every (When t F G) P
+every_when true one two = one
+every_when false one two = two
 
-pub every-number : Every Number (λ v. v < 2 ^ 64 - 128)
-every-number = record { holds = λ at b v d. d.fits }
+pub every_number : Every Number (λ v. v < 2 ^ 64 - 128)
+every_number = record { holds = λ at b v d. d.fits }
 
-pub every-run : (n : ℕ) → Every (Run n) (λ b. length b ≡ n)
-every-run n = record { holds = λ at b y d. rw d.0 at d.1 }
+pub every_run : (n : ℕ) → Every (Run n) (λ b. length b ≡ n)
+every_run n = record { holds = λ at b y d. rw d.0 at d.1 }
 
 pub all_any : {A : Type 0} (xs : List A) → All Any xs
 all_any [] = tt
@@ -52,6 +52,6 @@ pub all_split : {A : Type 0} (P : A → Type 0) (xs ys : List A) → All P (xs +
 all_split P [] ys p = (tt, p)
 all_split P (x ∷ xs) ys p = let rest = all_split P xs ys p.1 in ((p.0, rest.0), rest.1)
 
-pub every-many : {A : Type 0} {F : Form A} {P : A → Type 0} (n : ℕ) → Every F P → Every (Many n F) (λ xs. (length xs ≡ n) × All P xs)
-every-many zero one = every-is (refl, tt)
-every-many (suc n) one = every-then one λ x p. every-then (every-many n one) λ xs q. every-is (ap suc q.0, (p, q.1))
+pub every_many : {A : Type 0} {F : Form A} {P : A → Type 0} (n : ℕ) → Every F P → Every (Many n F) (λ xs. (length xs ≡ n) × All P xs)
+every_many zero one = every_is (refl, tt)
+every_many (suc n) one = every_then one λ x p. every_then (every_many n one) λ xs q. every_is (ap suc q.0, (p, q.1))

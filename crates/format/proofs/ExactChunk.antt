@@ -13,105 +13,105 @@ use Rattle.format.specs.Form.{Bytes, Form, Nothing, When}
 use Rattle.format.specs.Reading.{Prototype}
 use Rattle.format.specs.GrammarChunk.{Counted, CountedUpTo, Always, Tagged, Constant, Upvalue, Anchor, Local, inherit, Where, after, within, Forest, Body, Function, Main}
 use Rattle.format.specs.Read.{Reader, refuse}
-use Rattle.format.specs.ReadChunk.{counted, countedUpTo, always, tagged, constant, upvalue, anchor, local, forest, body, function, main}
-use Rattle.format.proofs.Exact.{Exact, never, exact-give, exact-here, exact-then, exact-place, exact-atMost, exact-run, exact-many}
-use Rattle.format.proofs.ExactFields.{exact-field, exact-number, exact-string}
-use Rattle.format.proofs.ExactHeader.{exact-header}
+use Rattle.format.specs.ReadChunk.{counted, counted_up_to, always, tagged, constant, upvalue, anchor, local, forest, body, function, main}
+use Rattle.format.proofs.Exact.{Exact, never, exact_give, exact_here, exact_then, exact_place, exact_at_most, exact_run, exact_many}
+use Rattle.format.proofs.ExactFields.{exact_field, exact_number, exact_string}
+use Rattle.format.proofs.ExactHeader.{exact_header}
 
 -- ## Lists behind their counts
-pub exact-counted : {A : Type 0} {r : Reader A} {F : Form A} → Exact r F → Exact (counted r) (Counted F)
-exact-counted one = exact-then exact-number λ n. exact-then exact-here λ place. exact-then (exact-many n one) λ items. exact-give _
+pub exact_counted : {A : Type 0} {r : Reader A} {F : Form A} → Exact r F → Exact (counted r) (Counted F)
+exact_counted one = exact_then exact_number λ n. exact_then exact_here λ place. exact_then (exact_many n one) λ items. exact_give _
 
-pub exact-countedUpTo : {A : Type 0} {r : Reader A} {F : Form A} (limit : ℕ) (refusal : ℕ → Refusal) → Exact r F → Exact (countedUpTo limit refusal r) (CountedUpTo limit F)
-exact-countedUpTo limit refusal one =
-    exact-place λ first.
-    exact-then exact-number λ n.
-    exact-then (exact-atMost n limit (refusal first)) λ _.
-    exact-then exact-here λ place.
-    exact-then (exact-many n one) λ items.
-    exact-give _
+pub exact_counted_up_to : {A : Type 0} {r : Reader A} {F : Form A} (limit : ℕ) (refusal : ℕ → Refusal) → Exact r F → Exact (counted_up_to limit refusal r) (CountedUpTo limit F)
+exact_counted_up_to limit refusal one =
+    exact_place λ first.
+    exact_then exact_number λ n.
+    exact_then (exact_at_most n limit (refusal first)) λ _.
+    exact_then exact_here λ place.
+    exact_then (exact_many n one) λ items.
+    exact_give _
 
 -- ## Entries
-pub exact-always : (limit : ℕ) (instead : Bytes) → Exact (always limit instead) (Always limit instead)
-exact-always limit instead = exact-then (exact-string limit) λ t. exact-then exact-here λ place. exact-give _
+pub exact_always : (limit : ℕ) (instead : Bytes) → Exact (always limit instead) (Always limit instead)
+exact_always limit instead = exact_then (exact_string limit) λ t. exact_then exact_here λ place. exact_give _
 
-pub exact-pick : {A : Type 0} {r s : Reader A} {F G : Form A} (b : Bool) → Exact r F → Exact s G → Exact (cond b r s) (When b F G)
-exact-pick true one two = one
-exact-pick false one two = two
+pub exact_pick : {A : Type 0} {r s : Reader A} {F G : Form A} (b : Bool) → Exact r F → Exact s G → Exact (cond b r s) (When b F G)
+exact_pick true one two = one
+exact_pick false one two = two
 
-pub exact-refuse : {A : Type 0} (q : Refusal) → Exact {A = A} (refuse q) Nothing
-exact-refuse q = record { sound = λ e. absurd (never e); complete = λ _ g. absurd g }
+pub exact_refuse : {A : Type 0} (q : Refusal) → Exact {A = A} (refuse q) Nothing
+exact_refuse q = record { sound = λ e. absurd (never e); complete = λ _ g. absurd g }
 
-pub exact-tagged : (limit place tag : ℕ) → Exact (tagged limit place tag) (Tagged limit tag)
-exact-tagged limit place tag =
-    exact-pick (eqb tag 0) (exact-give _)
-    (exact-pick (eqb tag 1) (exact-give _)
-    (exact-pick (eqb tag 17) (exact-give _)
-    (exact-pick (eqb tag 3) (exact-then (exact-field 8) λ n. exact-give _)
-    (exact-pick (eqb tag 19) (exact-then (exact-field 8) λ n. exact-give _)
-    (exact-pick (eqb tag 4) (exact-then (exact-always limit []) λ t. exact-give _)
-    (exact-pick (eqb tag 20) (exact-then (exact-always limit []) λ t. exact-give _)
-    (exact-refuse (ConstantTag place))))))))
+pub exact_tagged : (limit place tag : ℕ) → Exact (tagged limit place tag) (Tagged limit tag)
+exact_tagged limit place tag =
+    exact_pick (eqb tag 0) (exact_give _)
+    (exact_pick (eqb tag 1) (exact_give _)
+    (exact_pick (eqb tag 17) (exact_give _)
+    (exact_pick (eqb tag 3) (exact_then (exact_field 8) λ n. exact_give _)
+    (exact_pick (eqb tag 19) (exact_then (exact_field 8) λ n. exact_give _)
+    (exact_pick (eqb tag 4) (exact_then (exact_always limit []) λ t. exact_give _)
+    (exact_pick (eqb tag 20) (exact_then (exact_always limit []) λ t. exact_give _)
+    (exact_refuse (ConstantTag place))))))))
 
-pub exact-constant : (limit : ℕ) → Exact (constant limit) (Constant limit)
-exact-constant limit = exact-place λ place. exact-then (exact-field 1) λ tag. exact-tagged limit place tag
+pub exact_constant : (limit : ℕ) → Exact (constant limit) (Constant limit)
+exact_constant limit = exact_place λ place. exact_then (exact_field 1) λ tag. exact_tagged limit place tag
 
-pub exact-upvalue : Exact upvalue Upvalue
-exact-upvalue = exact-then (exact-field 1) λ instack. exact-then (exact-field 1) λ idx. exact-then (exact-field 1) λ kind. exact-give _
+pub exact_upvalue : Exact upvalue Upvalue
+exact_upvalue = exact_then (exact_field 1) λ instack. exact_then (exact_field 1) λ idx. exact_then (exact_field 1) λ kind. exact_give _
 
-pub exact-anchor : Exact anchor Anchor
-exact-anchor = exact-then exact-number λ pc. exact-then exact-number λ line. exact-give _
+pub exact_anchor : Exact anchor Anchor
+exact_anchor = exact_then exact_number λ pc. exact_then exact_number λ line. exact_give _
 
-pub exact-local : (limit : ℕ) → Exact (local limit) (Local limit)
-exact-local limit = exact-then (exact-always limit (63 ∷ [])) λ name. exact-then exact-number λ startpc. exact-then exact-number λ endpc. exact-give _
+pub exact_local : (limit : ℕ) → Exact (local limit) (Local limit)
+exact_local limit = exact_then (exact_always limit (63 ∷ [])) λ name. exact_then exact_number λ startpc. exact_then exact_number λ endpc. exact_give _
 
 -- ## Functions
-pub exact-forest : (n : ℕ) {r : Where → Reader (List Prototype)} {F : Where → Form (List Prototype)} (w : Where) → ((w : Where) → Exact (r w) (F w)) → Exact (forest n r w) (Forest n F w)
-exact-forest zero w one = exact-give []
-exact-forest (suc n) w one = exact-then (one w) λ ps. exact-then (exact-forest n (after ps w) one) λ more. exact-give (ps ++ more)
+pub exact_forest : (n : ℕ) {r : Where → Reader (List Prototype)} {F : Where → Form (List Prototype)} (w : Where) → ((w : Where) → Exact (r w) (F w)) → Exact (forest n r w) (Forest n F w)
+exact_forest zero w one = exact_give []
+exact_forest (suc n) w one = exact_then (one w) λ ps. exact_then (exact_forest n (after ps w) one) λ more. exact_give (ps ++ more)
 
-pub exact-body : (L : ResourceLimits) {r : Where → Reader (List Prototype)} {F : Where → Form (List Prototype)} → ((w : Where) → Exact (r w) (F w)) → (w : Where) → Exact (body L r w) (Body L F w)
+pub exact_body : (L : ResourceLimits) {r : Where → Reader (List Prototype)} {F : Where → Form (List Prototype)} → ((w : Where) → Exact (r w) (F w)) → (w : Where) → Exact (body L r w) (Body L F w)
 unfolding body Body
-exact-body L one w =
-    exact-then exact-here λ start.
-    exact-then (exact-string L.max_string_bytes) λ spelt.
-    exact-then exact-number λ line_defined.
-    exact-then exact-number λ last-line-defined.
-    exact-then (exact-field 1) λ numparams.
-    exact-then (exact-field 1) λ is-vararg.
-    exact-then (exact-field 1) λ maxstacksize.
-    exact-place λ first.
-    exact-then exact-number λ size.
-    exact-then (exact-atMost size L.max_instructions_per_proto (Instructions first)) λ _.
-    exact-then (exact-atMost (w.instructions + size) L.max_total_instructions (TotalInstructions first)) λ _.
-    exact-then exact-here λ instructions-at.
-    exact-then (exact-many size (exact-field 4)) λ instructions.
-    exact-then (exact-countedUpTo L.max_constants_per_proto Constants (exact-constant L.max_string_bytes)) λ constants.
-    exact-then (exact-countedUpTo L.max_upvalues_per_proto Upvalues exact-upvalue) λ upvalues.
-    exact-place λ first.
-    exact-then exact-number λ protos.
-    exact-then (exact-atMost protos L.max_total_prototypes (Prototypes first)) λ _.
-    exact-then exact-here λ protos-at.
-    exact-then (exact-forest protos (within w (inherit spelt w.source) (length instructions)) one) λ nested.
-    exact-then exact-number λ line-info-size.
-    exact-then exact-here λ line-info-at.
-    exact-then (exact-run line-info-size) λ line-info.
-    exact-then (exact-counted exact-anchor) λ abs-line-info.
-    exact-then (exact-counted (exact-local L.max_string_bytes)) λ loc-vars.
-    exact-then (exact-counted (exact-string L.max_string_bytes)) λ upvalue-names.
-    exact-then exact-here λ end.
-    exact-give _
+exact_body L one w =
+    exact_then exact_here λ start.
+    exact_then (exact_string L.max_string_bytes) λ spelt.
+    exact_then exact_number λ line_defined.
+    exact_then exact_number λ last-line_defined.
+    exact_then (exact_field 1) λ numparams.
+    exact_then (exact_field 1) λ is_vararg.
+    exact_then (exact_field 1) λ maxstacksize.
+    exact_place λ first.
+    exact_then exact_number λ size.
+    exact_then (exact_at_most size L.max_instructions_per_proto (Instructions first)) λ _.
+    exact_then (exact_at_most (w.instructions + size) L.max_total_instructions (TotalInstructions first)) λ _.
+    exact_then exact_here λ instructions-at.
+    exact_then (exact_many size (exact_field 4)) λ instructions.
+    exact_then (exact_counted_up_to L.max_constants_per_proto Constants (exact_constant L.max_string_bytes)) λ constants.
+    exact_then (exact_counted_up_to L.max_upvalues_per_proto Upvalues exact_upvalue) λ upvalues.
+    exact_place λ first.
+    exact_then exact_number λ protos.
+    exact_then (exact_at_most protos L.max_total_prototypes (Prototypes first)) λ _.
+    exact_then exact_here λ protos-at.
+    exact_then (exact_forest protos (within w (inherit spelt w.source) (length instructions)) one) λ nested.
+    exact_then exact_number λ line-info-size.
+    exact_then exact_here λ line-info-at.
+    exact_then (exact_run line-info-size) λ line_info_lem.
+    exact_then (exact_counted exact_anchor) λ abs_line_info.
+    exact_then (exact_counted (exact_local L.max_string_bytes)) λ loc_vars.
+    exact_then (exact_counted (exact_string L.max_string_bytes)) λ upvalue_names_lem.
+    exact_then exact_here λ end.
+    exact_give _
 
-pub exact-function : (L : ResourceLimits) (left : ℕ) (w : Where) → Exact (function L left w) (Function L left w)
+pub exact_function : (L : ResourceLimits) (left : ℕ) (w : Where) → Exact (function L left w) (Function L left w)
 unfolding function Function
-exact-function L zero w = exact-body L (λ w. exact-place λ place. exact-refuse _) w
-exact-function L (suc left) w =
-    exact-body L (λ w. exact-place λ place. exact-then (exact-atMost w.number L.max_total_prototypes (TotalPrototypes place)) λ _. exact-function L left w) w
+exact_function L zero w = exact_body L (λ w. exact_place λ place. exact_refuse _) w
+exact_function L (suc left) w =
+    exact_body L (λ w. exact_place λ place. exact_then (exact_at_most w.number L.max_total_prototypes (TotalPrototypes place)) λ _. exact_function L left w) w
 
 -- ## Chunks
-pub exact-main : (L : ResourceLimits) → Exact (main L) (Main L)
-exact-main L =
-    exact-then exact-header λ headed.
-    exact-then (exact-field 1) λ forgotten.
-    exact-then (exact-function L L.max_nesting_depth _) λ functions.
-    exact-give _
+pub exact_main : (L : ResourceLimits) → Exact (main L) (Main L)
+exact_main L =
+    exact_then exact_header λ headed.
+    exact_then (exact_field 1) λ forgotten.
+    exact_then (exact_function L L.max_nesting_depth _) λ functions.
+    exact_give _

@@ -14,14 +14,14 @@ use Rattle.format.specs.Form.{Bytes, Below, Form}
 use Rattle.format.specs.GrammarFields.{Field, base128, Varint, Number, Content, String}
 use Rattle.format.specs.Read.{Read, ok, refused}
 use Rattle.format.specs.ReadFields.{field, groups, number, content, string}
-use Rattle.format.proofs.Exact.{Exact, Split, never, exact-give, exact-here, exact-then, exact-place, exact-atMost, exact-run}
+use Rattle.format.proofs.Exact.{Exact, Split, never, exact_give, exact_here, exact_then, exact_place, exact_at_most, exact_run}
 
-pub exact-field : (n : ℕ) → Exact (field n) (Field n)
-exact-field n = exact-then (exact-run n) λ bytes. exact-give _
+pub exact_field : (n : ℕ) → Exact (field n) (Field n)
+exact_field n = exact_then (exact_run n) λ bytes. exact_give _
 
 -- ## Numbers
-ok-path : {v w to up : ℕ} {rest : Bytes} → v ≡ w → to ≡ up → ok v to rest ≡ ok w up rest
-ok-path e f = cc
+ok_path : {v w to up : ℕ} {rest : Bytes} → v ≡ w → to ≡ up → ok v to rest ≡ ok w up rest
+ok_path e f = cc
 
 -- a number never falls below what its first groups make
 pub grows : (more : List ℕ) (high : ℕ) → high ≤ base128 high more
@@ -40,9 +40,9 @@ record Groups (high : ℕ) (at : ℕ) (bytes : Bytes) (v : ℕ) : Type 0 where
 
 -- one group, by what its two tests say
 module _ (high at x v to : ℕ) (s rest : Bytes) (more : Read ℕ) (later : more ≡ ok v to rest → Split (Groups (high * 128 + x)) (at + 1) s v to rest) where
-  group-sound : (fits small : Bool) → (T fits → high < 2 ^ 57 - 1) → (T small → x < 128) → (T (not small) → 128 ≤ x)
+  group_sound : (fits small : Bool) → (T fits → high < 2 ^ 57 - 1) → (T small → x < 128) → (T (not small) → 128 ≤ x)
       → cond fits (cond small more (ok (high * 128 + x % 128) (at + 1) s)) (refused VarintOverflow) ≡ ok v to rest → Split (Groups high) at (x ∷ s) v to rest
-  group-sound true true f y n e =
+  group_sound true true f y n e =
       let a = later e in
       let g = a.spelt in
       record {
@@ -51,7 +51,7 @@ module _ (high at x v to : ℕ) (s rest : Bytes) (more : Read ℕ) (later : more
         place = omega (arith, a.place);
         spelt = record { more = x ∷ g.more; last = g.last; whole = ap (λ (l : Bytes). x ∷ l) g.whole; small = (y tt, g.small); closes = g.closes; value = g.value; fits = g.fits };
       }
-  group-sound true false f y n e =
+  group_sound true false f y n e =
       let h = f tt in
       let value : v ≡ high * 128 + x % 128 = cc in
       record {
@@ -60,29 +60,29 @@ module _ (high at x v to : ℕ) (s rest : Bytes) (more : Read ℕ) (later : more
         place = cc;
         spelt = record { more = []; last = x; whole = refl; small = tt; closes = n tt; value = value; fits = omega arith };
       }
-  group-sound false small f y n e = absurd (never e)
+  group_sound false small f y n e = absurd (never e)
 
-groups-sound : (s : Bytes) (high at : ℕ) {v to : ℕ} {rest : Bytes} → groups high at s ≡ ok v to rest → Split (Groups high) at s v to rest
-groups-sound [] high at e = absurd (never e)
-groups-sound (x ∷ s) high at {v} {to} {rest} e =
-    group-sound high at x v to s rest (groups (high * 128 + x) (at + 1) s) (groups-sound s (high * 128 + x) (at + 1))
+groups_sound : (s : Bytes) (high at : ℕ) {v to : ℕ} {rest : Bytes} → groups high at s ≡ ok v to rest → Split (Groups high) at s v to rest
+groups_sound [] high at e = absurd (never e)
+groups_sound (x ∷ s) high at {v} {to} {rest} e =
+    group_sound high at x v to s rest (groups (high * 128 + x) (at + 1) s) (groups_sound s (high * 128 + x) (at + 1))
     (ltb high (2 ^ 57 - 1)) (ltb x 128) (ltb→lt high (2 ^ 57 - 1)) (ltb→lt x 128) (nltb→le x 128) e
 
 -- what is read is not below the groups so far
-pub groups-least : (s : Bytes) (high at : ℕ) {v to : ℕ} {rest : Bytes} → groups high at s ≡ ok v to rest → high * 128 ≤ v
-groups-least s high at e = let g = (groups-sound s high at e).spelt in omega (arith, g.value, grows g.more high)
+pub groups_least : (s : Bytes) (high at : ℕ) {v to : ℕ} {rest : Bytes} → groups high at s ≡ ok v to rest → high * 128 ≤ v
+groups_least s high at e = let g = (groups_sound s high at e).spelt in omega (arith, g.value, grows g.more high)
 
-groups-complete : (more : List ℕ) (high at last : ℕ) (rest : Bytes) → Below 128 more → 128 ≤ last → base128 high more * 128 + last % 128 < 2 ^ 64 - 128
+groups_complete : (more : List ℕ) (high at last : ℕ) (rest : Bytes) → Below 128 more → 128 ≤ last → base128 high more * 128 + last % 128 < 2 ^ 64 - 128
     → groups high at (more ++ last ∷ [] ++ rest) ≡ ok (base128 high more * 128 + last % 128) (at + suc (length more)) rest
-groups-complete [] high at last rest small closes fits = rw (lt-ltb high (2 ^ 57 - 1) (omega arith), le-ltb last 128 closes) (ok-path refl (omega arith))
-groups-complete (x ∷ more) high at last rest small closes fits =
+groups_complete [] high at last rest small closes fits = rw (lt-ltb high (2 ^ 57 - 1) (omega arith), le-ltb last 128 closes) (ok_path refl (omega arith))
+groups_complete (x ∷ more) high at last rest small closes fits =
     rw (lt-ltb high (2 ^ 57 - 1) (omega (arith, grows more (high * 128 + x))), lt-ltb x 128 small.0)
-    (groups-complete more (high * 128 + x) (at + 1) last rest small.1 closes fits ∙ ok-path refl (omega arith))
+    (groups_complete more (high * 128 + x) (at + 1) last rest small.1 closes fits ∙ ok_path refl (omega arith))
 
-pub exact-number : Exact number Number
-exact-number = record {
+pub exact_number : Exact number Number
+exact_number = record {
   sound = λ {at} {s} e.
-      let a = groups-sound s 0 at e in
+      let a = groups_sound s 0 at e in
       let g = a.spelt in
       record {
         bytes = a.bytes;
@@ -91,14 +91,14 @@ exact-number = record {
         spelt = record { more = g.more; last = g.last; whole = g.whole; small = g.small; closes = g.closes; value = g.value; fits = g.fits };
       };
   complete = λ {at} rest g. rw (g.whole, g.value)
-      (groups-complete g.more 0 at g.last rest g.small g.closes (rw g.value at g.fits) ∙ ok-path refl (rw length-append (omega arith)));
+      (groups_complete g.more 0 at g.last rest g.small g.closes (rw g.value at g.fits) ∙ ok_path refl (rw length-append (omega arith)));
 }
 
 -- ## Strings
-pub exact-content : (limit first size : ℕ) → Exact (content limit first size) (Content limit size)
-exact-content limit first zero = exact-give none
-exact-content limit first (suc n) =
-    exact-then (exact-atMost n limit (StringBytes first)) λ _. exact-then exact-here λ place. exact-then (exact-run n) λ bytes. exact-give _
+pub exact_content : (limit first size : ℕ) → Exact (content limit first size) (Content limit size)
+exact_content limit first zero = exact_give none
+exact_content limit first (suc n) =
+    exact_then (exact_at_most n limit (StringBytes first)) λ _. exact_then exact_here λ place. exact_then (exact_run n) λ bytes. exact_give _
 
-pub exact-string : (limit : ℕ) → Exact (string limit) (String limit)
-exact-string limit = exact-place λ first. exact-then exact-number λ size. exact-content limit first size
+pub exact_string : (limit : ℕ) → Exact (string limit) (String limit)
+exact_string limit = exact_place λ first. exact_then exact_number λ size. exact_content limit first size

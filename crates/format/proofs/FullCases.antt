@@ -1,6 +1,6 @@
 -- Worked cases of full copies (02, item 6): chunks, their archive copies and their full copies, in a list, with one theorem over the list, which antt computes.
---     full-hold        the full copy of each
---     archive-hold     the archive copy of each, in which every nested source is absent
+--     full_hold        the full copy of each
+--     archive_hold     the archive copy of each, in which every nested source is absent
 -- The laws of copies hold of a copy that writes every nested source, too. Told apart here: that one, the source of the function around the parent in place of the parent's, the parent's as it is spelt,
 -- an empty source taken for a missing one, and the other way round, lengths alone compared, bytes alone up to the shorter length.
 -- Assumes nothing.
@@ -12,8 +12,8 @@ use Rattle.format.specs.Form.{Bytes}
 use Rattle.format.specs.Limits.{ceilings}
 use Rattle.format.specs.ReadChunk.{body, function, Outcome, shown, refusal, read}
 use Rattle.format.specs.Shortest.{shortest}
-use Rattle.format.specs.Copy.{listBytes, behindSource, copy}
-use Rattle.format.specs.FullCopy.{allWithin, fullFunction, fullCopy}
+use Rattle.format.specs.Copy.{list_bytes, behind_source, copy}
+use Rattle.format.specs.FullCopy.{all_within, full_function, full_copy}
 
 -- 32 bytes before main, with this format byte and byte 31
 front : ℕ → ℕ → Bytes
@@ -93,18 +93,18 @@ cases =
     ∷ case (one long (leaf long)) (one long (leaf missing)) (one long (leaf missing))
     ∷ []
 
-archiveOf : Outcome → Bytes
-archiveOf (shown r) = copy r
-archiveOf (refusal q) = []
+archive_of : Outcome → Bytes
+archive_of (shown r) = copy r
+archive_of (refusal q) = []
 
 full_of : Outcome → Bytes
-full_of (shown r) = fullCopy r
+full_of (shown r) = full_copy r
 full_of (refusal q) = []
 
-full-hold : map (λ (c : Case). full_of (read ceilings c.chunk)) cases ≡ map (λ (c : Case). c.full) cases
-unfolding cases front fn leaf one two missing empty a b ab long case full_of read body function fullCopy allWithin fullFunction behindSource listBytes shortest mathlib.Core.List.flatten
-full-hold = refl
+full_hold : map (λ (c : Case). full_of (read ceilings c.chunk)) cases ≡ map (λ (c : Case). c.full) cases
+unfolding cases front fn leaf one two missing empty a b ab long case full_of read body function full_copy all_within full_function behind_source list_bytes shortest mathlib.Core.List.flatten
+full_hold = refl
 
-archive-hold : map (λ (c : Case). archiveOf (read ceilings c.chunk)) cases ≡ map (λ (c : Case). c.archive) cases
-unfolding cases front fn leaf one two missing empty a b ab long case archiveOf read body function copy behindSource listBytes shortest mathlib.Core.List.flatten
-archive-hold = refl
+archive_hold : map (λ (c : Case). archive_of (read ceilings c.chunk)) cases ≡ map (λ (c : Case). c.archive) cases
+unfolding cases front fn leaf one two missing empty a b ab long case archive_of read body function copy behind_source list_bytes shortest mathlib.Core.List.flatten
+archive_hold = refl

@@ -1,6 +1,6 @@
 -- What is set aside does not show in the full copy.
---     sourced-kept     functions, and what is kept of them, are written alike
---     full-keeps-more  readings that are equal in what a full copy keeps are equal in what the archive copy keeps
+--     sourced_kept     functions, and what is kept of them, are written alike
+--     full_keeps_more  readings that are equal in what a full copy keeps are equal in what the archive copy keeps
 -- Assumes nothing.
 use mathlib.Core.Path.{◌≡◌, refl, sym, ◌∙◌, ap, ap₂}
 use mathlib.Core.Bool.{Bool, true, false, cond}
@@ -12,21 +12,21 @@ use lib.ListN.{take, drop}
 use Rattle.format.specs.Form.{Bytes}
 use Rattle.format.specs.GrammarFields.{LuaString}
 use Rattle.format.specs.Reading.{ConstantValue, nil, boolean, integer, float, short-string, long-string, Prototype, Reading}
-use Rattle.format.specs.ReadHeader.{sameBytes}
-use Rattle.format.specs.Copy.{optionBytes, behindSource, upvaluesOfMain, keptString, keptConstant, keptLocal, keptFunction, keptNested, keptFunctions, kept}
-use Rattle.format.specs.FullCopy.{nestedSource, Within, allWithin, fullFunction, fullNest, fullFunctions, keptSourced, keptFull}
+use Rattle.format.specs.ReadHeader.{same_bytes}
+use Rattle.format.specs.Copy.{option_bytes, behind_source, upvalues_of_main, kept_string, kept_constant, kept_local, kept_function, kept_nested, kept_functions, kept}
+use Rattle.format.specs.FullCopy.{nested_source, Within, all_within, full_function, full_nest, full_functions, kept_sourced, kept_full}
 use Rattle.format.proofs.KeptCopy.{behind-kept}
 
-abbrev keptSource : Option LuaString → Option LuaString
-keptSource = Option.map keptString
+abbrev kept_source : Option LuaString → Option LuaString
+kept_source = Option.map kept_string
 
-written-kept : (parent own : Option LuaString) → optionBytes (nestedSource (keptSource parent) (keptSource own)) ≡ optionBytes (nestedSource parent own)
+written-kept : (parent own : Option LuaString) → option_bytes (nested_source (kept_source parent) (kept_source own)) ≡ option_bytes (nested_source parent own)
 written-kept none none = refl
 written-kept none (some t) = refl
 written-kept (some u) none = refl
-written-kept (some u) (some t) = by (sameBytes t.bytes u.bytes)
+written-kept (some u) (some t) = by (same_bytes t.bytes u.bytes)
   where
-    by : (b : Bool) → optionBytes (cond b none (some (keptString t))) ≡ optionBytes (cond b none (some t))
+    by : (b : Bool) → option_bytes (cond b none (some (kept_string t))) ≡ option_bytes (cond b none (some t))
     by true = refl
     by false = refl
 
@@ -44,56 +44,56 @@ drop-each source zero fs = refl
 drop-each source (suc n) [] = refl
 drop-each source (suc n) (f ∷ fs) = drop-each source n fs
 
-nests-kept : (ps : List Prototype) (source : Option LuaString) → each (keptSource source) (foldr fullNest [] (map keptSourced ps)) ≡ each source (foldr fullNest [] ps)
-unfolding allWithin fullFunction
-nests-kept [] source = refl
-nests-kept (p ∷ ps) source =
+nests_kept : (ps : List Prototype) (source : Option LuaString) → each (kept_source source) (foldr full_nest [] (map kept_sourced ps)) ≡ each source (foldr full_nest [] ps)
+unfolding all_within full_function
+nests_kept [] source = refl
+nests_kept (p ∷ ps) source =
     let own = p.source_name in
-    let later = foldr fullNest [] ps in
-    let plain = foldr fullNest [] (map keptSourced ps) in
-    let inner : each (keptSource own) (take p.protos plain) ≡ each own (take p.protos later) = take-each (keptSource own) p.protos plain ∙ ap (take p.protos) (nests-kept ps own) ∙ sym (take-each own p.protos later) in
-    let behind : behindSource (keptSourced p) (flatten (each (keptSource own) (take p.protos plain))) ≡ behindSource p (flatten (each own (take p.protos later))) = ap (λ b. behindSource (keptSourced p) (flatten b)) inner ∙ behind-kept (keptSource own) p _ in
-    ap₂ ◌∷◌ (ap₂ ◌++◌ (written-kept source own) behind) (drop-each (keptSource source) p.protos plain ∙ ap (drop p.protos) (nests-kept ps source) ∙ sym (drop-each source p.protos later))
+    let later = foldr full_nest [] ps in
+    let plain = foldr full_nest [] (map kept_sourced ps) in
+    let inner : each (kept_source own) (take p.protos plain) ≡ each own (take p.protos later) = take-each (kept_source own) p.protos plain ∙ ap (take p.protos) (nests_kept ps own) ∙ sym (take-each own p.protos later) in
+    let behind : behind_source (kept_sourced p) (flatten (each (kept_source own) (take p.protos plain))) ≡ behind_source p (flatten (each own (take p.protos later))) = ap (λ b. behind_source (kept_sourced p) (flatten b)) inner ∙ behind-kept (kept_source own) p _ in
+    ap₂ ◌∷◌ (ap₂ ◌++◌ (written-kept source own) behind) (drop-each (kept_source source) p.protos plain ∙ ap (drop p.protos) (nests_kept ps source) ∙ sym (drop-each source p.protos later))
 
-pub sourced-kept : (ps : List Prototype) → fullFunctions (map keptSourced ps) ≡ fullFunctions ps
-unfolding allWithin
-sourced-kept ps = ap flatten (nests-kept ps none)
+pub sourced_kept : (ps : List Prototype) → full_functions (map kept_sourced ps) ≡ full_functions ps
+unfolding all_within
+sourced_kept ps = ap flatten (nests_kept ps none)
 
-pub upvalues-sourced : (ps : List Prototype) → upvaluesOfMain (map keptSourced ps) ≡ upvaluesOfMain ps
-upvalues-sourced [] = refl
-upvalues-sourced (p ∷ ps) = refl
+pub upvalues_sourced : (ps : List Prototype) → upvalues_of_main (map kept_sourced ps) ≡ upvalues_of_main ps
+upvalues_sourced [] = refl
+upvalues_sourced (p ∷ ps) = refl
 
 -- ## What the archive copy keeps of what the full copy keeps
-constant-twice : (c : ConstantValue) → keptConstant (keptConstant c) ≡ keptConstant c
-constant-twice nil = refl
-constant-twice (boolean b) = refl
-constant-twice (integer n) = refl
-constant-twice (float n) = refl
-constant-twice (short-string t) = refl
-constant-twice (long-string t) = refl
+constant_twice : (c : ConstantValue) → kept_constant (kept_constant c) ≡ kept_constant c
+constant_twice nil = refl
+constant_twice (boolean b) = refl
+constant_twice (integer n) = refl
+constant_twice (float n) = refl
+constant_twice (short-string t) = refl
+constant_twice (long-string t) = refl
 
-source-twice : (t : Option LuaString) → keptSource (keptSource t) ≡ keptSource t
-source-twice none = refl
-source-twice (some t) = refl
+source_twice : (t : Option LuaString) → kept_source (kept_source t) ≡ kept_source t
+source_twice none = refl
+source_twice (some t) = refl
 
-map-twice : {A : Type 0} (f : A → A) → ((x : A) → f (f x) ≡ f x) → (xs : List A) → map f (map f xs) ≡ map f xs
-map-twice f h [] = refl
-map-twice f h (x ∷ xs) = ap₂ ◌∷◌ (h x) (map-twice f h xs)
+map_twice : {A : Type 0} (f : A → A) → ((x : A) → f (f x) ≡ f x) → (xs : List A) → map f (map f xs) ≡ map f xs
+map_twice f h [] = refl
+map_twice f h (x ∷ xs) = ap₂ ◌∷◌ (h x) (map_twice f h xs)
 
-function-twice : (source t : Option LuaString) (p : Prototype) → keptFunction source (keptFunction t p) ≡ keptFunction source p
-function-twice source t p = rw (map-twice keptConstant constant-twice p.constants, map-twice keptLocal (λ x. refl) p.loc-vars, map-twice keptSource source-twice p.upvalue-names)
+function_twice : (source t : Option LuaString) (p : Prototype) → kept_function source (kept_function t p) ≡ kept_function source p
+function_twice source t p = rw (map_twice kept_constant constant_twice p.constants, map_twice kept_local (λ x. refl) p.loc_vars, map_twice kept_source source_twice p.upvalue_names_lem)
 
-nested-twice : (ps : List Prototype) → map keptNested (map keptSourced ps) ≡ map keptNested ps
-nested-twice [] = refl
-nested-twice (p ∷ ps) = ap₂ ◌∷◌ (function-twice none (keptSource p.source_name) p) (nested-twice ps)
+nested_twice : (ps : List Prototype) → map kept_nested (map kept_sourced ps) ≡ map kept_nested ps
+nested_twice [] = refl
+nested_twice (p ∷ ps) = ap₂ ◌∷◌ (function_twice none (kept_source p.source_name) p) (nested_twice ps)
 
-functions-twice : (ps : List Prototype) → keptFunctions (map keptSourced ps) ≡ keptFunctions ps
-functions-twice [] = refl
-functions-twice (p ∷ ps) = ap₂ ◌∷◌ (ap (λ t. keptFunction t (keptSourced p)) (source-twice p.source_name) ∙ function-twice (keptSource p.source_name) (keptSource p.source_name) p) (nested-twice ps)
+functions_twice : (ps : List Prototype) → kept_functions (map kept_sourced ps) ≡ kept_functions ps
+functions_twice [] = refl
+functions_twice (p ∷ ps) = ap₂ ◌∷◌ (ap (λ t. kept_function t (kept_sourced p)) (source_twice p.source_name) ∙ function_twice (kept_source p.source_name) (kept_source p.source_name) p) (nested_twice ps)
 
-kept-of-full : (r : Reading) → kept (keptFull r) ≡ kept r
-unfolding kept keptFull
-kept-of-full r = rw (functions-twice r.functions)
+kept-of_full : (r : Reading) → kept (kept_full r) ≡ kept r
+unfolding kept kept_full
+kept-of_full r = rw (functions_twice r.functions)
 
-pub full-keeps-more : (r q : Reading) → keptFull r ≡ keptFull q → kept r ≡ kept q
-full-keeps-more r q e = sym (kept-of-full r) ∙ ap kept e ∙ kept-of-full q
+pub full_keeps_more : (r q : Reading) → kept_full r ≡ kept_full q → kept r ≡ kept q
+full_keeps_more r q e = sym (kept-of_full r) ∙ ap kept e ∙ kept-of_full q

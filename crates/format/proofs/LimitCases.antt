@@ -1,6 +1,6 @@
 -- The ceilings as 01 prints them ('Limits'; that of nesting: 02, item 5), and what is refused above each of them; one theorem over each list, which antt computes.
---     ceilings-are     nesting 14, diagnostics 10,000, the others 16,777,216
---     above-refused    each limit one above its ceiling, the others at theirs: 21, whatever the file is (told apart: a limit that is not tested, a ceiling one higher)
+--     ceilings_are     nesting 14, diagnostics 10,000, the others 16,777,216
+--     above_refused    each limit one above its ceiling, the others at theirs: 21, whatever the file is (told apart: a limit that is not tested, a ceiling one higher)
 --     within-read      at the ceilings, and with every limit 0: not 21 (told apart: a ceiling one lower, zero not allowed)
 -- Assumes nothing.
 use mathlib.Core.Path.{◌≡◌, refl}
@@ -30,8 +30,8 @@ limits input nesting prototypes instructions all-instructions constants upvalues
 abbrev top : ResourceLimits
 top = limits 16777216 14 16777216 16777216 16777216 16777216 16777216 16777216 10000
 
-ceilings-are : ceilings ≡ top
-ceilings-are = refl
+ceilings_are : ceilings ≡ top
+ceilings_are = refl
 
 above : List ResourceLimits
 above =
@@ -46,9 +46,9 @@ above =
     ∷ limits MOST DEEPEST MOST MOST MOST MOST MOST MOST 10001
     ∷ []
 
-above-refused : (chunk : Bytes) → map (λ L. read L chunk) above ≡ replicate 9 (refusal LimitAboveCeiling)
+above_refused : (chunk : Bytes) → map (λ L. read L chunk) above ≡ replicate 9 (refusal LimitAboveCeiling)
 unfolding above read
-above-refused chunk = refl
+above_refused chunk = refl
 
 -- limits, a file, and the refusal: an empty file is cut short at 0; a byte more than the input limit is 22
 within : List (ResourceLimits × Bytes × Outcome)

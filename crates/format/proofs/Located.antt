@@ -2,7 +2,7 @@
 --     Found s r at x       at this place of the slice the reader r gives x
 --     Stands s t           the bytes of the string t stand in the slice at its place
 --     Located L s p        each list of the function p is found at its place, and its source stands at its own
---     all-located          so it is with every function of a chunk that is read
+--     all_located          so it is with every function of a chunk that is read
 -- Assumes nothing.
 use mathlib.Core.Path.{◌≡◌, refl, sym, ◌∙◌, ap}
 use mathlib.Core.List.{List, [], ◌∷◌, ◌++◌}
@@ -20,15 +20,15 @@ use Rattle.format.specs.Reading.{Prototype}
 use Rattle.format.specs.GrammarChunk.{Listed, inherit, Where, after, within, Loaded}
 use Rattle.format.specs.Read.{Read, ok, refused, Reader, next, ◌>>=◌, ◌>>◌, give, here, refuse, at_most, run, many}
 use Rattle.format.specs.ReadFields.{field, content, string}
-use Rattle.format.specs.ReadChunk.{counted, countedUpTo, constant, upvalue, anchor, local, forest, body, function, main}
-use Rattle.format.proofs.Exact.{Exact, never, exact-then, exact-place, exact-here, exact-atMost, exact-run, exact-many}
-use Rattle.format.proofs.ExactFields.{exact-field, exact-number, exact-string}
-use Rattle.format.proofs.ExactHeader.{exact-header}
-use Rattle.format.proofs.ExactChunk.{exact-countedUpTo, exact-counted, exact-constant, exact-upvalue, exact-anchor, exact-local, exact-refuse, exact-forest, exact-function}
-use Rattle.format.proofs.Every.{every-many, every-run, all_append}
+use Rattle.format.specs.ReadChunk.{counted, counted_up_to, constant, upvalue, anchor, local, forest, body, function, main}
+use Rattle.format.proofs.Exact.{Exact, never, exact_then, exact_place, exact_here, exact_at_most, exact_run, exact_many}
+use Rattle.format.proofs.ExactFields.{exact_field, exact_number, exact_string}
+use Rattle.format.proofs.ExactHeader.{exact_header}
+use Rattle.format.proofs.ExactChunk.{exact_counted_up_to, exact_counted, exact_constant, exact_upvalue, exact_anchor, exact_local, exact_refuse, exact_forest, exact_function}
+use Rattle.format.proofs.Every.{every_many, every_run, all_append}
 use Rattle.format.proofs.Every as every
 use Rattle.format.proofs.Left.{left}
-use Rattle.format.proofs.Steps.{run-was}
+use Rattle.format.proofs.Steps.{run_was}
 
 pub record Found {A : Type 0} (s : Bytes) (r : Reader A) (at : ℕ) (x : A) : Type 0 where
   pub to : ℕ
@@ -55,9 +55,9 @@ at-refuse = record { holds = λ e. absurd (never e) }
 pub at_here : {B : Type 0} {s : Bytes} {at : ℕ} {f : ℕ → Reader B} {P : ℕ → B → Type 0} → ((x : ℕ) → AtPlace s at (f x) (λ to y. x ≡ at → P to y)) → AtPlace s at (here >>= f) P
 at_here {at} two = record { holds = λ e. (two at).holds e refl }
 
-pub at-then : {A B : Type 0} {s : Bytes} {at : ℕ} {r : Reader A} {F : Form A} {Q : ℕ → A → Type 0} {f : A → Reader B} {P : ℕ → B → Type 0}
+pub at_then : {A B : Type 0} {s : Bytes} {at : ℕ} {r : Reader A} {F : Form A} {Q : ℕ → A → Type 0} {f : A → Reader B} {P : ℕ → B → Type 0}
     → Exact r F → AtPlace s at r Q → ((x : A) (to : ℕ) → Q to x → AtPlace s to (f x) P) → AtPlace s at (r >>= f) P
-at-then {A} {s} {at} {r} {Q} {f} {P} exact one two = record { holds = λ e. go (r at (drop at s)) refl e }
+at_then {A} {s} {at} {r} {Q} {f} {P} exact one two = record { holds = λ e. go (r at (drop at s)) refl e }
   where
     go : {y : _} {to : ℕ} {rest : Bytes} (o : Read A) → r at (drop at s) ≡ o → next o f ≡ ok y to rest → P to y
     go (ok x mid t) p e = (two x mid (one.holds p)).holds (rw (left exact s at p) at e)
@@ -78,7 +78,7 @@ StandsIf s (some t) = Stands s t
 at-bytes : {s : Bytes} {at : ℕ} (n : ℕ) → AtPlace s at (run n) (λ to b. (place : ℕ) → place ≡ at → Stands s (record { place = place; bytes = b }))
 at-bytes {s} {at} n = record {
   holds = λ {x} e place p.
-      let was = run-was n at (drop at s) e in
+      let was = run_was n at (drop at s) e in
       let size : length x ≡ n = ap length (sym was.1) ∙ length-take-le n (drop at s) was.0 in
       record { inside = rw (size, p) (omega (arith, was.0, length-drop at s)); there = rw (size, p) was.1 };
 }
@@ -86,13 +86,13 @@ at-bytes {s} {at} n = record {
 at-content : {s : Bytes} {at : ℕ} (limit first size : ℕ) → AtPlace s at (content limit first size) (λ to t. StandsIf s t)
 at-content limit first zero = at_give tt
 at-content limit first (suc n) =
-    at-then (exact-atMost n limit (StringBytes first)) any λ _ _ _.
+    at_then (exact_at_most n limit (StringBytes first)) any λ _ _ _.
     at_here λ place.
-    at-then (exact-run n) (at-bytes n) λ bytes _ stands.
+    at_then (exact_run n) (at-bytes n) λ bytes _ stands.
     at_give λ p. stands place p
 
 pub at-string : {s : Bytes} {at : ℕ} (limit : ℕ) → AtPlace s at (string limit) (λ to t. StandsIf s t)
-at-string {s} {at} limit = record { holds = λ e. (at-then {s = s} {at = at} exact-number any λ size _ _. at-content limit at size).holds e }
+at-string {s} {at} limit = record { holds = λ e. (at_then {s = s} {at = at} exact_number any λ size _ _. at-content limit at size).holds e }
 
 inherited : (s : Bytes) (spelt parent : Option LuaString) → StandsIf s spelt → StandsIf s parent → StandsIf s (inherit spelt parent)
 inherited s none parent h k = k
@@ -105,7 +105,7 @@ ListFound s r l = Found s (many (length l.items) r) l.place l.items
 
 -- as many items as the count says
 items-length : {A : Type 0} {r : Reader A} {F : Form A} → Exact r F → (n at : ℕ) (s : Bytes) {xs : List A} {to : ℕ} {rest : Bytes} → many n r at s ≡ ok xs to rest → length xs ≡ n
-items-length one n at s e = ((every-many n every.any).holds _ _ _ ((exact-many n one).sound {at = at} {s = s} e).spelt).0
+items-length one n at s e = ((every_many n every.any).holds _ _ _ ((exact_many n one).sound {at = at} {s = s} e).spelt).0
 
 at-items : {A : Type 0} {r : Reader A} {F : Form A} {s : Bytes} {at : ℕ} → Exact r F → (n : ℕ) → AtPlace s at (many n r) (λ to xs. Found s (many (length xs) r) at xs)
 at-items {s} {at} one n = record { holds = λ {to} {rest} e. record { to = to; rest = rest; is = rw (items-length one n at (drop at s) e) e } }
@@ -113,24 +113,24 @@ at-items {s} {at} one n = record { holds = λ {to} {rest} e. record { to = to; r
 at-run : {s : Bytes} {at : ℕ} (n : ℕ) → AtPlace s at (run n) (λ to b. Found s (run (length b)) at b)
 at-run {s} {at} n = record {
   holds = λ {x} {to} {rest} e.
-      let size : length x ≡ n = (every-run n).holds at _ _ ((exact-run n).sound {at = at} {s = drop at s} e).spelt in
+      let size : length x ≡ n = (every_run n).holds at _ _ ((exact_run n).sound {at = at} {s = drop at s} e).spelt in
       record { to = to; rest = rest; is = rw size e };
 }
 
 at-counted : {A : Type 0} {r : Reader A} {F : Form A} {s : Bytes} {at : ℕ} → Exact r F → AtPlace s at (counted r) (λ to l. ListFound s r l)
 at-counted one =
-    at-then exact-number any λ n _ _.
+    at_then exact_number any λ n _ _.
     at_here λ place.
-    at-then (exact-many n one) (at-items one n) λ items _ found.
+    at_then (exact_many n one) (at-items one n) λ items _ found.
     at_give λ p. moved p found
 
-at-countedUpTo : {A : Type 0} {r : Reader A} {F : Form A} {s : Bytes} {at : ℕ} (limit : ℕ) (refusal : ℕ → Refusal) → Exact r F → AtPlace s at (countedUpTo limit refusal r) (λ to l. ListFound s r l)
-at-countedUpTo limit refusal one =
+at-counted_up_to : {A : Type 0} {r : Reader A} {F : Form A} {s : Bytes} {at : ℕ} (limit : ℕ) (refusal : ℕ → Refusal) → Exact r F → AtPlace s at (counted_up_to limit refusal r) (λ to l. ListFound s r l)
+at-counted_up_to limit refusal one =
     at_here λ first.
-    at-then exact-number any λ n _ _.
-    at-then (exact-atMost n limit (refusal first)) any λ _ _ _.
+    at_then exact_number any λ n _ _.
+    at_then (exact_at_most n limit (refusal first)) any λ _ _ _.
     at_here λ place.
-    at-then (exact-many n one) (at-items one n) λ items _ found.
+    at_then (exact_many n one) (at-items one n) λ items _ found.
     at_give λ p _. moved p found
 
 -- ## Functions
@@ -139,10 +139,10 @@ pub record Located (L : ResourceLimits) (s : Bytes) (p : Prototype) : Type 0 whe
   pub instructions : Found s (many (length p.instructions) (field 4)) p.places.instructions p.instructions
   pub constants : Found s (many (length p.constants) (constant L.max_string_bytes)) p.places.constants p.constants
   pub upvalues : Found s (many (length p.upvalues) upvalue) p.places.upvalues p.upvalues
-  pub line-info : Found s (run (length p.line-info)) p.places.line-info p.line-info
-  pub abs-line-info : Found s (many (length p.abs-line-info) anchor) p.places.abs-line-info p.abs-line-info
-  pub loc-vars : Found s (many (length p.loc-vars) (local L.max_string_bytes)) p.places.loc-vars p.loc-vars
-  pub upvalue-names : Found s (many (length p.upvalue-names) (string L.max_string_bytes)) p.places.upvalue-names p.upvalue-names
+  pub line_info_lem : Found s (run (length p.line_info_lem)) p.places.line_info_lem p.line_info_lem
+  pub abs_line_info : Found s (many (length p.abs_line_info) anchor) p.places.abs_line_info p.abs_line_info
+  pub loc_vars : Found s (many (length p.loc_vars) (local L.max_string_bytes)) p.places.loc_vars p.loc_vars
+  pub upvalue_names_lem : Found s (many (length p.upvalue_names_lem) (string L.max_string_bytes)) p.places.upvalue_names_lem p.upvalue_names_lem
 
 module _ (L : ResourceLimits) (s : Bytes) where
   abbrev There : ℕ → List Prototype → Type 0
@@ -152,8 +152,8 @@ module _ (L : ResourceLimits) (s : Bytes) where
       → ((w : Where) (at : ℕ) → StandsIf s w.source → AtPlace s at (r w) There) → StandsIf s w.source → AtPlace s at (forest n r w) There
   at-forest zero w exact one source = at_give tt
   at-forest (suc n) w exact one source =
-      at-then (exact w) (one w _ source) λ ps _ h.
-      at-then (exact-forest n (after ps w) exact) (at-forest n (after ps w) exact one source) λ more _ k.
+      at_then (exact w) (one w _ source) λ ps _ h.
+      at_then (exact_forest n (after ps w) exact) (at-forest n (after ps w) exact one source) λ more _ k.
       at_give (all_append (Located L s) ps more h k)
 
   at_body : {r : Where → Reader (List Prototype)} {F : Where → Form (List Prototype)} → ((w : Where) → Exact (r w) (F w))
@@ -161,51 +161,51 @@ module _ (L : ResourceLimits) (s : Bytes) where
   unfolding body
   at_body exact one w at source =
       at_here λ start.
-      at-then (exact-string L.max_string_bytes) (at-string L.max_string_bytes) λ spelt _ stands.
-      at-then exact-number any λ line_defined _ _.
-      at-then exact-number any λ last-line-defined _ _.
-      at-then (exact-field 1) any λ numparams _ _.
-      at-then (exact-field 1) any λ is-vararg _ _.
-      at-then (exact-field 1) any λ maxstacksize _ _.
+      at_then (exact_string L.max_string_bytes) (at-string L.max_string_bytes) λ spelt _ stands.
+      at_then exact_number any λ line_defined _ _.
+      at_then exact_number any λ last-line_defined _ _.
+      at_then (exact_field 1) any λ numparams _ _.
+      at_then (exact_field 1) any λ is_vararg _ _.
+      at_then (exact_field 1) any λ maxstacksize _ _.
       at_here λ first.
-      at-then exact-number any λ size _ _.
-      at-then (exact-atMost size L.max_instructions_per_proto (Instructions first)) any λ _ _ _.
-      at-then (exact-atMost (w.instructions + size) L.max_total_instructions (TotalInstructions first)) any λ _ _ _.
+      at_then exact_number any λ size _ _.
+      at_then (exact_at_most size L.max_instructions_per_proto (Instructions first)) any λ _ _ _.
+      at_then (exact_at_most (w.instructions + size) L.max_total_instructions (TotalInstructions first)) any λ _ _ _.
       at_here λ instructions-at.
-      at-then (exact-many size (exact-field 4)) (at-items (exact-field 4) size) λ instructions _ h1.
-      at-then (exact-countedUpTo L.max_constants_per_proto Constants (exact-constant L.max_string_bytes)) (at-countedUpTo _ Constants (exact-constant _)) λ constants _ h2.
-      at-then (exact-countedUpTo L.max_upvalues_per_proto Upvalues exact-upvalue) (at-countedUpTo _ Upvalues exact-upvalue) λ upvalues _ h3.
+      at_then (exact_many size (exact_field 4)) (at-items (exact_field 4) size) λ instructions _ h1.
+      at_then (exact_counted_up_to L.max_constants_per_proto Constants (exact_constant L.max_string_bytes)) (at-counted_up_to _ Constants (exact_constant _)) λ constants _ h2.
+      at_then (exact_counted_up_to L.max_upvalues_per_proto Upvalues exact_upvalue) (at-counted_up_to _ Upvalues exact_upvalue) λ upvalues _ h3.
       at_here λ first.
-      at-then exact-number any λ protos _ _.
-      at-then (exact-atMost protos L.max_total_prototypes (Prototypes first)) any λ _ _ _.
+      at_then exact_number any λ protos _ _.
+      at_then (exact_at_most protos L.max_total_prototypes (Prototypes first)) any λ _ _ _.
       at_here λ protos-at.
-      at-then (exact-forest protos (within w (inherit spelt w.source) (length instructions)) exact) (at-forest protos (within w (inherit spelt w.source) (length instructions)) exact one (inherited s spelt w.source stands source)) λ nested _ rest.
-      at-then exact-number any λ line-info-size _ _.
+      at_then (exact_forest protos (within w (inherit spelt w.source) (length instructions)) exact) (at-forest protos (within w (inherit spelt w.source) (length instructions)) exact one (inherited s spelt w.source stands source)) λ nested _ rest.
+      at_then exact_number any λ line-info-size _ _.
       at_here λ line-info-at.
-      at-then (exact-run line-info-size) (at-run line-info-size) λ line-info _ h4.
-      at-then (exact-counted exact-anchor) (at-counted exact-anchor) λ abs-line-info _ h5.
-      at-then (exact-counted (exact-local L.max_string_bytes)) (at-counted (exact-local _)) λ loc-vars _ h6.
-      at-then (exact-counted (exact-string L.max_string_bytes)) (at-counted (exact-string _)) λ upvalue-names _ h7.
+      at_then (exact_run line-info-size) (at-run line-info-size) λ line_info_lem _ h4.
+      at_then (exact_counted exact_anchor) (at-counted exact_anchor) λ abs_line_info _ h5.
+      at_then (exact_counted (exact_local L.max_string_bytes)) (at-counted (exact_local _)) λ loc_vars _ h6.
+      at_then (exact_counted (exact_string L.max_string_bytes)) (at-counted (exact_string _)) λ upvalue_names_lem _ h7.
       at_here λ end.
       at_give λ _ p4 _ _ p1 _ _.
-      (record { source_name = inherited s spelt w.source stands source; instructions = moved p1 h1; constants = h2; upvalues = h3; line-info = moved p4 h4; abs-line-info = h5; loc-vars = h6; upvalue-names = h7 }, rest)
+      (record { source_name = inherited s spelt w.source stands source; instructions = moved p1 h1; constants = h2; upvalues = h3; line_info_lem = moved p4 h4; abs_line_info = h5; loc_vars = h6; upvalue_names_lem = h7 }, rest)
 
   at-function : (left : ℕ) (w : Where) (at : ℕ) → StandsIf s w.source → AtPlace s at (function L left w) There
   unfolding function
-  at-function zero w at source = at_body (λ w. exact-place λ place. exact-refuse _) (λ w at _. at_here λ place. at-refuse) w at source
+  at-function zero w at source = at_body (λ w. exact_place λ place. exact_refuse _) (λ w at _. at_here λ place. at-refuse) w at source
   at-function (suc left) w at source =
-      at_body (λ w. exact-place λ place. exact-then (exact-atMost w.number L.max_total_prototypes (TotalPrototypes place)) λ _. exact-function L left w)
-      (λ w at source. at-entering left w at (λ to. at-function left w to source)) w at source
+      at_body (λ w. exact_place λ place. exact_then (exact_at_most w.number L.max_total_prototypes (TotalPrototypes place)) λ _. exact_function L left w)
+      (λ w at source. at_entering left w at (λ to. at-function left w to source)) w at source
     where
-      at-entering : (left : ℕ) (w : Where) (at : ℕ) → ((to : ℕ) → AtPlace s to (function L left w) There) → AtPlace s at (here >>= λ place. at_most w.number L.max_total_prototypes (TotalPrototypes place) >> function L left w) There
-      at-entering left w at inner = record { holds = λ e. (at-then (exact-atMost w.number L.max_total_prototypes (TotalPrototypes at)) any λ _ to _. inner to).holds e }
+      at_entering : (left : ℕ) (w : Where) (at : ℕ) → ((to : ℕ) → AtPlace s to (function L left w) There) → AtPlace s at (here >>= λ place. at_most w.number L.max_total_prototypes (TotalPrototypes place) >> function L left w) There
+      at_entering left w at inner = record { holds = λ e. (at_then (exact_at_most w.number L.max_total_prototypes (TotalPrototypes at)) any λ _ to _. inner to).holds e }
 
   at-main : AtPlace s 0 (main L) (λ to m. All (Located L s) m.functions)
   at-main =
-      at-then exact-header any λ headed _ _.
-      at-then (exact-field 1) any λ forgotten _ _.
-      at-then (exact-function L L.max_nesting_depth _) (at-function L.max_nesting_depth _ _ tt) λ functions _ h.
+      at_then exact_header any λ headed _ _.
+      at_then (exact_field 1) any λ forgotten _ _.
+      at_then (exact_function L L.max_nesting_depth _) (at-function L.max_nesting_depth _ _ tt) λ functions _ h.
       at_give h
 
-  pub all-located : {m : Loaded} {to : ℕ} {rest : Bytes} → main L 0 s ≡ ok m to rest → All (Located L s) m.functions
-  all-located e = at-main.holds e
+  pub all_located : {m : Loaded} {to : ℕ} {rest : Bytes} → main L 0 s ≡ ok m to rest → All (Located L s) m.functions
+  all_located e = at-main.holds e

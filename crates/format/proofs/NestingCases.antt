@@ -1,5 +1,5 @@
 -- Chains of functions, each within the one before, at the ceiling of nesting and beside it (02, item 5): how deep, under which limit, and what becomes of it; one theorem over the list, which antt computes.
---     chains-hold      read with so many functions, or the refusal: 21 above the ceiling, whatever the chunk; 19 where the first function begins that is too deep
+--     chains_hold      read with so many functions, or the refusal: 21 above the ceiling, whatever the chunk; 19 where the first function begins that is too deep
 -- Told apart: a ceiling of 13 or of 15, a depth counted from 1, the place of the count or of the function around.
 -- Assumes nothing.
 use mathlib.Core.Path.{◌≡◌, refl}
@@ -68,6 +68,6 @@ chains =
     ∷ (14, 2 ^ 64 - 1, refuses LimitAboveCeiling)
     ∷ []
 
-chains-hold : map (λ c. result (read (limits c.1) (chain c.0))) chains ≡ map (λ c. c.2) chains
+chains_hold : map (λ c. result (read (limits c.1) (chain c.0))) chains ≡ map (λ c. c.2) chains
 unfolding chains read body function
-chains-hold = refl
+chains_hold = refl

@@ -156,10 +156,10 @@ cases =
     ∷ []
 
 -- number and place of the refusal that every call begins with, if any
-abbrev pub refusedWith : Outcome → Option Report
-refusedWith (shown r) = none
-refusedWith (refusal q) = some (reported q)
+abbrev pub refused_with : Outcome → Option Report
+refused_with (shown r) = none
+refused_with (refusal q) = some (reported q)
 
-cases-hold : map (λ (c : Case). refusedWith (read c.under c.input)) cases ≡ map (λ (c : Case). c.result) cases
+cases_hold : map (λ (c : Case). refused_with (read c.under c.input)) cases ≡ map (λ (c : Case). c.result) cases
 unfolding cases read body function main nested one rest leaf small words chain large limits wide
-cases-hold = refl
+cases_hold = refl

@@ -1,6 +1,6 @@
 -- 01's list of refusals ('Who can cause a refusal'), with those that 02 adds: each with its number and, where it has one, its place; the two warnings with their codes. One theorem over each list, which antt computes.
---     refusals-hold    told apart: two refusals with one number (24 given as 23), two numbers exchanged, a place left out, a place where 01 gives none (2, 3 and 21 to 30)
---     warnings-hold    told apart: the two codes exchanged, a place left out
+--     refusals_hold    told apart: two refusals with one number (24 given as 23), two numbers exchanged, a place left out, a place where 01 gives none (2, 3 and 21 to 30)
+--     warnings_hold    told apart: the two codes exchanged, a place left out
 -- Assumes nothing.
 use mathlib.Core.Path.{◌≡◌, refl}
 use mathlib.Core.List.{List, [], ◌∷◌, map}
@@ -83,9 +83,9 @@ refusals place =
     ∷ (Format place, at place 31) ∷ (IntOverflow place, at place 32) ∷ (NullString place, at place 33)
     ∷ []
 
-refusals-hold : (place : ℕ) → map (λ c. reported c.0) (refusals place) ≡ map (λ c. c.1) (refusals place)
+refusals_hold : (place : ℕ) → map (λ c. reported c.0) (refusals place) ≡ map (λ c. c.1) (refusals place)
 unfolding refusals
-refusals-hold place = refl
+refusals_hold place = refl
 
 -- ## Warnings
 warnings : ℕ → List (Warning × WarningReport)
@@ -94,6 +94,6 @@ warnings place =
     ∷ (TrailingBytes place, record { code = L54Chunk001; place = place })
     ∷ []
 
-warnings-hold : (place : ℕ) → map (λ c. warned c.0) (warnings place) ≡ map (λ c. c.1) (warnings place)
+warnings_hold : (place : ℕ) → map (λ c. warned c.0) (warnings place) ≡ map (λ c. c.1) (warnings place)
 unfolding warnings
-warnings-hold place = refl
+warnings_hold place = refl

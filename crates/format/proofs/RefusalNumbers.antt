@@ -1,7 +1,7 @@
 -- 01's and 02's numbers: each refusal has one of its own, from 1 to 33, and with its place it tells the refusal.
---     told-apart       no two refusals share number and place
+--     told_apart       no two refusals share number and place
 --     numbers          a refusal's number is 1 to 33
---     places-exactly   all but 2, 3 and 21 to 30 have a place
+--     places_exactly   all but 2, 3 and 21 to 30 have a place
 -- Refused by these: 24 reported as 23 (`told-apart`), a refusal of number 0 or 34 (`numbers`), a place left out (`places-exactly`).
 -- Assumes nothing.
 use mathlib.Core.Path.{◌≡◌, refl, sym, ◌∙◌, ap}
@@ -17,8 +17,8 @@ use Rattle.format.specs.declared.refusal.Report.{Report}
 use Rattle.format.specs.Refusals.{reported}
 
 -- ## The refusal of a number and a place
-abbrev withPlace : ℕ → ℕ → Refusal
-withPlace n at =
+abbrev with_place : ℕ → ℕ → Refusal
+with_place n at =
     cond (eqb n 1) (q.Truncated at) (cond (eqb n 4) (q.Signature at) (cond (eqb n 5) (q.Version at) (cond (eqb n 6) (q.LuacData at)
     (cond (eqb n 7) (q.InstructionSize at) (cond (eqb n 8) (q.LuaIntegerSize at) (cond (eqb n 9) (q.LuaNumberSize at) (cond (eqb n 10) (q.LuacInt at)
     (cond (eqb n 11) (q.LuacNum at) (cond (eqb n 12) (q.ConstantTag at) (cond (eqb n 13) (q.StringBytes at) (cond (eqb n 14) (q.Instructions at)
@@ -26,26 +26,26 @@ withPlace n at =
     (cond (eqb n 19) (q.NestingDepth at) (cond (eqb n 20) (q.TotalPrototypes at) (cond (eqb n 31) (q.Format at) (cond (eqb n 32) (q.IntOverflow at)
     (q.NullString at))))))))))))))))))))
 
-abbrev withoutPlace : ℕ → Refusal
-withoutPlace n =
+abbrev without_place : ℕ → Refusal
+without_place n =
     cond (eqb n 2) q.Overflow (cond (eqb n 3) q.VarintOverflow (cond (eqb n 21) q.LimitAboveCeiling (cond (eqb n 22) q.InputBytes (cond (eqb n 23) q.NoFunction
     (cond (eqb n 24) q.NoEntry (cond (eqb n 25) q.LineTooLarge (cond (eqb n 26) q.LentSpace (cond (eqb n 27) q.FieldRange (cond (eqb n 28) q.NoOpcode
     (cond (eqb n 29) q.AnchorOrder q.PcOrder))))))))))
 
-abbrev refusalOf : ℕ → Place → Refusal
-refusalOf n (At at) = withPlace n at
-refusalOf n None = withoutPlace n
+abbrev refusal_of : ℕ → Place → Refusal
+refusal_of n (At at) = with_place n at
+refusal_of n None = without_place n
 
-abbrev pub hasPlace : Place → Bool
-hasPlace (At at) = true
-hasPlace None = false
+abbrev pub has_place : Place → Bool
+has_place (At at) = true
+has_place None = false
 
 -- ## The table
 record Row (r : Refusal) : Type 0 where
-  back : refusalOf (reported r).number (reported r).place ≡ r
+  back : refusal_of (reported r).number (reported r).place ≡ r
   above : leb 1 (reported r).number ≡ true
   below : leb (reported r).number 33 ≡ true
-  placed : hasPlace (reported r).place ≡ cond (eqb (reported r).number 2 || eqb (reported r).number 3) false (leb (reported r).number 20 || leb 31 (reported r).number)
+  placed : has_place (reported r).place ≡ cond (eqb (reported r).number 2 || eqb (reported r).number 3) false (leb (reported r).number 20 || leb 31 (reported r).number)
 
 row : (r : Refusal) → Row r
 row (q.Truncated at) = record { back = refl; above = refl; below = refl; placed = refl }
@@ -83,11 +83,11 @@ row (q.IntOverflow at) = record { back = refl; above = refl; below = refl; place
 row (q.NullString at) = record { back = refl; above = refl; below = refl; placed = refl }
 
 -- ## What it says
-pub told-apart : (p r : Refusal) → reported p ≡ reported r → p ≡ r
-told-apart p r e = sym (row p).back ∙ ap (λ (x : Report). refusalOf x.number x.place) e ∙ (row r).back
+pub told_apart : (p r : Refusal) → reported p ≡ reported r → p ≡ r
+told_apart p r e = sym (row p).back ∙ ap (λ (x : Report). refusal_of x.number x.place) e ∙ (row r).back
 
 pub numbers : (r : Refusal) → (1 ≤ (reported r).number) × ((reported r).number ≤ 33)
 numbers r = (leb-true 1 (reported r).number (row r).above, leb-true (reported r).number 33 (row r).below)
 
-pub places-exactly : (r : Refusal) → hasPlace (reported r).place ≡ cond (eqb (reported r).number 2 || eqb (reported r).number 3) false (leb (reported r).number 20 || leb 31 (reported r).number)
-places-exactly r = (row r).placed
+pub places_exactly : (r : Refusal) → has_place (reported r).place ≡ cond (eqb (reported r).number 2 || eqb (reported r).number 3) false (leb (reported r).number 20 || leb 31 (reported r).number)
+places_exactly r = (row r).placed

@@ -19,6 +19,6 @@ numbers =
     ∷ (2 ^ 64 - 129, 0x01 ∷ replicate 7 0x7f ++ 0x7e ∷ 0xff ∷ [])
     ∷ []
 
-numbers-hold : map (λ c. shortest c.0) numbers ≡ map (λ c. c.1) numbers
+numbers_hold : map (λ c. shortest c.0) numbers ≡ map (λ c. c.1) numbers
 unfolding numbers shortest
-numbers-hold = refl
+numbers_hold = refl

@@ -25,18 +25,18 @@ module _ (n at : ℕ) (s : Bytes) where
   pub run_short : length s < n → run n at s ≡ refused (short n at)
   run_short h = rw (lt-leb n (length s) h)
 
-  pub run-enough : n ≤ length s → run n at s ≡ ok (take n s) (at + n) (drop n s)
-  run-enough h = rw (le-leb n (length s) h)
+  pub run_enough : n ≤ length s → run n at s ≡ ok (take n s) (at + n) (drop n s)
+  run_enough h = rw (le-leb n (length s) h)
 
   pub field-short : length s < n → field n at s ≡ refused (short n at)
   field-short h = rw (lt-leb n (length s) h)
 
-  pub field-enough : n ≤ length s → field n at s ≡ ok (little (take n s)) (at + n) (drop n s)
-  field-enough h = rw (le-leb n (length s) h)
+  pub field_enough : n ≤ length s → field n at s ≡ ok (little (take n s)) (at + n) (drop n s)
+  field_enough h = rw (le-leb n (length s) h)
 
 -- what was read is there
-pub run-was : (n at : ℕ) (s : Bytes) {b : Bytes} {to : ℕ} {rest : Bytes} → run n at s ≡ ok b to rest → (n ≤ length s) × (take n s ≡ b)
-run-was n at s {b} {to} {rest} e = go (leb n (length s)) refl e
+pub run_was : (n at : ℕ) (s : Bytes) {b : Bytes} {to : ℕ} {rest : Bytes} → run n at s ≡ ok b to rest → (n ≤ length s) × (take n s ≡ b)
+run_was n at s {b} {to} {rest} e = go (leb n (length s)) refl e
   where
     go : (t : Bool) → leb n (length s) ≡ t → piece t n at s ≡ ok b to rest → (n ≤ length s) × (take n s ≡ b)
     go true t e = (leb-true n (length s) t, cc)
@@ -54,8 +54,8 @@ little-append (x ∷ xs) ys =
     let f : 256 ^ suc (length xs) * little ys ≡ 256 * (256 ^ length xs * little ys) = rw (pow-suc 256 (length xs), mul_comm (256 ^ length xs) 256) (mul_assoc 256 (256 ^ length xs) (little ys)) in
     rw f (omega arith)
 
-pub little-split : (m n at : ℕ) (s : Bytes) → at + m ≤ length s → little (take (m + n) (drop at s)) ≡ little (take m (drop at s)) + 256 ^ m * little (take n (drop (at + m) s))
-little-split m n at s h =
+pub little_split : (m n at : ℕ) (s : Bytes) → at + m ≤ length s → little (take (m + n) (drop at s)) ≡ little (take m (drop at s)) + 256 ^ m * little (take n (drop (at + m) s))
+little_split m n at s h =
     let size : length (take m (drop at s)) ≡ m = length-take-le m (drop at s) (rw length-drop (omega arith)) in
     ap little (take-add m n (drop at s)) ∙ little-append (take m (drop at s)) (take n (drop m (drop at s))) ∙ rw (size, drop-drop)
 
@@ -65,8 +65,8 @@ module _ (s : Bytes) (i high : ℕ) where
   groups-short h = rw (drop_of_length-le s h)
 
   module _ (h : i < length s) where
-    pub groups-overflow : 2 ^ 57 - 1 ≤ high → groups high i (drop i s) ≡ refused VarintOverflow
-    groups-overflow k = rw (drop-cons s i 0 h, le-ltb high (2 ^ 57 - 1) k)
+    pub groups_overflow : 2 ^ 57 - 1 ≤ high → groups high i (drop i s) ≡ refused VarintOverflow
+    groups_overflow k = rw (drop-cons s i 0 h, le-ltb high (2 ^ 57 - 1) k)
 
     -- in the code's terms: x is the byte at i
     module _ (x : ℕ) (byte : x ≡ get_or s i 0) (k : high < 2 ^ 57 - 1) where

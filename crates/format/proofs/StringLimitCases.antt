@@ -1,7 +1,7 @@
 -- Where the limits of strings and of instructions in all are tested (01, 'Limits'): every string of a function, not its source alone; and every function before, also those that nest in one before. One theorem over each list, which antt computes.
---     above-refused    a string of two bytes as source, short and long constant, local name and upvalue name: under a limit of 1 refusal 13 at its size
+--     above_refused    a string of two bytes as source, short and long constant, local name and upvalue name: under a limit of 1 refusal 13 at its size
 --     within-read      under a limit of 2 each is read
---     totals-hold      main, in it a function with one in it that has a word, and behind them one with a word: under a limit of 1 word in all refusal 15 at the last one's count, under 2 it is read
+--     totals_hold      main, in it a function with one in it that has a word, and behind them one with a word: under a limit of 1 word in all refusal 15 at the last one's count, under 2 it is read
 -- Told apart: the limit not tested, or another one tested, for one of these strings; instructions counted of main, of functions around and of those side by side alone.
 -- Assumes nothing.
 use mathlib.Core.Path.{◌≡◌, refl}
@@ -60,9 +60,9 @@ strings =
     ∷ ((0x80 ∷ plain 7) ++ (0x81 ∷ two), 46)
     ∷ []
 
-above-refused : map (λ c. result (read (limits 1 9) (header ++ 0 ∷ c.0))) strings ≡ map (λ c. refuses (StringBytes c.1)) strings
+above_refused : map (λ c. result (read (limits 1 9) (header ++ 0 ∷ c.0))) strings ≡ map (λ c. refuses (StringBytes c.1)) strings
 unfolding strings read body function
-above-refused = refl
+above_refused = refl
 
 within-read : map (λ c. result (read (limits 2 9) (header ++ 0 ∷ c.0))) strings ≡ replicate 5 (reads 1)
 unfolding strings read body function
@@ -77,6 +77,6 @@ word = (0x80 ∷ plain 0) ++ (0x81 ∷ 0 ∷ 0 ∷ 0 ∷ 0 ∷ replicate 7 0x80)
 nested : Bytes
 nested = header ++ (0 ∷ 0x80 ∷ plain 3) ++ (0x82 ∷ ((0x80 ∷ plain 3) ++ (0x81 ∷ word) ++ replicate 4 0x80)) ++ word ++ replicate 4 0x80
 
-totals-hold : result (read (limits 9 0) nested) ∷ result (read (limits 9 1) nested) ∷ result (read (limits 9 2) nested) ∷ [] ≡ refuses (TotalInstructions 58) ∷ refuses (TotalInstructions 80) ∷ reads 4 ∷ []
+totals_hold : result (read (limits 9 0) nested) ∷ result (read (limits 9 1) nested) ∷ result (read (limits 9 2) nested) ∷ [] ≡ refuses (TotalInstructions 58) ∷ refuses (TotalInstructions 80) ∷ reads 4 ∷ []
 unfolding nested read body function
-totals-hold = refl
+totals_hold = refl

@@ -5,8 +5,8 @@ use mathlib.Core.List.{List, [], ◌∷◌, ◌++◌}
 use Prim.Native.Nat.{◌+◌}
 use native.Mathlib.Omega.{arith}
 use Rattle.format.specs.Reading.{Prototype}
-use Rattle.format.specs.GrammarChunk.{instructionsOf}
+use Rattle.format.specs.GrammarChunk.{instructions_of}
 
-pub instructions-append : (ps qs : List Prototype) → instructionsOf (ps ++ qs) ≡ instructionsOf ps + instructionsOf qs
+pub instructions-append : (ps qs : List Prototype) → instructions_of (ps ++ qs) ≡ instructions_of ps + instructions_of qs
 instructions-append [] qs = omega arith
 instructions-append (p ∷ ps) qs = rw (instructions-append ps qs) (omega arith)

@@ -17,74 +17,74 @@ use Rattle.format.proofs.Build.{put, skip}
 pub record Wider {A : Type 0} (F G : Form A) : Type 0 where
   pub widens : {at : ℕ} {bytes : Bytes} {x : A} → F at bytes x → G at bytes x
 
-pub same-wider : {A : Type 0} {F : Form A} → Wider F F
-same-wider = record { widens = λ d. d }
+pub same_wider : {A : Type 0} {F : Form A} → Wider F F
+same_wider = record { widens = λ d. d }
 
-pub none-wider : {A : Type 0} {F : Form A} → Wider Nothing F
-none-wider = record { widens = λ d. absurd d }
+pub none_wider : {A : Type 0} {F : Form A} → Wider Nothing F
+none_wider = record { widens = λ d. absurd d }
 
-given-wider : {P Q : Type 0} → (P → Q) → Wider (Given P) (Given Q)
-given-wider f = record { widens = λ d. (d.0, f d.1) }
+given_wider : {P Q : Type 0} → (P → Q) → Wider (Given P) (Given Q)
+given_wider f = record { widens = λ d. (d.0, f d.1) }
 
-pub atMost-wider : (k : ℕ) {m n : ℕ} → m ≤ n → Wider (Given (k ≤ m)) (Given (k ≤ n))
-atMost-wider k le = given-wider λ h. omega arith
+pub at_most_wider : (k : ℕ) {m n : ℕ} → m ≤ n → Wider (Given (k ≤ m)) (Given (k ≤ n))
+at_most_wider k le = given_wider λ h. omega arith
 
 module _ {A B : Type 0} {F F' : Form A} {G G' : A → Form B} where
-  pub then-wider : Wider F F' → ((x : A) → Wider (G x) (G' x)) → Wider (Then F G) (Then F' G')
-  then-wider one two = record {
+  pub then_wider : Wider F F' → ((x : A) → Wider (G x) (G' x)) → Wider (Then F G) (Then F' G')
+  then_wider one two = record {
     widens = λ d. record { value = d.value; front = d.front; back = d.back; whole = d.whole; one = one.widens d.one; two = (two d.value).widens d.two };
   }
 
 -- a part that no limit tests
 pub behind : {A B : Type 0} {F : Form A} {G G' : A → Form B} → ((x : A) → Wider (G x) (G' x)) → Wider (Then F G) (Then F G')
-behind two = then-wider same-wider two
+behind two = then_wider same_wider two
 
 -- nothing changes behind the first part
 pub so : {A B : Type 0} {F F' : Form A} {G : A → Form B} → Wider F F' → Wider (Then F G) (Then F' G)
-so one = then-wider one λ _. same-wider
+so one = then_wider one λ _. same_wider
 
-pub many-wider : {A : Type 0} {F G : Form A} (n : ℕ) → Wider F G → Wider (Many n F) (Many n G)
-many-wider zero one = same-wider
-many-wider (suc n) one = then-wider one λ x. so (many-wider n one)
+pub many_wider : {A : Type 0} {F G : Form A} (n : ℕ) → Wider F G → Wider (Many n F) (Many n G)
+many_wider zero one = same_wider
+many_wider (suc n) one = then_wider one λ x. so (many_wider n one)
 
-pub when-wider : {A : Type 0} {F F' G G' : Form A} (b : Bool) → Wider F F' → Wider G G' → Wider (When b F G) (When b F' G')
-when-wider true one two = one
-when-wider false one two = two
+pub when_wider : {A : Type 0} {F F' G G' : Form A} (b : Bool) → Wider F F' → Wider G G' → Wider (When b F G) (When b F' G')
+when_wider true one two = one
+when_wider false one two = two
 
-pub counted-wider : {A : Type 0} {F G : Form A} → Wider F G → Wider (Counted F) (Counted G)
-counted-wider one = behind λ n. behind λ place. so (many-wider n one)
+pub counted_wider : {A : Type 0} {F G : Form A} → Wider F G → Wider (Counted F) (Counted G)
+counted_wider one = behind λ n. behind λ place. so (many_wider n one)
 
-pub upTo-wider : {A : Type 0} {F G : Form A} {m n : ℕ} → m ≤ n → Wider F G → Wider (CountedUpTo m F) (CountedUpTo n G)
-upTo-wider le one = behind λ k. then-wider (atMost-wider k le) λ _. behind λ place. so (many-wider k one)
+pub up_to_wider : {A : Type 0} {F G : Form A} {m n : ℕ} → m ≤ n → Wider F G → Wider (CountedUpTo m F) (CountedUpTo n G)
+up_to_wider le one = behind λ k. then_wider (at_most_wider k le) λ _. behind λ place. so (many_wider k one)
 
 -- ## Entries, under string limits
 module _ {m n : ℕ} (le : m ≤ n) where
-  content-wider : (size : ℕ) → Wider (Content m size) (Content n size)
-  content-wider zero = same-wider
-  content-wider (suc k) = so (atMost-wider k le)
+  content_wider : (size : ℕ) → Wider (Content m size) (Content n size)
+  content_wider zero = same_wider
+  content_wider (suc k) = so (at_most_wider k le)
 
-  pub string-wider : Wider (String m) (String n)
-  string-wider = behind content-wider
+  pub string_wider : Wider (String m) (String n)
+  string_wider = behind content_wider
 
-  always-wider : (instead : Bytes) → Wider (Always m instead) (Always n instead)
-  always-wider instead = so string-wider
+  always_wider : (instead : Bytes) → Wider (Always m instead) (Always n instead)
+  always_wider instead = so string_wider
 
-  tagged-wider : (tag : ℕ) → Wider (Tagged m tag) (Tagged n tag)
-  tagged-wider tag =
-      when-wider (eqb tag 0) same-wider
-      (when-wider (eqb tag 1) same-wider
-      (when-wider (eqb tag 17) same-wider
-      (when-wider (eqb tag 3) same-wider
-      (when-wider (eqb tag 19) same-wider
-      (when-wider (eqb tag 4) (so (always-wider []))
-      (when-wider (eqb tag 20) (so (always-wider []))
-      same-wider))))))
+  tagged_wider : (tag : ℕ) → Wider (Tagged m tag) (Tagged n tag)
+  tagged_wider tag =
+      when_wider (eqb tag 0) same_wider
+      (when_wider (eqb tag 1) same_wider
+      (when_wider (eqb tag 17) same_wider
+      (when_wider (eqb tag 3) same_wider
+      (when_wider (eqb tag 19) same_wider
+      (when_wider (eqb tag 4) (so (always_wider []))
+      (when_wider (eqb tag 20) (so (always_wider []))
+      same_wider))))))
 
-  pub constant-wider : Wider (Constant m) (Constant n)
-  constant-wider = behind tagged-wider
+  pub constant_wider : Wider (Constant m) (Constant n)
+  constant_wider = behind tagged_wider
 
-  pub local-wider : Wider (Local m) (Local n)
-  local-wider = so (always-wider (63 ∷ []))
+  pub local_wider : Wider (Local m) (Local n)
+  local_wider = so (always_wider (63 ∷ []))
 
 -- ## The same bytes in other groups
 pub joined : {A : Type 0} {F G H : Form A} → Wider F G → Wider G H → Wider F H

@@ -94,9 +94,9 @@ abbrev pub inherit : Option LuaString → Option LuaString → Option LuaString
 inherit none parent = parent
 inherit (some t) parent = some t
 
-abbrev pub instructionsOf : List Prototype → ℕ
-instructionsOf [] = 0
-instructionsOf (p ∷ ps) = length p.instructions + instructionsOf ps
+abbrev pub instructions_of : List Prototype → ℕ
+instructions_of [] = 0
+instructions_of (p ∷ ps) = length p.instructions + instructions_of ps
 
 -- where a function stands: its number, the instructions of all functions before it, its depth, its parent's number and source
 pub record Where : Type 0 where
@@ -108,7 +108,7 @@ pub record Where : Type 0 where
 
 -- where the next function stands, behind this one with all that nests in it
 abbrev pub after : List Prototype → Where → Where
-after ps w = record { number = w.number + length ps; instructions = w.instructions + instructionsOf ps; depth = w.depth; parent = w.parent; source = w.source }
+after ps w = record { number = w.number + length ps; instructions = w.instructions + instructions_of ps; depth = w.depth; parent = w.parent; source = w.source }
 
 -- where the first function stands that nests in w's, which has this source and so many instructions
 abbrev pub within : Where → Option LuaString → ℕ → Where
@@ -124,9 +124,9 @@ Forest (suc n) F w = do
 
 -- the function of its parts, in the order of their bytes, with where it ends: for the grammar, the reader and Lua's loader
 module _
-    (w : Where) (start : ℕ) (spelt : Option LuaString) (line_defined last-line-defined numparams is-vararg maxstacksize : ℕ)
+    (w : Where) (start : ℕ) (spelt : Option LuaString) (line_defined last-line_defined numparams is_vararg maxstacksize : ℕ)
     (instructions : Listed ℕ) (constants : Listed ConstantValue) (upvalues : Listed UpvalueDesc) (protos-at protos : ℕ)
-    (line-info : Listed ℕ) (abs-line-info : Listed AbsLineInfo) (loc-vars : Listed LocalVar) (upvalue-names : Listed (Option LuaString)) (end : ℕ) where
+    (line_info_lem : Listed ℕ) (abs_line_info : Listed AbsLineInfo) (loc_vars : Listed LocalVar) (upvalue_names_lem : Listed (Option LuaString)) (end : ℕ) where
   abbrev pub prototype : Prototype
   prototype = record {
     depth = w.depth;
@@ -135,27 +135,27 @@ module _
     end = end;
     source_name = inherit spelt w.source;
     line_defined = line_defined;
-    last-line-defined = last-line-defined;
+    last-line_defined = last-line_defined;
     numparams = numparams;
-    is-vararg = is-vararg;
+    is_vararg = is_vararg;
     maxstacksize = maxstacksize;
     instructions = instructions.items;
     constants = constants.items;
     upvalues = upvalues.items;
     protos = protos;
-    line-info = line-info.items;
-    abs-line-info = abs-line-info.items;
-    loc-vars = loc-vars.items;
-    upvalue-names = upvalue-names.items;
+    line_info_lem = line_info_lem.items;
+    abs_line_info = abs_line_info.items;
+    loc_vars = loc_vars.items;
+    upvalue_names_lem = upvalue_names_lem.items;
     places = record {
       instructions = instructions.place;
       constants = constants.place;
       upvalues = upvalues.place;
       protos = protos-at;
-      line-info = line-info.place;
-      abs-line-info = abs-line-info.place;
-      loc-vars = loc-vars.place;
-      upvalue-names = upvalue-names.place;
+      line_info_lem = line_info_lem.place;
+      abs_line_info = abs_line_info.place;
+      loc_vars = loc_vars.place;
+      upvalue_names_lem = upvalue_names_lem.place;
     };
   }
 
@@ -165,9 +165,9 @@ Body L F w = do
   start ← Here
   spelt ← String L.max_string_bytes
   line_defined ← Number
-  last-line-defined ← Number
+  last-line_defined ← Number
   numparams ← Byte
-  is-vararg ← Byte
+  is_vararg ← Byte
   maxstacksize ← Byte
   size ← Number
   Given (size ≤ L.max_instructions_per_proto)
@@ -182,12 +182,12 @@ Body L F w = do
   nested ← Forest protos F (within w (inherit spelt w.source) (length instructions))
   line-info-size ← Number
   line-info-at ← Here
-  line-info ← Run line-info-size
-  abs-line-info ← Counted Anchor
-  loc-vars ← Counted (Local L.max_string_bytes)
-  upvalue-names ← Counted (String L.max_string_bytes)
+  line_info_lem ← Run line-info-size
+  abs_line_info ← Counted Anchor
+  loc_vars ← Counted (Local L.max_string_bytes)
+  upvalue_names_lem ← Counted (String L.max_string_bytes)
   end ← Here
-  Is (prototype w start spelt line_defined last-line-defined numparams is-vararg maxstacksize (record { place = instructions-at; items = instructions }) constants upvalues protos-at protos (record { place = line-info-at; items = line-info }) abs-line-info loc-vars upvalue-names end ∷ nested)
+  Is (prototype w start spelt line_defined last-line_defined numparams is_vararg maxstacksize (record { place = instructions-at; items = instructions }) constants upvalues protos-at protos (record { place = line-info-at; items = line_info_lem }) abs_line_info loc_vars upvalue_names_lem end ∷ nested)
 
 -- a function below which functions nest at most `left` deep. The nested function with the number k is the k-th, and k is at most the limit of nested functions
 unfoldable pub Function : ResourceLimits → ℕ → Where → Form (List Prototype)
@@ -214,15 +214,15 @@ Main L = do
   Is (record { headed = headed; functions = functions })
 
 -- trailing bytes, where there are any, are a warning
-abbrev pub trailingWarnings : ℕ → Bytes → List Warning
-trailingWarnings place [] = []
-trailingWarnings place (b ∷ bs) = TrailingBytes place ∷ []
+abbrev pub trailing_warnings : ℕ → Bytes → List Warning
+trailing_warnings place [] = []
+trailing_warnings place (b ∷ bs) = TrailingBytes place ∷ []
 
 -- the reading: warnings beyond the diagnostics limit are dropped
 abbrev pub reading : ResourceLimits → Loaded → ℕ → Bytes → Reading
 reading L m place trailing = record {
   header = m.headed.header;
-  warnings = take L.max_diagnostics (m.headed.warnings ++ trailingWarnings place trailing);
+  warnings = take L.max_diagnostics (m.headed.warnings ++ trailing_warnings place trailing);
   functions = m.functions;
   trailing_at = place;
   trailing = trailing;

@@ -1,7 +1,7 @@
 -- The header's 31 bytes (01 'header.rs'; lundump.c's `checkHeader`, which refuses a format other than 0).
 --     Header               the form: what the header shows, and its warning
---     headerOf format      the Rust's `Header` of a file with this format byte: all else in it is fixed
---     formatWarnings       a format other than 0 is a warning, at the format's place
+--     header_of format      the Rust's `Header` of a file with this format byte: all else in it is fixed
+--     format_warnings       a format other than 0 is a warning, at the format's place
 use Rattle.std.specs.Prelude.{cond, List, [], ◌∷◌, ℕ, eqb, pos}
 use Rattle.format.specs.declared.header.Header as declared
 use Rattle.format.specs.declared.header.Warning.{Warning}
@@ -13,18 +13,18 @@ use Rattle.format.specs.GrammarFields.{Byte}
 abbrev pub signature : Bytes
 signature = 0x1b ∷ 0x4c ∷ 0x75 ∷ 0x61 ∷ []
 
-abbrev pub luacData : Bytes
-luacData = 0x19 ∷ 0x93 ∷ 0x0d ∷ 0x0a ∷ 0x1a ∷ 0x0a ∷ []
+abbrev pub luac_data : Bytes
+luac_data = 0x19 ∷ 0x93 ∷ 0x0d ∷ 0x0a ∷ 0x1a ∷ 0x0a ∷ []
 
-abbrev pub luacInt : Bytes
-luacInt = 0x78 ∷ 0x56 ∷ 0 ∷ 0 ∷ 0 ∷ 0 ∷ 0 ∷ 0 ∷ []
+abbrev pub luac_int : Bytes
+luac_int = 0x78 ∷ 0x56 ∷ 0 ∷ 0 ∷ 0 ∷ 0 ∷ 0 ∷ 0 ∷ []
 
 -- 370.5
-abbrev pub luacNum : Bytes
-luacNum = 0 ∷ 0 ∷ 0 ∷ 0 ∷ 0 ∷ 0x28 ∷ 0x77 ∷ 0x40 ∷ []
+abbrev pub luac_num : Bytes
+luac_num = 0 ∷ 0 ∷ 0 ∷ 0 ∷ 0 ∷ 0x28 ∷ 0x77 ∷ 0x40 ∷ []
 
-abbrev pub headerOf : ℕ → declared.Header
-headerOf format = record {
+abbrev pub header_of : ℕ → declared.Header
+header_of format = record {
   version = 0x54;
   format = format;
   instruction_size = 4;
@@ -35,8 +35,8 @@ headerOf format = record {
   luac_num = 0x4077280000000000;
 }
 
-abbrev pub formatWarnings : ℕ → ℕ → List Warning
-formatWarnings place format = cond (eqb format 0) [] (NonStandardFormat place ∷ [])
+abbrev pub format_warnings : ℕ → ℕ → List Warning
+format_warnings place format = cond (eqb format 0) [] (NonStandardFormat place ∷ [])
 
 pub record Headed : Type 0 where
   pub header : declared.Header
@@ -50,12 +50,12 @@ BeforeFormat = do
 
 abbrev pub BehindFormat : Form (Unit {0})
 BehindFormat = do
-  Spelt luacData
+  Spelt luac_data
   Spelt (4 ∷ [])
   Spelt (8 ∷ [])
   Spelt (8 ∷ [])
-  Spelt luacInt
-  Spelt luacNum
+  Spelt luac_int
+  Spelt luac_num
 
 abbrev pub Header : Form Headed
 Header = do
@@ -63,4 +63,4 @@ Header = do
   place ← Here
   format ← Byte
   BehindFormat
-  Is (record { header = headerOf format; warnings = formatWarnings place format })
+  Is (record { header = header_of format; warnings = format_warnings place format })

@@ -1,7 +1,7 @@
 -- The ceilings of the nine limits (01, 'Limits'; that of nesting: 02, item 5).
 --     DEEPEST, MOST        the ceiling of nesting, and that of lengths and counts
 --     ceilings             the largest limits
---     withinCeilings l     no limit of l is above its ceiling: the test behind refusal 21
+--     within_ceilings l     no limit of l is above its ceiling: the test behind refusal 21
 --     Walkable l           so few functions and instructions in all that a walk can count them
 use Rattle.std.specs.Prelude.{Bool, ◌&&◌, leb, ℕ, ◌≤◌}
 use Rattle.format.specs.declared.limits.ResourceLimits.{ResourceLimits}
@@ -25,8 +25,8 @@ ceilings = record {
   max_diagnostics = 10000;
 }
 
-abbrev pub withinCeilings : ResourceLimits → Bool
-withinCeilings l =
+abbrev pub within_ceilings : ResourceLimits → Bool
+within_ceilings l =
     leb l.max_input_bytes ceilings.max_input_bytes
     && leb l.max_nesting_depth ceilings.max_nesting_depth
     && leb l.max_total_prototypes ceilings.max_total_prototypes

@@ -19,7 +19,7 @@ use Rattle.format.specs.declared.entry.UpvalueDesc.{UpvalueDesc}
 use Rattle.format.specs.declared.entry.AbsLineInfo.{AbsLineInfo}
 use Rattle.format.specs.Form.{Bytes}
 use Rattle.format.specs.GrammarFields.{LuaString}
-use Rattle.format.specs.Limits.{withinCeilings}
+use Rattle.format.specs.Limits.{within_ceilings}
 use Rattle.format.specs.Reading.{ConstantValue, nil, boolean, integer, float, short-string, long-string, LocalVar, Places, Prototype, Reading}
 use Rattle.format.specs.GrammarChunk.{Listed, inherit, Where, after, within, prototype, outermost, Loaded, reading}
 use Rattle.format.specs.Read.{Read, ok, refused, Reader, next, ◌>>=◌, ◌>>◌, give, here, refuse, at_most, run, many}
@@ -35,8 +35,8 @@ counted r = do
   give (record { place = place; items = items })
 
 -- a count above the limit is refused, at its first byte, before the items are looked for
-abbrev pub countedUpTo : {A : Type 0} → ℕ → (ℕ → Refusal) → Reader A → Reader (Listed A)
-countedUpTo limit refusal r = do
+abbrev pub counted_up_to : {A : Type 0} → ℕ → (ℕ → Refusal) → Reader A → Reader (Listed A)
+counted_up_to limit refusal r = do
   first ← here
   n ← number
   at_most n limit (refusal first)
@@ -110,9 +110,9 @@ body L r w = do
   start ← here
   spelt ← string L.max_string_bytes
   line_defined ← number
-  last-line-defined ← number
+  last-line_defined ← number
   numparams ← byte
-  is-vararg ← byte
+  is_vararg ← byte
   maxstacksize ← byte
   first ← here
   size ← number
@@ -120,8 +120,8 @@ body L r w = do
   at_most (w.instructions + size) L.max_total_instructions (TotalInstructions first)
   instructions-at ← here
   instructions ← many size (field 4)
-  constants ← countedUpTo L.max_constants_per_proto Constants (constant L.max_string_bytes)
-  upvalues ← countedUpTo L.max_upvalues_per_proto Upvalues upvalue
+  constants ← counted_up_to L.max_constants_per_proto Constants (constant L.max_string_bytes)
+  upvalues ← counted_up_to L.max_upvalues_per_proto Upvalues upvalue
   first ← here
   protos ← number
   at_most protos L.max_total_prototypes (Prototypes first)
@@ -129,12 +129,12 @@ body L r w = do
   nested ← forest protos r (within w (inherit spelt w.source) (length instructions))
   line-info-size ← number
   line-info-at ← here
-  line-info ← run line-info-size
-  abs-line-info ← counted anchor
-  loc-vars ← counted (local L.max_string_bytes)
-  upvalue-names ← counted (string L.max_string_bytes)
+  line_info_lem ← run line-info-size
+  abs_line_info ← counted anchor
+  loc_vars ← counted (local L.max_string_bytes)
+  upvalue_names_lem ← counted (string L.max_string_bytes)
   end ← here
-  give (prototype w start spelt line_defined last-line-defined numparams is-vararg maxstacksize (record { place = instructions-at; items = instructions }) constants upvalues protos-at protos (record { place = line-info-at; items = line-info }) abs-line-info loc-vars upvalue-names end ∷ nested)
+  give (prototype w start spelt line_defined last-line_defined numparams is_vararg maxstacksize (record { place = instructions-at; items = instructions }) constants upvalues protos-at protos (record { place = line-info-at; items = line_info_lem }) abs_line_info loc_vars upvalue_names_lem end ∷ nested)
 
 -- `enter_proto`: at the place where a nested function begins, first whether it is too deep, then whether it is one too many
 unfoldable pub function : ResourceLimits → ℕ → Where → Reader (List Prototype)
@@ -164,4 +164,4 @@ outcome L (refused q) = refusal q
 
 -- 21 and 22 first
 unfoldable pub read : ResourceLimits → Bytes → Outcome
-read L chunk = cond (withinCeilings L) (cond (leb (length chunk) L.max_input_bytes) (outcome L (main L 0 chunk)) (refusal InputBytes)) (refusal LimitAboveCeiling)
+read L chunk = cond (within_ceilings L) (cond (leb (length chunk) L.max_input_bytes) (outcome L (main L 0 chunk)) (refusal InputBytes)) (refusal LimitAboveCeiling)

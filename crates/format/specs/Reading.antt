@@ -33,10 +33,10 @@ pub record Places : Type 0 where
   pub constants : ℕ
   pub upvalues : ℕ
   pub protos : ℕ
-  pub line-info : ℕ
-  pub abs-line-info : ℕ
-  pub loc-vars : ℕ
-  pub upvalue-names : ℕ
+  pub line_info_lem : ℕ
+  pub abs_line_info : ℕ
+  pub loc_vars : ℕ
+  pub upvalue_names_lem : ℕ
 
 pub record Prototype : Type 0 where
   pub depth : ℕ
@@ -45,19 +45,19 @@ pub record Prototype : Type 0 where
   pub end : ℕ
   pub source_name : Option LuaString
   pub line_defined : ℕ
-  pub last-line-defined : ℕ
+  pub last-line_defined : ℕ
   pub numparams : ℕ
-  pub is-vararg : ℕ
+  pub is_vararg : ℕ
   pub maxstacksize : ℕ
   pub instructions : List ℕ
   pub constants : List ConstantValue
   pub upvalues : List UpvalueDesc
   -- how many functions nest in it: they follow it in the list of functions
   pub protos : ℕ
-  pub line-info : Bytes
-  pub abs-line-info : List AbsLineInfo
-  pub loc-vars : List LocalVar
-  pub upvalue-names : List (Option LuaString)
+  pub line_info_lem : Bytes
+  pub abs_line_info : List AbsLineInfo
+  pub loc_vars : List LocalVar
+  pub upvalue_names_lem : List (Option LuaString)
   pub places : Places
 
 pub record Reading : Type 0 where

@@ -1,6 +1,6 @@
 // limits.rs: the resource limits under which a chunk is read, and the ceiling of each.
 ghost use Rattle.std.specs.Prelude.{◌≡◌, leb, ◌&&◌};
-ghost use Rattle.format.specs.Limits.{ceilings, withinCeilings};
+ghost use Rattle.format.specs.Limits.{ceilings, within_ceilings};
 
 // The ceiling of nesting, and that of lengths and counts (by the same names in specs/Limits.antt).
 pub const DEEPEST: usize = 14;
@@ -41,7 +41,7 @@ impl ResourceLimits {
 
     // Whether no limit is above its ceiling: where this is false, the refusal is 21.
     pub fn within_ceilings(self) -> bool
-        ensures { result ≡ withinCeilings self }
+        ensures { result ≡ within_ceilings self }
     {
         let top = ResourceLimits::ceilings();
         let ok = and_under(true, self.max_input_bytes, top.max_input_bytes);

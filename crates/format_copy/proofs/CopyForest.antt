@@ -12,10 +12,10 @@ use lib.ListN.{length, length-map}
 use Rattle.format.specs.Form.{Bytes, Form}
 use Rattle.format.specs.GrammarFields.{LuaString}
 use Rattle.format.specs.Reading.{Prototype}
-use Rattle.format.specs.GrammarChunk.{instructionsOf, Where, after, within, Forest}
+use Rattle.format.specs.GrammarChunk.{instructions_of, Where, after, within, Forest}
 use Rattle.format_spelling.specs.Spelling.{Tally}
 use Rattle.format_spelling.specs.Spelling as tally
-use Rattle.format_copy.proofs.Copies.{Measure, Copies, then-copies, is-copies}
+use Rattle.format_copy.proofs.Copies.{Measure, Copies, then_copies, is_copies}
 
 pub record Way : Type 1 where
   -- what is made of a function and of all that nest in it, from the last function to the first; its bytes, in a function with this source
@@ -52,21 +52,21 @@ pub record Around (way : Way) (w v : Where) : Type 0 where
   pub source : way.Near w.source v.source
 
 module _ (way : Way) where
-  instructions-kept : (ps : List Prototype) → instructionsOf (map way.plainly ps) ≡ instructionsOf ps
+  instructions-kept : (ps : List Prototype) → instructions_of (map way.plainly ps) ≡ instructions_of ps
   instructions-kept [] = refl
   instructions-kept (p ∷ ps) = ap₂ ◌+◌ (way.counts p) (instructions-kept ps)
 
-  around-after : (w v : Where) (ps ps' : List Prototype) → Around way w v → map way.plainly ps' ≡ map way.plainly ps → Around way (after ps w) (after ps' v)
-  around-after w v ps ps' a e = record {
+  around_after : (w v : Where) (ps ps' : List Prototype) → Around way w v → map way.plainly ps' ≡ map way.plainly ps → Around way (after ps w) (after ps' v)
+  around_after w v ps ps' a e = record {
     number = ap₂ ◌+◌ a.number (sym (length-map ps way.plainly) ∙ ap length (sym e) ∙ length-map ps' way.plainly);
-    instructions = ap₂ ◌+◌ a.instructions (sym (instructions-kept ps) ∙ ap instructionsOf (sym e) ∙ instructions-kept ps');
+    instructions = ap₂ ◌+◌ a.instructions (sym (instructions-kept ps) ∙ ap instructions_of (sym e) ∙ instructions-kept ps');
     depth = a.depth;
     parent = a.parent;
     source = a.source;
   }
 
-  pub around-within : (w v : Where) (s t : Option LuaString) (n m : ℕ) → n ≡ m → way.Near s t → Around way w v → Around way (within w s n) (within v t m)
-  around-within w v s t n m e near a = record {
+  pub around_within : (w v : Where) (s t : Option LuaString) (n m : ℕ) → n ≡ m → way.Near s t → Around way w v → Around way (within w s n) (within v t m)
+  around_within w v s t n m e near a = record {
     number = ap (λ k. k + 1) a.number;
     instructions = ap₂ ◌+◌ a.instructions e;
     depth = ap (λ k. k + 1) a.depth;
@@ -78,9 +78,9 @@ module _ (way : Way) where
   unfolding flatten
   each_none source = record { pieces = []; joined = refl; count = refl; alike = refl; stack = λ later. refl }
 
-  pub each-cons : (source : Option LuaString) (n : ℕ) (ps ps' more more' : List Prototype) (b c : Bytes) → Once way source ps ps' b → Each way source n more more' c → Each way source (suc n) (ps ++ more) (ps' ++ more') (b ++ (c ++ []))
+  pub each_cons : (source : Option LuaString) (n : ℕ) (ps ps' more more' : List Prototype) (b c : Bytes) → Once way source ps ps' b → Each way source n more more' c → Each way source (suc n) (ps ++ more) (ps' ++ more') (b ++ (c ++ []))
   unfolding flatten
-  each-cons source n ps ps' more more' b c r q = record {
+  each_cons source n ps ps' more more' b c r q = record {
     pieces = r.piece ∷ q.pieces;
     joined = ap₂ ◌++◌ r.joined (append-nil c ∙ q.joined);
     count = ap suc q.count;
@@ -88,11 +88,11 @@ module _ (way : Way) where
     stack = λ later. foldr-append way.nest later ps more ∙ ap (λ l. foldr way.nest l ps) (q.stack later) ∙ r.stack (q.pieces ++ later);
   }
 
-  pub forest-copies : {m : Measure} {F : Where → Form (List Prototype)} {p : (w : Where) → Tally (F w)} (n : ℕ) (w v : Where) → Around way w v → ((w v : Where) → Around way w v → Copies m (F w) (F v) (p v) (Once way w.source))
+  pub forest_copies : {m : Measure} {F : Where → Form (List Prototype)} {p : (w : Where) → Tally (F w)} (n : ℕ) (w v : Where) → Around way w v → ((w v : Where) → Around way w v → Copies m (F w) (F v) (p v) (Once way w.source))
       → Copies m (Forest n F w) (Forest n F v) (tally.forest n p v) (Each way w.source n)
   unfolding tally.forest
-  forest-copies zero w v a one = is-copies (each_none w.source)
-  forest-copies (suc n) w v a one =
-      then-copies (one w v a) λ ps ps' b r.
-      then-copies (forest-copies n (after ps w) (after ps' v) (around-after w v ps ps' a r.alike) one) λ more more' c q.
-      is-copies (each-cons w.source n ps ps' more more' b c r q)
+  forest_copies zero w v a one = is_copies (each_none w.source)
+  forest_copies (suc n) w v a one =
+      then_copies (one w v a) λ ps ps' b r.
+      then_copies (forest_copies n (after ps w) (after ps' v) (around_after w v ps ps' a r.alike) one) λ more more' c q.
+      is_copies (each_cons w.source n ps ps' more more' b c r q)

@@ -1,10 +1,10 @@
 -- Worked cases of Lua's own dumper as it is defined (`luaU_dump`, specs/LdumpFunctions.antt): chunks, what is written of them once they are loaded, and whether the copy is that.
---     dumps-hold           what is written: Lua 5.4.4 was run on each chunk (`string.dump` of `load`, with strip and without), and wrote these bytes
---     copies-part          where the copy is that, and where not: each condition of `proofs/LdumpWhole.antt` is needed
---     alike-meets          a chunk of two functions, with constants, an upvalue, a local and a trailing byte, meets all that is asked there,
---     alike-copied         and so its copy is what `luaU_dump` writes
---     bare-meets           and a chunk with nothing to strip meets what is asked there of such
---     full-part            where the full copy is that, and where not (`proofs/LdumpFull.antt`)
+--     dumps_hold           what is written: Lua 5.4.4 was run on each chunk (`string.dump` of `load`, with strip and without), and wrote these bytes
+--     copies_part          where the copy is that, and where not: each condition of `proofs/LdumpWhole.antt` is needed
+--     alike_meets          a chunk of two functions, with constants, an upvalue, a local and a trailing byte, meets all that is asked there,
+--     alike_copied         and so its copy is what `luaU_dump` writes
+--     bare_meets           and a chunk with nothing to strip meets what is asked there of such
+--     full_part            where the full copy is that, and where not (`proofs/LdumpFull.antt`)
 --     joined_meets         a chunk with a second source, and one in it that inherits it, meets all that is asked there
 -- So this refuses a dumper that writes every source, or no nested one, that compares sources by their bytes or by their places alone, that writes the tags, the local names or the upvalue names as they
 -- were read, or that keeps the byte behind the header.
@@ -17,16 +17,16 @@ use lib.ListN.{replicate}
 use Rattle.format.specs.Form.{Bytes, All}
 use Rattle.format.specs.Limits.{ceilings}
 use Rattle.format.specs.Reading.{Prototype, Reading}
-use Rattle.format.specs.ReadHeader.{sameBytes}
+use Rattle.format.specs.ReadHeader.{same_bytes}
 use Rattle.format.specs.ReadChunk.{body, function, Outcome, shown, refusal, read}
 use Rattle.format.specs.Shortest.{shortest}
-use Rattle.format.specs.Copy.{listBytes, behindSource, copy}
-use Rattle.format.specs.FullCopy.{allWithin, fullFunction, fullCopy}
-use Rattle.format_lua.specs.Ldump.{dumpSize}
-use Rattle.format_lua.specs.LdumpFunctions.{dumpFunction, luaU_dump}
-use Rattle.format.proofs.Distinct.{functionsOf}
-use Rattle.format.proofs.ReadChunkLaws.{read-sound}
-use Rattle.format_lua.proofs.LdumpWhole.{source_of, AsLua, AsStripped, copy-as-dumped}
+use Rattle.format.specs.Copy.{list_bytes, behind_source, copy}
+use Rattle.format.specs.FullCopy.{all_within, full_function, full_copy}
+use Rattle.format_lua.specs.Ldump.{dump_size}
+use Rattle.format_lua.specs.LdumpFunctions.{dump_function, lua_u_dump}
+use Rattle.format.proofs.Distinct.{functions_of}
+use Rattle.format.proofs.ReadChunkLaws.{read_sound}
+use Rattle.format_lua.proofs.LdumpWhole.{source_of, AsLua, AsStripped, copy_as_dumped}
 use Rattle.format_lua.proofs.LdumpFull.{AsLuaInFull}
 use Rattle.format_lua.proofs.LuaChunks.{header, full}
 
@@ -69,8 +69,8 @@ bare : Bytes
 unfolding fn leaf empty
 bare = header ++ 1 ∷ fn empty empty (0x81 ∷ 1 ∷ 0 ∷ 0 ∷ []) (0x81 ∷ leaf empty) empty empty
 
-full-stripped : Bytes
-full-stripped =
+full_stripped : Bytes
+full_stripped =
     header ++ 1 ∷ 0x80 ∷ 0x8a ∷ 0x9e ∷ 3 ∷ 1 ∷ 7 ∷ 0x82 ∷ 0x38 ∷ 0xff ∷ 0xff ∷ 0x7f ∷ 0x46 ∷ 0 ∷ 0 ∷ 1
     ∷ 0x87 ∷ 0 ∷ 1 ∷ 17 ∷ 3 ∷ 0xfe ∷ replicate 7 0xff ++ 19 ∷ 0 ∷ 0 ∷ 0 ∷ 0 ∷ 0 ∷ 0 ∷ 4 ∷ 0x40 ∷ 4 ∷ 0x82 ∷ 0x78 ∷ 20 ∷ 0xaa ∷ replicate 41 0x61
     ++ 0x81 ∷ 1 ∷ 0 ∷ 2 ∷ 0x82
@@ -86,7 +86,7 @@ record Case : Type 0 where
   kept : Bool
 
 cases : List Case
-unfolding fn empty leaf around holding a40 a41 alike bare full-stripped
+unfolding fn empty leaf around holding a40 a41 alike bare full_stripped
 cases =
     -- all conditions are met; and byte 31 and padding are not kept
     record { strip = false; chunk = alike; dump = alike; copied = true; kept = true }
@@ -114,7 +114,7 @@ cases =
     ∷ record { strip = false; chunk = full; dump = full; copied = false; kept = false }
     -- stripped: what has nothing to strip, and `full`
     ∷ record { strip = true; chunk = bare; dump = bare; copied = true; kept = true }
-    ∷ record { strip = true; chunk = full; dump = full-stripped; copied = false; kept = false }
+    ∷ record { strip = true; chunk = full; dump = full_stripped; copied = false; kept = false }
     ∷ []
 
 copy_of : Outcome → Bytes
@@ -122,23 +122,23 @@ copy_of (shown r) = copy r
 copy_of (refusal q) = []
 
 dumped : Case → Bytes
-dumped c = luaU_dump c.strip (functionsOf (read ceilings c.chunk))
+dumped c = lua_u_dump c.strip (functions_of (read ceilings c.chunk))
 
-dumps-hold : map dumped cases ≡ map (λ (c : Case). c.dump) cases
-unfolding cases dumped read body function luaU_dump dumpFunction dumpSize mathlib.Core.List.flatten fn empty leaf around holding a40 a41 alike bare full-stripped
-dumps-hold = refl
+dumps_hold : map dumped cases ≡ map (λ (c : Case). c.dump) cases
+unfolding cases dumped read body function lua_u_dump dump_function dump_size mathlib.Core.List.flatten fn empty leaf around holding a40 a41 alike bare full_stripped
+dumps_hold = refl
 
-copies-part : map (λ (c : Case). sameBytes (copy_of (read ceilings c.chunk)) (dumped c)) cases ≡ map (λ (c : Case). c.copied) cases
-unfolding cases dumped copy_of read body function copy behindSource listBytes shortest luaU_dump dumpFunction dumpSize mathlib.Core.List.flatten fn empty leaf around holding a40 a41 alike bare full-stripped
-copies-part = refl
+copies_part : map (λ (c : Case). same_bytes (copy_of (read ceilings c.chunk)) (dumped c)) cases ≡ map (λ (c : Case). c.copied) cases
+unfolding cases dumped copy_of read body function copy behind_source list_bytes shortest lua_u_dump dump_function dump_size mathlib.Core.List.flatten fn empty leaf around holding a40 a41 alike bare full_stripped
+copies_part = refl
 
 full_of : Outcome → Bytes
-full_of (shown r) = fullCopy r
+full_of (shown r) = full_copy r
 full_of (refusal q) = []
 
-full-part : map (λ (c : Case). sameBytes (full_of (read ceilings c.chunk)) (dumped c)) cases ≡ map (λ (c : Case). c.kept) cases
-unfolding cases dumped full_of read body function fullCopy allWithin fullFunction behindSource listBytes shortest luaU_dump dumpFunction dumpSize mathlib.Core.List.flatten fn empty leaf around holding a40 a41 alike bare full-stripped
-full-part = refl
+full_part : map (λ (c : Case). same_bytes (full_of (read ceilings c.chunk)) (dumped c)) cases ≡ map (λ (c : Case). c.kept) cases
+unfolding cases dumped full_of read body function full_copy all_within full_function behind_source list_bytes shortest lua_u_dump dump_function dump_size mathlib.Core.List.flatten fn empty leaf around holding a40 a41 alike bare full_stripped
+full_part = refl
 
 -- ## What is asked can be met
 trailed : Bytes
@@ -146,11 +146,11 @@ unfolding alike fn leaf empty a41
 trailed = alike ++ 9 ∷ []
 
 functions : List Prototype
-functions = functionsOf (read ceilings trailed)
+functions = functions_of (read ceilings trailed)
 
-alike-meets : All (AsLua functions) functions
+alike_meets : All (AsLua functions) functions
 unfolding functions trailed read body function fn empty leaf a41 alike
-alike-meets = (
+alike_meets = (
   record { source = refl; tags = (refl, (refl, tt)); locals = (refl, tt); names = refl },
   (
     record { source = refl; tags = tt; locals = tt; names = refl },
@@ -158,23 +158,23 @@ alike-meets = (
   ),
 )
 
-alike-copied : (r : Reading) → read ceilings trailed ≡ shown r → copy r ≡ luaU_dump false r.functions ++ r.trailing
+alike_copied : (r : Reading) → read ceilings trailed ≡ shown r → copy r ≡ lua_u_dump false r.functions ++ r.trailing
 unfolding functions
-alike-copied r e =
-    let same : functions ≡ r.functions = ap functionsOf e in
-    copy-as-dumped ceilings trailed r (read-sound ceilings trailed r e) (rw same at alike-meets)
+alike_copied r e =
+    let same : functions ≡ r.functions = ap functions_of e in
+    copy_as_dumped ceilings trailed r (read_sound ceilings trailed r e) (rw same at alike_meets)
 
 bare-functions : List Prototype
-bare-functions = functionsOf (read ceilings bare)
+bare-functions = functions_of (read ceilings bare)
 
-bare-meets : (source_of bare-functions 0 ≡ none) × All AsStripped bare-functions
+bare_meets : (source_of bare-functions 0 ≡ none) × All AsStripped bare-functions
 unfolding bare-functions bare read body function fn empty leaf
-bare-meets = (
+bare_meets = (
   refl,
   (
-    record { tags = tt; line-info = refl; abs-line-info = refl; loc-vars = refl; upvalue-names = refl },
+    record { tags = tt; line_info_lem = refl; abs_line_info = refl; loc_vars = refl; upvalue_names_lem = refl },
     (
-      record { tags = tt; line-info = refl; abs-line-info = refl; loc-vars = refl; upvalue-names = refl },
+      record { tags = tt; line_info_lem = refl; abs_line_info = refl; loc_vars = refl; upvalue_names_lem = refl },
       tt,
     ),
   ),
@@ -185,7 +185,7 @@ unfolding fn empty leaf around
 joined = around (0x82 ∷ 0x6d ∷ []) (fn (0x82 ∷ 0x6e ∷ []) empty empty (0x81 ∷ leaf empty) empty empty)
 
 joined-functions : List Prototype
-joined-functions = functionsOf (read ceilings joined)
+joined-functions = functions_of (read ceilings joined)
 
 joined_meets : All (AsLuaInFull joined-functions) joined-functions
 unfolding joined-functions joined read body function fn empty leaf around

@@ -2,7 +2,7 @@
 --     small            01's 46 bytes
 --     full             208 bytes: each entry at least once, every tag, functions two levels deep, a source that is inherited, one of its own and an empty one,
 --                      a local name and an upvalue name that are absent. No two numbers of main are equal that could be taken for each other
---     full-functions   what its functions are
+--     full_functions_lem   what its functions are
 -- Lua 5.4.4 loads `full`, and dumps it as these 208 bytes again.
 -- Assumes nothing.
 use mathlib.Core.Bool.{true, false}
@@ -10,7 +10,7 @@ use mathlib.Core.List.{List, [], ◌∷◌, ◌++◌}
 use mathlib.Core.Option.{none, some}
 use lib.ListN.{replicate}
 use Rattle.format.specs.Form.{Bytes}
-use Rattle.format.specs.GrammarHeader.{headerOf}
+use Rattle.format.specs.GrammarHeader.{header_of}
 use Rattle.format.specs.Reading.{nil, boolean, integer, float, short-string, long-string, Prototype}
 use Rattle.format.specs.GrammarChunk.{Loaded}
 
@@ -43,8 +43,8 @@ full =
     ++ 0x81 ∷ 1 ∷ 0 ∷ 2 ∷ 0x82 ∷ child ++ second
     ++ 0x82 ∷ 0x05 ∷ 0xfb ∷ 0x81 ∷ 0x81 ∷ 0x8b ∷ 0x81 ∷ 0x83 ∷ 0x6c ∷ 0x6f ∷ 0x80 ∷ 0x82 ∷ 0x81 ∷ 0x85 ∷ 0x5f ∷ 0x45 ∷ 0x4e ∷ 0x56 ∷ []
 
-abbrev pub full-functions : List Prototype
-full-functions =
+abbrev pub full_functions_lem : List Prototype
+full_functions_lem =
     record {
       depth = 0;
       parent = 0;
@@ -52,19 +52,19 @@ full-functions =
       end = 208;
       source_name = some (record { place = 33; bytes = 0x40 ∷ 0x6d ∷ [] });
       line_defined = 10;
-      last-line-defined = 30;
+      last-line_defined = 30;
       numparams = 3;
-      is-vararg = 1;
+      is_vararg = 1;
       maxstacksize = 7;
       instructions = 0x7fffff38 ∷ 0x01000046 ∷ [];
       constants = nil ∷ boolean false ∷ boolean true ∷ integer 0xfffffffffffffffe ∷ float 0x4004000000000000 ∷ short-string (record { place = 73; bytes = 0x78 ∷ [] }) ∷ long-string (record { place = 76; bytes = replicate 41 0x61 }) ∷ [];
       upvalues = record { instack = 1; idx = 0; kind = 2 } ∷ [];
       protos = 2;
-      line-info = 0x05 ∷ 0xfb ∷ [];
-      abs-line-info = record { pc = 1; line = 11 } ∷ [];
-      loc-vars = record { name = record { place = 198; bytes = 0x6c ∷ 0x6f ∷ [] }; startpc = 0; endpc = 2 } ∷ [];
-      upvalue-names = some (record { place = 204; bytes = 0x5f ∷ 0x45 ∷ 0x4e ∷ 0x56 ∷ [] }) ∷ [];
-      places = record { instructions = 41; constants = 50; upvalues = 118; protos = 122; line-info = 191; abs-line-info = 194; loc-vars = 197; upvalue-names = 203 };
+      line_info_lem = 0x05 ∷ 0xfb ∷ [];
+      abs_line_info = record { pc = 1; line = 11 } ∷ [];
+      loc_vars = record { name = record { place = 198; bytes = 0x6c ∷ 0x6f ∷ [] }; startpc = 0; endpc = 2 } ∷ [];
+      upvalue_names_lem = some (record { place = 204; bytes = 0x5f ∷ 0x45 ∷ 0x4e ∷ 0x56 ∷ [] }) ∷ [];
+      places = record { instructions = 41; constants = 50; upvalues = 118; protos = 122; line_info_lem = 191; abs_line_info = 194; loc_vars = 197; upvalue_names_lem = 203 };
     }
     ∷ record {
       depth = 1;
@@ -73,19 +73,19 @@ full-functions =
       end = 176;
       source_name = some (record { place = 33; bytes = 0x40 ∷ 0x6d ∷ [] });
       line_defined = 11;
-      last-line-defined = 15;
+      last-line_defined = 15;
       numparams = 1;
-      is-vararg = 0;
+      is_vararg = 0;
       maxstacksize = 3;
       instructions = 0x01020304 ∷ [];
       constants = [];
       upvalues = record { instack = 0; idx = 0; kind = 0 } ∷ record { instack = 1; idx = 5; kind = 1 } ∷ [];
       protos = 1;
-      line-info = 0x01 ∷ 0xff ∷ 0x80 ∷ [];
-      abs-line-info = record { pc = 2; line = 14 } ∷ [];
-      loc-vars = record { name = record { place = 166; bytes = 0x3f ∷ [] }; startpc = 0; endpc = 1 } ∷ record { name = record { place = 169; bytes = 0x69 ∷ [] }; startpc = 1; endpc = 2 } ∷ [];
-      upvalue-names = none ∷ some (record { place = 175; bytes = 0x75 ∷ [] }) ∷ [];
-      places = record { instructions = 129; constants = 134; upvalues = 135; protos = 142; line-info = 158; abs-line-info = 162; loc-vars = 165; upvalue-names = 173 };
+      line_info_lem = 0x01 ∷ 0xff ∷ 0x80 ∷ [];
+      abs_line_info = record { pc = 2; line = 14 } ∷ [];
+      loc_vars = record { name = record { place = 166; bytes = 0x3f ∷ [] }; startpc = 0; endpc = 1 } ∷ record { name = record { place = 169; bytes = 0x69 ∷ [] }; startpc = 1; endpc = 2 } ∷ [];
+      upvalue_names_lem = none ∷ some (record { place = 175; bytes = 0x75 ∷ [] }) ∷ [];
+      places = record { instructions = 129; constants = 134; upvalues = 135; protos = 142; line_info_lem = 158; abs_line_info = 162; loc_vars = 165; upvalue_names_lem = 173 };
     }
     ∷ record {
       depth = 2;
@@ -94,19 +94,19 @@ full-functions =
       end = 157;
       source_name = some (record { place = 143; bytes = 0x67 ∷ [] });
       line_defined = 12;
-      last-line-defined = 13;
+      last-line_defined = 13;
       numparams = 0;
-      is-vararg = 0;
+      is_vararg = 0;
       maxstacksize = 2;
       instructions = [];
       constants = [];
       upvalues = [];
       protos = 0;
-      line-info = [];
-      abs-line-info = [];
-      loc-vars = [];
-      upvalue-names = [];
-      places = record { instructions = 150; constants = 151; upvalues = 152; protos = 153; line-info = 154; abs-line-info = 155; loc-vars = 156; upvalue-names = 157 };
+      line_info_lem = [];
+      abs_line_info = [];
+      loc_vars = [];
+      upvalue_names_lem = [];
+      places = record { instructions = 150; constants = 151; upvalues = 152; protos = 153; line_info_lem = 154; abs_line_info = 155; loc_vars = 156; upvalue_names_lem = 157 };
     }
     ∷ record {
       depth = 1;
@@ -115,19 +115,19 @@ full-functions =
       end = 190;
       source_name = some (record { place = 177; bytes = [] });
       line_defined = 16;
-      last-line-defined = 17;
+      last-line_defined = 17;
       numparams = 0;
-      is-vararg = 0;
+      is_vararg = 0;
       maxstacksize = 4;
       instructions = [];
       constants = [];
       upvalues = [];
       protos = 0;
-      line-info = [];
-      abs-line-info = [];
-      loc-vars = [];
-      upvalue-names = [];
-      places = record { instructions = 183; constants = 184; upvalues = 185; protos = 186; line-info = 187; abs-line-info = 188; loc-vars = 189; upvalue-names = 190 };
+      line_info_lem = [];
+      abs_line_info = [];
+      loc_vars = [];
+      upvalue_names_lem = [];
+      places = record { instructions = 183; constants = 184; upvalues = 185; protos = 186; line_info_lem = 187; abs_line_info = 188; loc_vars = 189; upvalue_names_lem = 190 };
     }
     ∷ []
 
@@ -140,21 +140,21 @@ small-function = record {
   end = 46;
   source_name = none;
   line_defined = 0;
-  last-line-defined = 0;
+  last-line_defined = 0;
   numparams = 0;
-  is-vararg = 0;
+  is_vararg = 0;
   maxstacksize = 2;
   instructions = [];
   constants = [];
   upvalues = [];
   protos = 0;
-  line-info = [];
-  abs-line-info = [];
-  loc-vars = [];
-  upvalue-names = [];
-  places = record { instructions = 39; constants = 40; upvalues = 41; protos = 42; line-info = 43; abs-line-info = 44; loc-vars = 45; upvalue-names = 46 };
+  line_info_lem = [];
+  abs_line_info = [];
+  loc_vars = [];
+  upvalue_names_lem = [];
+  places = record { instructions = 39; constants = 40; upvalues = 41; protos = 42; line_info_lem = 43; abs_line_info = 44; loc_vars = 45; upvalue_names_lem = 46 };
 }
 
 -- functions, behind a standard header
 abbrev pub loaded : List Prototype → Loaded
-loaded functions = record { headed = record { header = headerOf 0; warnings = [] }; functions = functions }
+loaded functions = record { headed = record { header = header_of 0; warnings = [] }; functions = functions }

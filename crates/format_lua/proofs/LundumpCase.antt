@@ -1,10 +1,10 @@
 -- Worked cases of Lua's own loader as it is defined (specs/LundumpFunctions.antt), which `proofs/LundumpRead.antt` computes: what is loaded and what is not.
 -- A loader that takes no constant, upvalue, nested function, anchor or local, not every tag, or not the second level, loads no `full`.
---     small-loaded, full-loaded    two chunks of `proofs/LuaChunks.antt` are loaded, with each field of each function
---     within-limits                what is loaded of `full` is within the limits at their ceilings, so `proofs/LundumpChunk.antt` speaks of such chunks:
---     full-read                    by it we read what Lua loads
+--     small-loaded, full_loaded    two chunks of `proofs/LuaChunks.antt` are loaded, with each field of each function
+--     within_limits                what is loaded of `full` is within the limits at their ceilings, so `proofs/LundumpChunk.antt` speaks of such chunks:
+--     full_read                    by it we read what Lua loads
 --     not-loaded                   each of `refused` is not loaded, however deep functions may nest
---     loaded-beside                what is just beside those is loaded
+--     loaded_beside                what is just beside those is loaded
 -- Lua 5.4.4 was run on all of these, and does the same.
 -- Assumes nothing.
 use mathlib.Core.Path.{◌≡◌, refl}
@@ -21,23 +21,23 @@ use Rattle.format_lua.specs.LundumpFunctions.{LoadFunction, Undump}
 use Rattle.format_lua.specs.LundumpWithin.{FunctionsWithin}
 use Rattle.format.specs.ReadChunk.{shown, read}
 use Rattle.format_lua.proofs.LundumpChunk.{loaded-is-read}
-use Rattle.format_lua.proofs.LundumpRead.{take-function, loads, loads-exactly, never-loads}
-use Rattle.format_lua.proofs.LuaChunks.{header, small, full, small-function, full-functions, loaded}
+use Rattle.format_lua.proofs.LundumpRead.{take-function, loads, loads_exactly, never_loads}
+use Rattle.format_lua.proofs.LuaChunks.{header, small, full, small-function, full_functions_lem, loaded}
 
 -- ## Loaded
 pub small-loaded : Undump 1 0 small (loaded (small-function ∷ []))
 unfolding take-function LoadFunction
-small-loaded = (loads-exactly 1 small (loaded (small-function ∷ []))).0 refl
+small-loaded = (loads_exactly 1 small (loaded (small-function ∷ []))).0 refl
 
-pub full-loaded : Undump 3 0 full (loaded full-functions)
+pub full_loaded : Undump 3 0 full (loaded full_functions_lem)
 unfolding take-function LoadFunction
-full-loaded = (loads-exactly 3 full (loaded full-functions)).0 refl
+full_loaded = (loads_exactly 3 full (loaded full_functions_lem)).0 refl
 
-pub within-limits : FunctionsWithin ceilings outermost full-functions
-within-limits = record { each = (omega arith, (omega arith, (omega arith, (omega arith, tt)))); instructions = omega arith; functions = omega arith }
+pub within_limits : FunctionsWithin ceilings outermost full_functions_lem
+within_limits = record { each = (omega arith, (omega arith, (omega arith, (omega arith, tt)))); instructions = omega arith; functions = omega arith }
 
-pub full-read : read ceilings full ≡ shown (reading ceilings (loaded full-functions) 208 [])
-full-read = loaded-is-read ceilings 3 full [] (loaded full-functions) full-loaded within-limits refl (omega arith)
+pub full_read : read ceilings full ≡ shown (reading ceilings (loaded full_functions_lem) 208 [])
+full_read = loaded-is-read ceilings 3 full [] (loaded full_functions_lem) full_loaded within_limits refl (omega arith)
 
 -- ## Not loaded
 -- 2^31 - 128, and one less
@@ -90,7 +90,7 @@ none-loads (suc left) = refl
 
 nones : (left : ℕ) (chunks : List Bytes) → map (loads left) chunks ≡ map (λ _. none) chunks → All (λ c. (m : Loaded) → Undump left 0 c m → ⊥) chunks
 nones left [] e = tt
-nones left (c ∷ cs) e = (never-loads left c (cc), nones left cs (cc))
+nones left (c ∷ cs) e = (never_loads left c (cc), nones left cs (cc))
 
 pub not-loaded : (left : ℕ) → All (λ c. (m : Loaded) → Undump left 0 c m → ⊥) refused
 not-loaded left = nones left refused (none-loads left)
@@ -106,11 +106,11 @@ found (some x) e = (x, refl)
 
 somes : (left : ℕ) (chunks : List Bytes) → map (λ c. there (loads left c)) chunks ≡ map (λ _. true) chunks → All (λ c. (m : Loaded) × Undump left 0 c m) chunks
 somes left [] e = tt
-somes left (c ∷ cs) e = let (m, f) = found (loads left c) (cc) in ((m, (loads-exactly left c m).0 f), somes left cs (cc))
+somes left (c ∷ cs) e = let (m, f) = found (loads left c) (cc) in ((m, (loads_exactly left c m).0 f), somes left cs (cc))
 
-all-load : map (λ c. there (loads 1 c)) beside ≡ map (λ _. true) beside
+all_load : map (λ c. there (loads 1 c)) beside ≡ map (λ _. true) beside
 unfolding take-function LoadFunction
-all-load = refl
+all_load = refl
 
-pub loaded-beside : All (λ c. (m : Loaded) × Undump 1 0 c m) beside
-loaded-beside = somes 1 beside all-load
+pub loaded_beside : All (λ c. (m : Loaded) × Undump 1 0 c m) beside
+loaded_beside = somes 1 beside all_load

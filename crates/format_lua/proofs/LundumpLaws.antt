@@ -1,7 +1,7 @@
 -- What lundump.c's `loadUnsigned` loads is what we read as a number, and the difference in what is accepted.
---     loaded-exactly       under a limit, it accepts exactly the numbers below 128 times (the limit divided by 128) that we accept, with our value
---     size-exactly         a size is accepted exactly where we accept a number
---     int-exactly          an int is accepted exactly where we accept a number below 2^31 - 128
+--     loaded_exactly       under a limit, it accepts exactly the numbers below 128 times (the limit divided by 128) that we accept, with our value
+--     size_exactly         a size is accepted exactly where we accept a number
+--     int_exactly          an int is accepted exactly where we accept a number below 2^31 - 128
 -- Assumes nothing.
 use mathlib.Core.Path.{◌≡◌, refl, sym, ◌∙◌, ap}
 use mathlib.Core.Logic.{◌↔◌}
@@ -16,9 +16,9 @@ use Rattle.format.specs.declared.refusal.Refusal.TheVariants.{VarintOverflow}
 use Rattle.format.specs.Form.{Bytes, Below}
 use Rattle.format.specs.Read.{Read, ok, refused}
 use Rattle.format.specs.ReadFields.{groups, number}
-use Rattle.format_lua.specs.Lundump.{LoadedNumber, loaded, truncatedChunk, integerOverflow, loadUnsignedLoop, loadUnsigned, loadSize, loadInt}
+use Rattle.format_lua.specs.Lundump.{LoadedNumber, loaded, truncated_chunk, integer_overflow, load_unsigned_loop, load_unsigned, load_size, load_int}
 use Rattle.format.proofs.Exact.{never}
-use Rattle.format.proofs.ExactFields.{groups-least, exact-number}
+use Rattle.format.proofs.ExactFields.{groups_least, exact_number}
 
 -- we read v, and leave these bytes
 pub record Ours (high at : ℕ) (s : Bytes) (v : ℕ) (rest : Bytes) : Type 0 where
@@ -32,8 +32,8 @@ module _ (high b : ℕ) (byte : b < 256) where
       let whole : high * 128 % 18446744073709551616 ≡ high * 128 = omega arith in
       rw (and_mask b 7, whole) (or_shifted high 7 (b % 128) (omega arith))
 
-  goes_on : b < 128 → eqb (bit_and b 0x80) 0 ≡ true
-  goes_on l =
+  goes_on_lem : b < 128 → eqb (bit_and b 0x80) 0 ≡ true
+  goes_on_lem l =
       let none : b / 128 % 2 * 128 ≡ 0 = omega arith in
       rw (and_high b 1 7, none) refl
 
@@ -44,40 +44,40 @@ module _ (high b : ℕ) (byte : b < 256) where
 
 -- one turn of the loop, by whether the byte is the last
 module _ (l high at b v : ℕ) (s rest : Bytes) (small : l ≤ 2 ^ 57 - 1) (byte : b < 256) where
-  loop-is : high < l → loadUnsignedLoop l high (b ∷ s) ≡ cond (ltb b 128) (loadUnsignedLoop l (high * 128 + b) s) (loaded (high * 128 + b % 128) s)
-  loop-is h = go (ltb b 128) refl
+  loop_is : high < l → load_unsigned_loop l high (b ∷ s) ≡ cond (ltb b 128) (load_unsigned_loop l (high * 128 + b) s) (loaded (high * 128 + b % 128) s)
+  loop_is h = go (ltb b 128) refl
     where
-      go : (t : Bool) → ltb b 128 ≡ t → loadUnsignedLoop l high (b ∷ s) ≡ cond t (loadUnsignedLoop l (high * 128 + b) s) (loaded (high * 128 + b % 128) s)
+      go : (t : Bool) → ltb b 128 ≡ t → load_unsigned_loop l high (b ∷ s) ≡ cond t (load_unsigned_loop l (high * 128 + b) s) (loaded (high * 128 + b % 128) s)
       go true e =
           let under = ltb-true b 128 e in
           let same : b % 128 ≡ b = omega arith in
-          rw (lt-leb l high h, next-is high b byte (omega arith), goes_on high b byte under, same)
+          rw (lt-leb l high h, next-is high b byte (omega arith), goes_on_lem high b byte under, same)
       go false e = rw (lt-leb l high h, next-is high b byte (omega arith), ends high b byte (ltb-false b 128 e))
 
   groups-is : high < l → groups high at (b ∷ s) ≡ cond (ltb b 128) (groups (high * 128 + b) (at + 1) s) (ok (high * 128 + b % 128) (at + 1) s)
   groups-is h = rw (lt-ltb high (2 ^ 57 - 1) (omega arith))
 
 -- what is both ours and below the limit, Lua loads
-c-of-ours : (s : Bytes) (l high at : ℕ) {v to : ℕ} {rest : Bytes} → l ≤ 2 ^ 57 - 1 → Below 256 s → groups high at s ≡ ok v to rest → v < l * 128 → loadUnsignedLoop l high s ≡ loaded v rest
-c-of-ours [] l high at small bytes e under = absurd (never e)
-c-of-ours (b ∷ s) l high at {v} {to} {rest} small bytes e under =
-    let h : high < l = omega (arith, groups-least (b ∷ s) high at e) in
-    rw (loop-is l high at b v s rest small bytes.0 h)
-    (go (ltb b 128) (rw (groups-is l high at b v s rest small bytes.0 h) at e) (λ f. c-of-ours s l (high * 128 + b) (at + 1) small bytes.1 f under))
+c_of_ours : (s : Bytes) (l high at : ℕ) {v to : ℕ} {rest : Bytes} → l ≤ 2 ^ 57 - 1 → Below 256 s → groups high at s ≡ ok v to rest → v < l * 128 → load_unsigned_loop l high s ≡ loaded v rest
+c_of_ours [] l high at small bytes e under = absurd (never e)
+c_of_ours (b ∷ s) l high at {v} {to} {rest} small bytes e under =
+    let h : high < l = omega (arith, groups_least (b ∷ s) high at e) in
+    rw (loop_is l high at b v s rest small bytes.0 h)
+    (go (ltb b 128) (rw (groups-is l high at b v s rest small bytes.0 h) at e) (λ f. c_of_ours s l (high * 128 + b) (at + 1) small bytes.1 f under))
   where
     go : (t : Bool) → cond t (groups (high * 128 + b) (at + 1) s) (ok (high * 128 + b % 128) (at + 1) s) ≡ ok v to rest
-        → (groups (high * 128 + b) (at + 1) s ≡ ok v to rest → loadUnsignedLoop l (high * 128 + b) s ≡ loaded v rest)
-        → cond t (loadUnsignedLoop l (high * 128 + b) s) (loaded (high * 128 + b % 128) s) ≡ loaded v rest
+        → (groups (high * 128 + b) (at + 1) s ≡ ok v to rest → load_unsigned_loop l (high * 128 + b) s ≡ loaded v rest)
+        → cond t (load_unsigned_loop l (high * 128 + b) s) (loaded (high * 128 + b % 128) s) ≡ loaded v rest
     go true f later = later f
     go false f later = cc
 
 -- what Lua loads is ours, and below the limit
-ours-of-c : (s : Bytes) (l high at : ℕ) {v : ℕ} {rest : Bytes} → l ≤ 2 ^ 57 - 1 → Below 256 s → loadUnsignedLoop l high s ≡ loaded v rest → Ours high at s v rest × (v < l * 128)
-ours-of-c [] l high at small bytes e = absurd (let z : ◌≡◌ {A = ℕ} 0 1 = cc in omega arith)
-ours-of-c (b ∷ s) l high at {v} {rest} small bytes e = by-limit (leb l high) refl (ours-of-c s l (high * 128 + b) (at + 1) small bytes.1)
+ours_of_c : (s : Bytes) (l high at : ℕ) {v : ℕ} {rest : Bytes} → l ≤ 2 ^ 57 - 1 → Below 256 s → load_unsigned_loop l high s ≡ loaded v rest → Ours high at s v rest × (v < l * 128)
+ours_of_c [] l high at small bytes e = absurd (let z : ◌≡◌ {A = ℕ} 0 1 = cc in omega arith)
+ours_of_c (b ∷ s) l high at {v} {rest} small bytes e = by_limit (leb l high) refl (ours_of_c s l (high * 128 + b) (at + 1) small bytes.1)
   where
-    by_byte : high < l → (t : Bool) → ltb b 128 ≡ t → cond t (loadUnsignedLoop l (high * 128 + b) s) (loaded (high * 128 + b % 128) s) ≡ loaded v rest
-        → (loadUnsignedLoop l (high * 128 + b) s ≡ loaded v rest → Ours (high * 128 + b) (at + 1) s v rest × (v < l * 128)) → Ours high at (b ∷ s) v rest × (v < l * 128)
+    by_byte : high < l → (t : Bool) → ltb b 128 ≡ t → cond t (load_unsigned_loop l (high * 128 + b) s) (loaded (high * 128 + b % 128) s) ≡ loaded v rest
+        → (load_unsigned_loop l (high * 128 + b) s ≡ loaded v rest → Ours (high * 128 + b) (at + 1) s v rest × (v < l * 128)) → Ours high at (b ∷ s) v rest × (v < l * 128)
     by_byte h true t e later =
         let o = later e in
         (record { to = o.0.to; is = rw (groups-is l high at b v s rest small bytes.0 h, t) o.0.is }, o.1)
@@ -85,21 +85,21 @@ ours-of-c (b ∷ s) l high at {v} {rest} small bytes e = by-limit (leb l high) r
         let value : high * 128 + b % 128 ≡ v = cc in
         (record { to = at + 1; is = rw (groups-is l high at b v s rest small bytes.0 h, t) (cc) }, omega arith)
 
-    by-limit : (t : Bool) → leb l high ≡ t → (loadUnsignedLoop l (high * 128 + b) s ≡ loaded v rest → Ours (high * 128 + b) (at + 1) s v rest × (v < l * 128)) → Ours high at (b ∷ s) v rest × (v < l * 128)
-    by-limit true t later = absurd (let none : integerOverflow ≡ loaded v rest = rw t at e in let z : ◌≡◌ {A = ℕ} 0 1 = cc in omega arith)
-    by-limit false t later =
+    by_limit : (t : Bool) → leb l high ≡ t → (load_unsigned_loop l (high * 128 + b) s ≡ loaded v rest → Ours (high * 128 + b) (at + 1) s v rest × (v < l * 128)) → Ours high at (b ∷ s) v rest × (v < l * 128)
+    by_limit true t later = absurd (let none : integer_overflow ≡ loaded v rest = rw t at e in let z : ◌≡◌ {A = ℕ} 0 1 = cc in omega arith)
+    by_limit false t later =
         let h = leb-false l high t in
-        by_byte h (ltb b 128) refl (rw (loop-is l high at b v s rest small bytes.0 h) at e) later
+        by_byte h (ltb b 128) refl (rw (loop_is l high at b v s rest small bytes.0 h) at e) later
 
-pub loaded-exactly : (limit at : ℕ) (s : Bytes) (v : ℕ) (rest : Bytes) → limit < 2 ^ 64 → Below 256 s → loadUnsigned limit s ≡ loaded v rest ↔ (Ours 0 at s v rest × (v < limit / 128 * 128))
-loaded-exactly limit at s v rest fits bytes =
+pub loaded_exactly : (limit at : ℕ) (s : Bytes) (v : ℕ) (rest : Bytes) → limit < 2 ^ 64 → Below 256 s → load_unsigned limit s ≡ loaded v rest ↔ (Ours 0 at s v rest × (v < limit / 128 * 128))
+loaded_exactly limit at s v rest fits bytes =
     let small : limit / 128 ≤ 2 ^ 57 - 1 = omega arith in
-    (λ e. ours-of-c s (limit / 128) 0 at small bytes e, λ o. c-of-ours s (limit / 128) 0 at small bytes o.0.is o.1)
+    (λ e. ours_of_c s (limit / 128) 0 at small bytes e, λ o. c_of_ours s (limit / 128) 0 at small bytes o.0.is o.1)
 
-pub size-exactly : (at : ℕ) (s : Bytes) (v : ℕ) (rest : Bytes) → Below 256 s → loadSize s ≡ loaded v rest ↔ Ours 0 at s v rest
-size-exactly at s v rest bytes =
-    let both = loaded-exactly (2 ^ 64 - 1) at s v rest (lit< tt) bytes in
-    (λ e. (both.0 e).0, λ o. both.1 (o, (exact-number.sound {at = at} {s = s} o.is).spelt.fits))
+pub size_exactly : (at : ℕ) (s : Bytes) (v : ℕ) (rest : Bytes) → Below 256 s → load_size s ≡ loaded v rest ↔ Ours 0 at s v rest
+size_exactly at s v rest bytes =
+    let both = loaded_exactly (2 ^ 64 - 1) at s v rest (lit< tt) bytes in
+    (λ e. (both.0 e).0, λ o. both.1 (o, (exact_number.sound {at = at} {s = s} o.is).spelt.fits))
 
-pub int-exactly : (at : ℕ) (s : Bytes) (v : ℕ) (rest : Bytes) → Below 256 s → loadInt s ≡ loaded v rest ↔ (Ours 0 at s v rest × (v < 2 ^ 31 - 128))
-int-exactly at s v rest bytes = loaded-exactly (2 ^ 31 - 1) at s v rest (lit< tt) bytes
+pub int_exactly : (at : ℕ) (s : Bytes) (v : ℕ) (rest : Bytes) → Below 256 s → load_int s ≡ loaded v rest ↔ (Ours 0 at s v rest × (v < 2 ^ 31 - 128))
+int_exactly at s v rest bytes = loaded_exactly (2 ^ 31 - 1) at s v rest (lit< tt) bytes

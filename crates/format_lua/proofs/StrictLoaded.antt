@@ -1,7 +1,7 @@
 -- What belongs to the stricter grammar (crates/format_strict) Lua's own loader takes (`Undump`, specs/LundumpFunctions.antt), with the same value; with `proofs/LundumpChunk.antt`, which is the converse: exactly that.
 --     Narrower G F P       bytes of G are bytes of F and spell the same value, and of that P is learnt
---     strict-loads         what belongs to the stricter grammar Lua's loader takes, and it is within the limits
---     strict-as-loaded     a chunk belongs to the stricter grammar exactly where Lua loads it and what is loaded is within the limits (`LoadedWithin`, specs/LundumpWithin.antt)
+--     strict_loads         what belongs to the stricter grammar Lua's loader takes, and it is within the limits
+--     strict_as_loaded     a chunk belongs to the stricter grammar exactly where Lua loads it and what is loaded is within the limits (`LoadedWithin`, specs/LundumpWithin.antt)
 -- For what is within the limits a string limit of at least 1 is asked: a local name that is NULL is shown as `?`, so under a limit of 0 what is shown of it is longer than the limit that its own size was held to.
 -- Assumes nothing.
 use mathlib.Core.Path.{◌≡◌, refl, ◌∙◌, ap}
@@ -19,16 +19,16 @@ use Rattle.format.specs.Form.{Bytes, All, Below, Form, Then, Is, Given, Nothing,
 use Rattle.format.specs.GrammarFields.{LuaString, Number, String}
 use Rattle.format.specs.GrammarFields as ours
 use Rattle.format.specs.Reading.{Prototype, Reading}
-use Rattle.format.specs.GrammarChunk.{inherit, instructionsOf, Where, after, within, Forest, Loaded, outermost}
+use Rattle.format.specs.GrammarChunk.{inherit, instructions_of, Where, after, within, Forest, Loaded, outermost}
 use Rattle.format_strict.specs.GrammarStrict.{Int, StrictCounted, StrictCountedUpTo, There, Present, StrictConstant, StrictAnchor, StrictLocal, StrictBody, StrictFunction, StrictHeader, StrictMain, StrictChunk}
 use Rattle.format_lua.specs.LundumpFunctions.{LoadSize, LoadInt, Content, LoadStringN, NotNull, LoadString, LoadCounted, LoadConstant, LoadAbsLineInfo, LoadLocVar, LoadProtos, LoadFunction, CheckHeader, Undump}
 use Rattle.format_lua.specs.LundumpWithin.{BytesWithin, StringWithin, ConstantWithin, LocalWithin, FunctionWithin, FunctionsWithin, LoadedWithin}
-use Rattle.format.proofs.Every.{Any, every-run, all_append}
+use Rattle.format.proofs.Every.{Any, every_run, all_append}
 use Rattle.format.proofs.Totals.{instructions-append}
 use Rattle.format.proofs.Build.{skip}
 use Rattle.format.proofs.Below.{below_split}
 use Rattle.format.proofs.Wider.{Wider, grouped, opened}
-use Rattle.format_lua.proofs.LundumpParts.{size-loads, int-loads}
+use Rattle.format_lua.proofs.LundumpParts.{size_loads, int-loads}
 use Rattle.format_lua.proofs.LundumpChunk.{undumped}
 
 pub record Narrower {A : Type 0} (G F : Form A) (P : A → Type 0) : Type 0 where
@@ -38,8 +38,8 @@ pub record Narrower {A : Type 0} (G F : Form A) (P : A → Type 0) : Type 0 wher
 same : {A : Type 0} {F : Form A} → Narrower F F Any
 same = record { narrows = λ at b x bytes d. (d, tt) }
 
-none-narrower : {A : Type 0} {F : Form A} {P : A → Type 0} → Narrower Nothing F P
-none-narrower = record { narrows = λ at b x bytes d. absurd d }
+none_narrower : {A : Type 0} {F : Form A} {P : A → Type 0} → Narrower Nothing F P
+none_narrower = record { narrows = λ at b x bytes d. absurd d }
 
 is : {A : Type 0} {x : A} {P : A → Type 0} → P x → Narrower (Is x) (Is x) P
 is {P} p = record { narrows = λ at b y bytes d. (d, rw (← d.1) p) }
@@ -63,77 +63,77 @@ tested two = record {
 }
 
 -- the other form in other groups
-as-form : {A : Type 0} {G F F' : Form A} {P : A → Type 0} → Wider F F' → Narrower G F P → Narrower G F' P
-as-form w n = record { narrows = λ at b x bytes d. let r = n.narrows at b x bytes d in (w.widens r.0, r.1) }
+as_form : {A : Type 0} {G F F' : Form A} {P : A → Type 0} → Wider F F' → Narrower G F P → Narrower G F' P
+as_form w n = record { narrows = λ at b x bytes d. let r = n.narrows at b x bytes d in (w.widens r.0, r.1) }
 
 -- G in other groups
 seen : {A : Type 0} {G G' F : Form A} {P : A → Type 0} → Wider G G' → Narrower G' F P → Narrower G F P
 seen w n = record { narrows = λ at b x bytes d. n.narrows at b x bytes (w.widens d) }
 
-by-tag : {A : Type 0} {G F G' F' : Form A} {P : A → Type 0} (t : Bool) → Narrower G F P → Narrower G' F' P → Narrower (When t G G') (When t F F') P
-by-tag true one two = one
-by-tag false one two = two
+by_tag : {A : Type 0} {G F G' F' : Form A} {P : A → Type 0} (t : Bool) → Narrower G F P → Narrower G' F' P → Narrower (When t G G') (When t F F') P
+by_tag true one two = one
+by_tag false one two = two
 
-many-narrower : {A : Type 0} {G F : Form A} {P : A → Type 0} (n : ℕ) → Narrower G F P → Narrower (Many n G) (Many n F) (λ xs. (length xs ≡ n) × All P xs)
-many-narrower zero one = is (refl, tt)
-many-narrower (suc n) one = part one λ x p. part (many-narrower n one) λ xs q. is (ap suc q.0, (p, q.1))
+many_narrower : {A : Type 0} {G F : Form A} {P : A → Type 0} (n : ℕ) → Narrower G F P → Narrower (Many n G) (Many n F) (λ xs. (length xs ≡ n) × All P xs)
+many_narrower zero one = is (refl, tt)
+many_narrower (suc n) one = part one λ x p. part (many_narrower n one) λ xs q. is (ap suc q.0, (p, q.1))
 
 -- ## Numbers
-size-narrower : Narrower Number LoadSize Any
-size-narrower = record { narrows = λ at b v bytes d. (size-loads at v b bytes d, tt) }
+size_narrower : Narrower Number LoadSize Any
+size_narrower = record { narrows = λ at b v bytes d. (size_loads at v b bytes d, tt) }
 
-int-narrower : Narrower Int LoadInt Any
-int-narrower = record { narrows = λ at b v bytes d. (int-loads at v b bytes d, tt) }
+int_narrower : Narrower Int LoadInt Any
+int_narrower = record { narrows = λ at b v bytes d. (int-loads at v b bytes d, tt) }
 
 -- ## Lists, strings, entries
-into-is : {A B : Type 0} {x : A} {H : A → Form B} → Wider (H x) (Then (Is x) H)
-into-is {x} = record { widens = λ d. skip x (refl, refl) d }
+into_is : {A B : Type 0} {x : A} {H : A → Form B} → Wider (H x) (Then (Is x) H)
+into_is {x} = record { widens = λ d. skip x (refl, refl) d }
 
-run-narrower : (n : ℕ) → Narrower (Run n) (Run n) (λ b. length b ≡ n)
-run-narrower n = record { narrows = λ at b y bytes d. (d, (every-run n).holds at b y d) }
+run_narrower : (n : ℕ) → Narrower (Run n) (Run n) (λ b. length b ≡ n)
+run_narrower n = record { narrows = λ at b y bytes d. (d, (every_run n).holds at b y d) }
 
 module _ {A : Type 0} {G F : Form A} {P : A → Type 0} (one : Narrower G F P) where
-  list-narrower : Narrower (StrictCounted G) (LoadCounted F) (λ l. All P l.items)
-  list-narrower = part int-narrower λ n _. part same λ place _. part (many-narrower n one) λ items q. is q.1
+  list_narrower : Narrower (StrictCounted G) (LoadCounted F) (λ l. All P l.items)
+  list_narrower = part int_narrower λ n _. part same λ place _. part (many_narrower n one) λ items q. is q.1
 
-  upTo-narrower : (limit : ℕ) → Narrower (StrictCountedUpTo limit G) (LoadCounted F) (λ l. (length l.items ≤ limit) × All P l.items)
-  upTo-narrower limit = part int-narrower λ n _. tested λ le. part same λ place _. part (many-narrower n one) λ items q. is (rw q.0 le, q.1)
+  up_to_narrower : (limit : ℕ) → Narrower (StrictCountedUpTo limit G) (LoadCounted F) (λ l. (length l.items ≤ limit) × All P l.items)
+  up_to_narrower limit = part int_narrower λ n _. tested λ le. part same λ place _. part (many_narrower n one) λ items q. is (rw q.0 le, q.1)
 
 module _ (limit : ℕ) where
-  content-narrower : (size : ℕ) → Narrower (ours.Content limit size) (Content size) (StringWithin limit)
-  content-narrower zero = is tt
-  content-narrower (suc n) = tested λ le. part same λ place _. part (run-narrower n) λ bytes sized. is (rw sized le)
+  content_narrower : (size : ℕ) → Narrower (ours.Content limit size) (Content size) (StringWithin limit)
+  content_narrower zero = is tt
+  content_narrower (suc n) = tested λ le. part same λ place _. part (run_narrower n) λ bytes sized. is (rw sized le)
 
-  string-narrower : Narrower (String limit) LoadStringN (StringWithin limit)
-  string-narrower = part size-narrower λ size _. content-narrower size
+  string_narrower : Narrower (String limit) LoadStringN (StringWithin limit)
+  string_narrower = part size_narrower λ size _. content_narrower size
 
-  present-narrower : Narrower (Present limit) LoadString (BytesWithin limit)
-  present-narrower = part string-narrower go
+  present_narrower : Narrower (Present limit) LoadString (BytesWithin limit)
+  present_narrower = part string_narrower go
     where
       go : (t : Option LuaString) → StringWithin limit t → Narrower (There t) (NotNull t) (BytesWithin limit)
-      go none p = none-narrower
+      go none p = none_narrower
       go (some t) p = is p
 
-  constant-narrower : Narrower (StrictConstant limit) LoadConstant (ConstantWithin limit)
-  constant-narrower = part same λ tag _.
-      by-tag (eqb tag 0) (is tt)
-      (by-tag (eqb tag 1) (is tt)
-      (by-tag (eqb tag 17) (is tt)
-      (by-tag (eqb tag 3) (part same λ n _. is tt)
-      (by-tag (eqb tag 19) (part same λ n _. is tt)
-      (by-tag (eqb tag 4) (part present-narrower λ t p. is p)
-      (by-tag (eqb tag 20) (part present-narrower λ t p. is p)
-      none-narrower))))))
+  constant_narrower : Narrower (StrictConstant limit) LoadConstant (ConstantWithin limit)
+  constant_narrower = part same λ tag _.
+      by_tag (eqb tag 0) (is tt)
+      (by_tag (eqb tag 1) (is tt)
+      (by_tag (eqb tag 17) (is tt)
+      (by_tag (eqb tag 3) (part same λ n _. is tt)
+      (by_tag (eqb tag 19) (part same λ n _. is tt)
+      (by_tag (eqb tag 4) (part present_narrower λ t p. is p)
+      (by_tag (eqb tag 20) (part present_narrower λ t p. is p)
+      none_narrower))))))
 
-  local-narrower : Narrower (StrictLocal limit) LoadLocVar (λ l. 1 ≤ limit → LocalWithin limit l)
-  local-narrower = part (part string-narrower λ t p. part same λ place _. is (or_short t place p)) λ name p. part int-narrower λ startpc _. part int-narrower λ endpc _. is p
+  local_narrower : Narrower (StrictLocal limit) LoadLocVar (λ l. 1 ≤ limit → LocalWithin limit l)
+  local_narrower = part (part string_narrower λ t p. part same λ place _. is (or_short t place p)) λ name p. part int_narrower λ startpc _. part int_narrower λ endpc _. is p
     where
       or_short : (t : Option LuaString) (place : ℕ) → StringWithin limit t → 1 ≤ limit → BytesWithin limit (get_or t (record { place = place; bytes = 63 ∷ [] }))
       or_short none place p one = one
       or_short (some t) place p one = p
 
-anchor-narrower : Narrower StrictAnchor LoadAbsLineInfo Any
-anchor-narrower = part int-narrower λ pc _. part int-narrower λ line _. is tt
+anchor_narrower : Narrower StrictAnchor LoadAbsLineInfo Any
+anchor_narrower = part int_narrower λ pc _. part int_narrower λ line _. is tt
 
 -- ## Functions
 all_under : {A : Type 0} {Q : Type 0} (P : A → Type 0) (xs : List A) → All (λ x. Q → P x) xs → Q → All P xs
@@ -150,58 +150,58 @@ module _ (L : ResourceLimits) where
   -- what is learnt of functions: the totals are within their limits, and each function is, where a local name may be `?`
   record Learnt (w : Where) (ps : List Prototype) : Type 0 where
     each : 1 ≤ L.max_string_bytes → All (FunctionWithin L) ps
-    instructions : w.instructions + instructionsOf ps ≤ L.max_total_instructions
+    instructions : w.instructions + instructions_of ps ≤ L.max_total_instructions
     functions : w.number + length ps ≤ suc L.max_total_prototypes
 
-  join-learnt : (w : Where) (ps qs : List Prototype) → Learnt w ps → Learnt (after ps w) qs → Learnt w (ps ++ qs)
-  join-learnt w ps qs a b =
+  join_learnt : (w : Where) (ps qs : List Prototype) → Learnt w ps → Learnt (after ps w) qs → Learnt w (ps ++ qs)
+  join_learnt w ps qs a b =
       let instructions = instructions-append ps qs in
       let functions = length-append ps qs in
       record { each = λ long. all_append (FunctionWithin L) ps qs (a.each long) (b.each long); instructions = omega (arith, b.instructions); functions = omega (arith, b.functions) }
 
-  forest-narrower : (n : ℕ) {G F : Where → Form (List Prototype)} (w : Where) → Begins w → ((v : Where) → v.depth ≡ w.depth → Begins v → Narrower (G v) (F v) (Learnt v))
+  forest_narrower : (n : ℕ) {G F : Where → Form (List Prototype)} (w : Where) → Begins w → ((v : Where) → v.depth ≡ w.depth → Begins v → Narrower (G v) (F v) (Learnt v))
       → Narrower (Forest n G w) (LoadProtos n F w) (Learnt w)
-  forest-narrower zero w b one = is (record { each = λ long. tt; instructions = omega (arith, b.instructions); functions = omega (arith, b.number) })
-  forest-narrower (suc n) w b one =
+  forest_narrower zero w b one = is (record { each = λ long. tt; instructions = omega (arith, b.instructions); functions = omega (arith, b.number) })
+  forest_narrower (suc n) w b one =
       part (one w refl b) λ ps p.
-      part (forest-narrower n (after ps w) (record { instructions = p.instructions; number = p.functions; source = b.source }) one) λ more q.
-      is (join-learnt w ps more p q)
+      part (forest_narrower n (after ps w) (record { instructions = p.instructions; number = p.functions; source = b.source }) one) λ more q.
+      is (join_learnt w ps more p q)
 
   inherits : (t parent : Option LuaString) → StringWithin L.max_string_bytes t → StringWithin L.max_string_bytes parent → StringWithin L.max_string_bytes (inherit t parent)
   inherits none parent p q = q
   inherits (some t) parent p q = p
 
-  body-narrower : (left : ℕ) {G : Where → Form (List Prototype)} (w : Where) → w.depth ≤ L.max_nesting_depth → w.number ≤ L.max_total_prototypes → Begins w
+  body_narrower : (left : ℕ) {G : Where → Form (List Prototype)} (w : Where) → w.depth ≤ L.max_nesting_depth → w.number ≤ L.max_total_prototypes → Begins w
       → ((v : Where) → v.depth ≡ w.depth + 1 → Begins v → Narrower (G v) (LoadFunction left v) (Learnt v)) → Narrower (StrictBody L G w) (LoadFunction (suc left) w) (Learnt w)
   unfolding LoadFunction StrictBody
-  body-narrower left w deep few b one =
+  body_narrower left w deep few b one =
       part same λ start _.
-      part (string-narrower L.max_string_bytes) λ source s.
-      part int-narrower λ linedefined _.
-      part int-narrower λ lastlinedefined _.
+      part (string_narrower L.max_string_bytes) λ source s.
+      part int_narrower λ linedefined _.
+      part int_narrower λ lastlinedefined _.
       part same λ numparams _.
-      part same λ is-vararg _.
+      part same λ is_vararg _.
       part same λ maxstacksize _.
-      as-form grouped (part int-narrower λ size _.
+      as_form grouped (part int_narrower λ size _.
       tested λ per.
       tested λ total.
-      as-form grouped (part same λ instructions-at _.
-      as-form grouped (part (many-narrower size (same {F = ours.Field 4})) λ instructions counted.
-      as-form into-is (
-      part (upTo-narrower (constant-narrower L.max_string_bytes) L.max_constants_per_proto) λ constants k.
-      part (upTo-narrower same L.max_upvalues_per_proto) λ upvalues u.
-      part int-narrower λ protos _.
+      as_form grouped (part same λ instructions-at _.
+      as_form grouped (part (many_narrower size (same {F = ours.Field 4})) λ instructions counted.
+      as_form into_is (
+      part (up_to_narrower (constant_narrower L.max_string_bytes) L.max_constants_per_proto) λ constants k.
+      part (up_to_narrower same L.max_upvalues_per_proto) λ upvalues u.
+      part int_narrower λ protos _.
       tested λ nests.
       part same λ protos-at _.
-      part (forest-narrower protos (within w (inherit source w.source) (length instructions))
+      part (forest_narrower protos (within w (inherit source w.source) (length instructions))
       (record { instructions = omega (arith, counted.0); number = omega arith; source = inherits source w.source s b.source }) one) λ nested inner.
-      as-form grouped (part int-narrower λ line-info-size _.
-      as-form grouped (part same λ line-info-at _.
-      as-form grouped (part same λ line-info _.
-      as-form grouped (part (list-narrower anchor-narrower) λ abs-line-info _.
-      as-form grouped (part (list-narrower (local-narrower L.max_string_bytes)) λ loc-vars v.
-      as-form grouped (part (list-narrower (string-narrower L.max_string_bytes)) λ upvalue-names n.
-      as-form into-is (
+      as_form grouped (part int_narrower λ line-info-size _.
+      as_form grouped (part same λ line-info-at _.
+      as_form grouped (part same λ line_info_lem _.
+      as_form grouped (part (list_narrower anchor_narrower) λ abs_line_info _.
+      as_form grouped (part (list_narrower (local_narrower L.max_string_bytes)) λ loc_vars v.
+      as_form grouped (part (list_narrower (string_narrower L.max_string_bytes)) λ upvalue_names_lem n.
+      as_form into_is (
       part same λ end _.
       is (record {
         each = λ long. (
@@ -210,11 +210,11 @@ module _ (L : ResourceLimits) where
             source = inherits source w.source s b.source;
             instructions = omega (arith, counted.0);
             constants = k.0;
-            constant-strings = k.1;
+            constant_strings = k.1;
             upvalues = u.0;
             protos = nests;
-            local-names = all_under (LocalWithin L.max_string_bytes) loc-vars.items v long;
-            upvalue-names = n;
+            local_names = all_under (LocalWithin L.max_string_bytes) loc_vars.items v long;
+            upvalue_names_lem = n;
           },
           inner.each long,
         );
@@ -222,34 +222,34 @@ module _ (L : ResourceLimits) where
         functions = omega (arith, inner.functions);
       }))))))))))))
 
-  function-narrower : (left : ℕ) (w : Where) → w.depth + left ≤ L.max_nesting_depth → w.number ≤ L.max_total_prototypes → Begins w
+  function_narrower : (left : ℕ) (w : Where) → w.depth + left ≤ L.max_nesting_depth → w.number ≤ L.max_total_prototypes → Begins w
       → Narrower (StrictFunction L left w) (LoadFunction (suc left) w) (Learnt w)
   unfolding StrictFunction
-  function-narrower zero w deep few b = body-narrower zero w (omega arith) few b λ v below _. none-narrower
-  function-narrower (suc left) w deep few b = body-narrower (suc left) w (omega arith) few b λ v below c. tested λ few'. function-narrower left v (omega arith) few' c
+  function_narrower zero w deep few b = body_narrower zero w (omega arith) few b λ v below _. none_narrower
+  function_narrower (suc left) w deep few b = body_narrower (suc left) w (omega arith) few b λ v below c. tested λ few'. function_narrower left v (omega arith) few' c
 
-  main-narrower : Narrower (StrictMain L) (Undump (suc L.max_nesting_depth)) (λ m. Learnt outermost m.functions)
-  main-narrower =
-      part header-narrower λ headed _.
+  main_narrower : Narrower (StrictMain L) (Undump (suc L.max_nesting_depth)) (λ m. Learnt outermost m.functions)
+  main_narrower =
+      part header_narrower λ headed _.
       part same λ nupvalues _.
-      part (function-narrower L.max_nesting_depth outermost (omega arith) (omega arith) (record { instructions = omega arith; number = omega arith; source = tt })) λ functions p.
+      part (function_narrower L.max_nesting_depth outermost (omega arith) (omega arith) (record { instructions = omega arith; number = omega arith; source = tt })) λ functions p.
       is p
     where
-      header-narrower : Narrower StrictHeader CheckHeader Any
-      header-narrower = seen opened (part same λ _ _. part same λ _ _. part same λ _ _.
+      header_narrower : Narrower StrictHeader CheckHeader Any
+      header_narrower = seen opened (part same λ _ _. part same λ _ _. part same λ _ _.
           seen opened (part same λ _ _. seen opened (part same λ _ _. seen opened (part same λ _ _. seen opened (part same λ _ _. seen opened (part same λ _ _. part same λ _ _. is tt))))))
 
-  pub strict-loads : (at : ℕ) (b : Bytes) (m : Loaded) → Below 256 b → StrictMain L at b m
+  pub strict_loads : (at : ℕ) (b : Bytes) (m : Loaded) → Below 256 b → StrictMain L at b m
       → Undump (suc L.max_nesting_depth) at b m × (1 ≤ L.max_string_bytes → FunctionsWithin L outermost m.functions)
-  strict-loads at b m bytes d =
-      let r = main-narrower.narrows at b m bytes d in
+  strict_loads at b m bytes d =
+      let r = main_narrower.narrows at b m bytes d in
       (r.0, λ long. record { each = r.1.each long; instructions = r.1.instructions; functions = r.1.functions })
 
 -- ## Chunks
-pub strict-as-loaded : (L : ResourceLimits) (chunk : Bytes) (r : Reading) → 1 ≤ L.max_string_bytes → Below 256 chunk → StrictChunk L chunk r ↔ LoadedWithin L chunk r
-strict-as-loaded L chunk r long bytes = (
+pub strict_as_loaded : (L : ResourceLimits) (chunk : Bytes) (r : Reading) → 1 ≤ L.max_string_bytes → Below 256 chunk → StrictChunk L chunk r ↔ LoadedWithin L chunk r
+strict_as_loaded L chunk r long bytes = (
   λ c.
-      let both = strict-loads L 0 c.front c.value (below_split 256 c.front c.trailing (rw c.whole at bytes)).0 c.main in
+      let both = strict_loads L 0 c.front c.value (below_split 256 c.front c.trailing (rw c.whole at bytes)).0 c.main in
       record { front = c.front; trailing = c.trailing; whole = c.whole; left = suc L.max_nesting_depth; value = c.value; loads = both.0; within = both.1 long; shows = c.shows },
   λ l. record { front = l.front; trailing = l.trailing; whole = l.whole; value = l.value; main = undumped L l.left 0 l.front l.value l.loads l.within; shows = l.shows },
 )

@@ -22,8 +22,8 @@ seen_as w rest = record { widens = λ at b x p d. rest.widens at b x p (w.widens
 pub unasked : {A : Type 0} {P : A → Type 0} {F G : Form A} → Wider F G → WiderIf P (Unit {0}) F G
 unasked w = record { widens = λ at b x p d. (w.widens d, tt) }
 
-pub none-if : {A : Type 0} {P : A → Type 0} {R : Type 0} {G : Form A} → WiderIf P R Nothing G
-none-if = record { widens = λ at b x p d. absurd d }
+pub none_if : {A : Type 0} {P : A → Type 0} {R : Type 0} {G : Form A} → WiderIf P R Nothing G
+none_if = record { widens = λ at b x p d. absurd d }
 
 -- less is said of what was learnt
 pub learnt : {A : Type 0} {P : A → Type 0} {R S : Type 0} {F G : Form A} → (R → S) → WiderIf P R F G → WiderIf P S F G
@@ -61,18 +61,18 @@ module _ {A B : Type 0} {P : B → Type 0} {R : Type 0} {F F' : Form A} {G G' : 
 
 -- the same where it is the first part of a group
 module _ {A B C : Type 0} {P : C → Type 0} {R : Type 0} {F F' : Form A} {G : A → Form B} {H : B → Form C} {K : A → Form C} where
-  pub tested-in : {Q : A → Type 0} → WiderIf Q (Unit {0}) F F' → ((x : A) → WiderIf P (Q x × R) (Then (G x) H) (K x)) → WiderIf P R (Then (Then F G) H) (Then F' K)
-  tested-in one two = seen_as opened (tested one two)
+  pub tested_in : {Q : A → Type 0} → WiderIf Q (Unit {0}) F F' → ((x : A) → WiderIf P (Q x × R) (Then (G x) H) (K x)) → WiderIf P R (Then (Then F G) H) (Then F' K)
+  tested_in one two = seen_as opened (tested one two)
 
-  pub knows-in : {Q : A → Type 0} → Every F Q → Wider F F' → ((x : A) → Q x → WiderIf P R (Then (G x) H) (K x)) → WiderIf P R (Then (Then F G) H) (Then F' K)
-  knows-in every one two = seen_as opened (knows every one two)
+  pub knows_in : {Q : A → Type 0} → Every F Q → Wider F F' → ((x : A) → Q x → WiderIf P R (Then (G x) H) (K x)) → WiderIf P R (Then (Then F G) H) (Then F' K)
+  knows_in every one two = seen_as opened (knows every one two)
 
-  pub untested-in : Wider F F' → ((x : A) → WiderIf P R (Then (G x) H) (K x)) → WiderIf P R (Then (Then F G) H) (Then F' K)
-  untested-in one two = seen_as opened (untested one two)
+  pub untested_in : Wider F F' → ((x : A) → WiderIf P R (Then (G x) H) (K x)) → WiderIf P R (Then (Then F G) H) (Then F' K)
+  untested_in one two = seen_as opened (untested one two)
 
 -- the end of a group
-pub ends-in : {A B : Type 0} {P : B → Type 0} {R : Type 0} {x : A} {H : A → Form B} {K : Form B} → WiderIf P R (H x) K → WiderIf P R (Then (Is x) H) K
-ends-in rest = seen_as known rest
+pub ends_in : {A B : Type 0} {P : B → Type 0} {R : Type 0} {x : A} {H : A → Form B} {K : Form B} → WiderIf P R (H x) K → WiderIf P R (Then (Is x) H) K
+ends_in rest = seen_as known rest
 
 module _ {A : Type 0} {P : A → Type 0} {R : Type 0} {F G : Form A} where
   -- a test that the other form adds
@@ -83,11 +83,11 @@ module _ {A : Type 0} {P : A → Type 0} {R : Type 0} {F G : Form A} where
         (skip tt (refl, r.1.0) r.0, r.1.1);
   }
 
-  pub by-test : {F' G' : Form A} (t : Bool) → WiderIf P R F F' → WiderIf P R G G' → WiderIf P R (When t F G) (When t F' G')
-  by-test true one two = one
-  by-test false one two = two
+  pub by_test : {F' G' : Form A} (t : Bool) → WiderIf P R F F' → WiderIf P R G G' → WiderIf P R (When t F G) (When t F' G')
+  by_test true one two = one
+  by_test false one two = two
 
 -- each of many
-pub many-if : {A : Type 0} {P : A → Type 0} {F G : Form A} (n : ℕ) → WiderIf P (Unit {0}) F G → WiderIf (All P) (Unit {0}) (Many n F) (Many n G)
-many-if zero one = ends λ p. tt
-many-if (suc n) one = tested one λ x. tested (many-if n one) λ xs. ends λ p. (p.1, (p.0, tt))
+pub many_if : {A : Type 0} {P : A → Type 0} {F G : Form A} (n : ℕ) → WiderIf P (Unit {0}) F G → WiderIf (All P) (Unit {0}) (Many n F) (Many n G)
+many_if zero one = ends λ p. tt
+many_if (suc n) one = tested one λ x. tested (many_if n one) λ xs. ends λ p. (p.1, (p.0, tt))

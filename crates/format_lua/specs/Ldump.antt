@@ -9,18 +9,18 @@ DIBS = 64 / 7 + 1
 
 -- do { buff[DIBS - (++n)] = x & 0x7f; x >>= 7; } while (x != 0);
 -- The buffer is filled from its end: `buff` is its filled part, and the first argument how many bytes of it are free.
-abbrev pub dumpSizeLoop : ℕ → ℕ → Bytes → Bytes
-dumpSizeLoop zero x buff = buff
-dumpSizeLoop (suc free) x buff =
+abbrev pub dump_size_loop : ℕ → ℕ → Bytes → Bytes
+dump_size_loop zero x buff = buff
+dump_size_loop (suc free) x buff =
     let filled = bit_and x 0x7f ∷ buff in
-    let more = dumpSizeLoop free (x / 2 ^ 7) filled in
+    let more = dump_size_loop free (x / 2 ^ 7) filled in
     cond (eqb (x / 2 ^ 7) 0) filled more
 
 -- buff[DIBS - 1] |= 0x80
-abbrev pub markLast : Bytes → Bytes
-markLast [] = []
-markLast (x ∷ []) = bit_or x 0x80 ∷ []
-markLast (x ∷ y ∷ ys) = x ∷ markLast (y ∷ ys)
+abbrev pub mark_last : Bytes → Bytes
+mark_last [] = []
+mark_last (x ∷ []) = bit_or x 0x80 ∷ []
+mark_last (x ∷ y ∷ ys) = x ∷ mark_last (y ∷ ys)
 
-unfoldable pub dumpSize : ℕ → Bytes
-dumpSize x = markLast (dumpSizeLoop DIBS x [])
+unfoldable pub dump_size : ℕ → Bytes
+dump_size x = mark_last (dump_size_loop DIBS x [])

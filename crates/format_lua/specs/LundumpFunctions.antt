@@ -12,17 +12,17 @@ use Rattle.format.specs.declared.entry.UpvalueDesc.{UpvalueDesc}
 use Rattle.format.specs.declared.entry.AbsLineInfo.{AbsLineInfo}
 use Rattle.format.specs.Form.{Bytes, Below, Form, Then, ◌>>=◌, ◌>>◌, Is, Here, Spelt, Nothing, When, Run, Many}
 use Rattle.format.specs.GrammarFields.{Field, LuaString}
-use Rattle.format.specs.GrammarHeader.{Headed, signature, luacData, luacInt, luacNum, headerOf}
+use Rattle.format.specs.GrammarHeader.{Headed, signature, luac_data, luac_int, luac_num, header_of}
 use Rattle.format.specs.Reading.{ConstantValue, nil, boolean, integer, float, short-string, long-string, LocalVar, Places, Prototype}
 use Rattle.format.specs.GrammarChunk.{Listed, inherit, Where, after, within, prototype, Loaded, outermost}
-use Rattle.format_lua.specs.Lundump.{loaded, loadSize, loadInt}
+use Rattle.format_lua.specs.Lundump.{loaded, load_size, load_int}
 
 -- the bytes that `loadSize` and `loadInt` take to the last. Ours is a number for both: an int is below 2^31 - 128 here
 abbrev pub LoadSize : Form ℕ
-LoadSize at bytes v = Below 256 bytes × (loadSize bytes ≡ loaded v [])
+LoadSize at bytes v = Below 256 bytes × (load_size bytes ≡ loaded v [])
 
 abbrev pub LoadInt : Form ℕ
-LoadInt at bytes v = Below 256 bytes × (loadInt bytes ≡ loaded v [])
+LoadInt at bytes v = Below 256 bytes × (load_int bytes ≡ loaded v [])
 
 abbrev pub LoadByte : Form ℕ
 LoadByte = Field 1
@@ -50,7 +50,7 @@ LoadString = do
   st ← LoadStringN
   NotNull st
 
--- int n = loadInt(S); .. for (i = 0; i < n; i++) .., or loadVector(S, .., n): in `loadCode`, `loadConstants`, `loadUpvalues` and three times in `loadDebug`
+-- int n = load_int(S); .. for (i = 0; i < n; i++) .., or loadVector(S, .., n): in `loadCode`, `loadConstants`, `loadUpvalues` and three times in `loadDebug`
 abbrev pub LoadCounted : {A : Type 0} → Form A → Form (Listed A)
 LoadCounted F = do
   n ← LoadInt
@@ -110,7 +110,7 @@ LoadProtos (suc n) F w = do
   more ← LoadProtos n F (after ps w)
   Is (ps ++ more)
 
--- f->abslineinfo[i].pc = loadInt(S); .line
+-- f->abslineinfo[i].pc = load_int(S); .line
 abbrev pub LoadAbsLineInfo : Form AbsLineInfo
 LoadAbsLineInfo = do
   pc ← LoadInt
@@ -124,7 +124,7 @@ LoadVarName = do
   place ← Here
   Is (get_or varname (record { place = place; bytes = 63 ∷ [] }))
 
--- and .startpc = loadInt(S), .endpc
+-- and .startpc = load_int(S), .endpc
 abbrev pub LoadLocVar : Form LocalVar
 LoadLocVar = do
   varname ← LoadVarName
@@ -137,7 +137,7 @@ pub record Debug : Type 0 where
   pub lineinfo : Bytes
   pub abslineinfo : Listed AbsLineInfo
   pub locvars : Listed LocalVar
-  pub upvalue-names : Listed (Option LuaString)
+  pub upvalue_names_lem : Listed (Option LuaString)
 
 abbrev pub LoadDebug : Form Debug
 LoadDebug = do
@@ -146,8 +146,8 @@ LoadDebug = do
   lineinfo ← Run n
   abslineinfo ← LoadCounted LoadAbsLineInfo
   locvars ← LoadCounted LoadLocVar
-  upvalue-names ← LoadCounted LoadStringN
-  Is (record { lineinfo-at = lineinfo-at; lineinfo = lineinfo; abslineinfo = abslineinfo; locvars = locvars; upvalue-names = upvalue-names })
+  upvalue_names_lem ← LoadCounted LoadStringN
+  Is (record { lineinfo-at = lineinfo-at; lineinfo = lineinfo; abslineinfo = abslineinfo; locvars = locvars; upvalue_names_lem = upvalue_names_lem })
 
 -- if (f->source == NULL) f->source = psource. The first argument bounds how deep functions nest, and C has no such bound; `Where` is how we number the functions
 unfoldable pub LoadFunction : ℕ → Where → Form (List Prototype)
@@ -158,7 +158,7 @@ LoadFunction (suc left) w = do
   linedefined ← LoadInt
   lastlinedefined ← LoadInt
   numparams ← LoadByte
-  is-vararg ← LoadByte
+  is_vararg ← LoadByte
   maxstacksize ← LoadByte
   code ← LoadCode
   k ← LoadConstants
@@ -168,7 +168,7 @@ LoadFunction (suc left) w = do
   p ← LoadProtos n (LoadFunction left) (within w (inherit source w.source) (length code.items))
   debug ← LoadDebug
   end ← Here
-  Is (prototype w start source linedefined lastlinedefined numparams is-vararg maxstacksize code k upvalues protos-at n (record { place = debug.lineinfo-at; items = debug.lineinfo }) debug.abslineinfo debug.locvars debug.upvalue-names end ∷ p)
+  Is (prototype w start source linedefined lastlinedefined numparams is_vararg maxstacksize code k upvalues protos-at n (record { place = debug.lineinfo-at; items = debug.lineinfo }) debug.abslineinfo debug.locvars debug.upvalue_names_lem end ∷ p)
 
 -- LUA_SIGNATURE, LUAC_VERSION, LUAC_FORMAT, LUAC_DATA, sizes, LUAC_INT, LUAC_NUM. Ours takes any format byte. In C the signature's first byte was read and compared before,
 -- by the caller (ldo.c's `f_parser`), and here is checkliteral(S, &LUA_SIGNATURE[1], ..)
@@ -177,13 +177,13 @@ CheckHeader = do
   Spelt signature
   Spelt (0x54 ∷ [])
   Spelt (0 ∷ [])
-  Spelt luacData
+  Spelt luac_data
   Spelt (4 ∷ [])
   Spelt (8 ∷ [])
   Spelt (8 ∷ [])
-  Spelt luacInt
-  Spelt luacNum
-  Is (record { header = headerOf 0; warnings = [] })
+  Spelt luac_int
+  Spelt luac_num
+  Is (record { header = header_of 0; warnings = [] })
 
 -- `luaU_undump`: checkHeader(&S); cl = luaF_newLclosure(L, loadByte(&S)); loadFunction(&S, cl->p, NULL)
 abbrev pub Undump : ℕ → Form Loaded

@@ -8,7 +8,7 @@ use Rattle.format.specs.declared.limits.ResourceLimits.{ResourceLimits}
 use Rattle.format.specs.Form.{Bytes, All}
 use Rattle.format.specs.GrammarFields.{LuaString}
 use Rattle.format.specs.Reading.{ConstantValue, nil, boolean, integer, float, short-string, long-string, LocalVar, Prototype, Reading}
-use Rattle.format.specs.GrammarChunk.{instructionsOf, Where, Loaded, outermost, reading}
+use Rattle.format.specs.GrammarChunk.{instructions_of, Where, Loaded, outermost, reading}
 use Rattle.format_lua.specs.LundumpFunctions.{Undump}
 
 -- ## Strings and entries, by the limit on strings
@@ -40,16 +40,16 @@ pub record FunctionWithin (L : ResourceLimits) (p : Prototype) : Type 0 where
   pub source : StringWithin L.max_string_bytes p.source_name
   pub instructions : length p.instructions ≤ L.max_instructions_per_proto
   pub constants : length p.constants ≤ L.max_constants_per_proto
-  pub constant-strings : All (ConstantWithin L.max_string_bytes) p.constants
+  pub constant_strings : All (ConstantWithin L.max_string_bytes) p.constants
   pub upvalues : length p.upvalues ≤ L.max_upvalues_per_proto
   pub protos : p.protos ≤ L.max_total_prototypes
-  pub local-names : All (LocalWithin L.max_string_bytes) p.loc-vars
-  pub upvalue-names : All (StringWithin L.max_string_bytes) p.upvalue-names
+  pub local_names : All (LocalWithin L.max_string_bytes) p.loc_vars
+  pub upvalue_names_lem : All (StringWithin L.max_string_bytes) p.upvalue_names_lem
 
 -- the totals are those of all functions up to the last of these; main is none of the nested ones
 pub record FunctionsWithin (L : ResourceLimits) (w : Where) (ps : List Prototype) : Type 0 where
   pub each : All (FunctionWithin L) ps
-  pub instructions : w.instructions + instructionsOf ps ≤ L.max_total_instructions
+  pub instructions : w.instructions + instructions_of ps ≤ L.max_total_instructions
   pub functions : w.number + length ps ≤ suc L.max_total_prototypes
 
 -- ## Chunks

@@ -5,7 +5,7 @@ use mathlib.Core.List.{List, [], ◌∷◌, ◌++◌, map}
 use Prim.Native.Nat.{ℕ}
 use Rattle.format.specs.Form.{Bytes}
 use Rattle.format.specs.Limits.{ceilings}
-use Rattle.format.specs.Copy.{headerBytes}
+use Rattle.format.specs.Copy.{header_bytes}
 use Rattle.format.specs.ReadChunk as reader
 use Rattle.format_spelling.specs.ReadSpelling as count
 
@@ -120,6 +120,6 @@ cases =
     ∷ record { padded = 1; behind = 0 ∷ 128 ∷ 0 ∷ 1 ∷ 127 ∷ 127 ∷ 127 ∷ 127 ∷ 127 ∷ 127 ∷ 127 ∷ 126 ∷ 255 ∷ 128 ∷ 0 ∷ 0 ∷ 2 ∷ 128 ∷ 128 ∷ 128 ∷ 128 ∷ 128 ∷ 128 ∷ 128 ∷ 128 ∷ [] }
     ∷ []
 
-cases-hold : map (λ (c : Case). (count.spelling ceilings (headerBytes 0 ++ c.behind)).padded) cases ≡ map (λ (c : Case). c.padded) cases
+cases_hold : map (λ (c : Case). (count.spelling ceilings (header_bytes 0 ++ c.behind)).padded) cases ≡ map (λ (c : Case). c.padded) cases
 unfolding cases count.spelling count.function count.body reader.function reader.body
-cases-hold = refl
+cases_hold = refl

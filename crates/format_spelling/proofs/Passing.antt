@@ -15,7 +15,7 @@ use Rattle.format_spelling.specs.Spelling.{same, ◌⊕◌}
 use Rattle.format_spelling.specs.ReadSpelling.{Count, none, plus, behind}
 use Rattle.format_spelling.specs.ReadSpelling as count
 use Rattle.format.proofs.Exact.{never}
-use Rattle.format_spelling.proofs.Sums.{join-same}
+use Rattle.format_spelling.proofs.Sums.{join_same}
 
 pub record Ran {A B : Type 0} (r : Reader A) (f : A → Reader B) (at : ℕ) (s : Bytes) (y : B) (to : ℕ) (rest : Bytes) : Type 0 where
   pub value : A
@@ -61,7 +61,7 @@ many-none {A} (suc n) r at s = by (r at s) (λ to rest. many-none n r to rest)
     by (refused q) more = refl
 
 pub counted_none : {A : Type 0} (r : Reader A) (at : ℕ) (s : Bytes) → count.counted r none at s ≡ count.number at s
-counted_none r at s = by (field.number at s) ∙ join-same (count.number at s)
+counted_none r at s = by (field.number at s) ∙ join_same (count.number at s)
   where
     by : (o : Read ℕ) → count.number at s ⊕ behind o (λ n. count.many n r none) ≡ count.number at s ⊕ same
     by (ok n to rest) = ap (λ a. count.number at s ⊕ a) (many-none n r to rest)

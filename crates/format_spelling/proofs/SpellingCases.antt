@@ -8,13 +8,13 @@ use lib.ListN.{drop}
 use Rattle.format.specs.Form.{Bytes}
 use Rattle.format.specs.Limits.{ceilings}
 use Rattle.format.specs.Shortest.{shortest}
-use Rattle.format.specs.Copy.{headerBytes, behindSource, listBytes, copy}
-use Rattle.format.specs.FullCopy.{allWithin, fullFunction, fullCopy}
-use Rattle.format.specs.ReadHeader.{sameBytes}
+use Rattle.format.specs.Copy.{header_bytes, behind_source, list_bytes, copy}
+use Rattle.format.specs.FullCopy.{all_within, full_function, full_copy}
+use Rattle.format.specs.ReadHeader.{same_bytes}
 use Rattle.format.specs.ReadChunk.{Outcome, shown, refusal, read}
 use Rattle.format.specs.ReadChunk as reader
 use Rattle.format.specs.declared.spelling.Spelling.{Spelling}
-use Rattle.format_spelling.specs.Spelling.{respelt, respeltFull}
+use Rattle.format_spelling.specs.Spelling.{respelt, respelt_full}
 use Rattle.format_spelling.specs.ReadSpelling as count
 
 record Spelt : Type 0 where
@@ -24,7 +24,7 @@ record Spelt : Type 0 where
   spelling : Spelling
 
 abbrev chunk_of : Spelt → Bytes
-chunk_of c = headerBytes c.format ++ c.behind
+chunk_of c = header_bytes c.format ++ c.behind
 
 spelt : List Spelt
 spelt =
@@ -86,22 +86,22 @@ spelt =
     ∷ record { format = 0; behind = 0 ∷ 0 ∷ 131 ∷ 64 ∷ 120 ∷ 128 ∷ 128 ∷ 0 ∷ 0 ∷ 2 ∷ 128 ∷ 130 ∷ 4 ∷ 0 ∷ 0 ∷ 128 ∷ 20 ∷ 130 ∷ 122 ∷ 128 ∷ 130 ∷ 131 ∷ 64 ∷ 120 ∷ 128 ∷ 128 ∷ 0 ∷ 0 ∷ 2 ∷ 128 ∷ 128 ∷ 128 ∷ 128 ∷ 128 ∷ 128 ∷ 128 ∷ 128 ∷ 131 ∷ 64 ∷ 121 ∷ 128 ∷ 128 ∷ 0 ∷ 0 ∷ 2 ∷ 128 ∷ 128 ∷ 128 ∷ 128 ∷ 128 ∷ 128 ∷ 129 ∷ 128 ∷ 128 ∷ 128 ∷ 128 ∷ 128 ∷ 128 ∷ 130 ∷ 128 ∷ 128 ∷ 128 ∷ 130 ∷ 97 ∷ 129 ∷ 130 ∷ 128 ∷ []; spelling = record { padded = 2; filled = 3; sources = 2; repeated = 1 } }
     ∷ []
 
-spelt-hold : map (λ (c : Spelt). count.spelling ceilings (chunk_of c)) spelt ≡ map (λ (c : Spelt). c.spelling) spelt
+spelt_hold : map (λ (c : Spelt). count.spelling ceilings (chunk_of c)) spelt ≡ map (λ (c : Spelt). c.spelling) spelt
 unfolding spelt count.spelling count.function count.body reader.function reader.body
-spelt-hold = refl
+spelt_hold = refl
 
 abbrev copied : Outcome → Bytes
 copied (shown r) = drop 32 (copy r)
 copied (refusal q) = []
 
-own-hold : map (λ (c : Spelt). sameBytes (copied (read ceilings (chunk_of c))) (drop 32 (chunk_of c))) spelt ≡ map (λ (c : Spelt). eqb (respelt c.spelling) 0) spelt
-unfolding spelt read reader.function reader.body copy behindSource listBytes shortest flatten
-own-hold = refl
+own_hold : map (λ (c : Spelt). same_bytes (copied (read ceilings (chunk_of c))) (drop 32 (chunk_of c))) spelt ≡ map (λ (c : Spelt). eqb (respelt c.spelling) 0) spelt
+unfolding spelt read reader.function reader.body copy behind_source list_bytes shortest flatten
+own_hold = refl
 
-abbrev copiedInFull : Outcome → Bytes
-copiedInFull (shown r) = drop 32 (fullCopy r)
-copiedInFull (refusal q) = []
+abbrev copied_in_full : Outcome → Bytes
+copied_in_full (shown r) = drop 32 (full_copy r)
+copied_in_full (refusal q) = []
 
-own-full-hold : map (λ (c : Spelt). sameBytes (copiedInFull (read ceilings (chunk_of c))) (drop 32 (chunk_of c))) spelt ≡ map (λ (c : Spelt). eqb (respeltFull c.spelling) 0) spelt
-unfolding spelt read reader.function reader.body fullCopy fullFunction allWithin behindSource listBytes shortest flatten
-own-full-hold = refl
+own_full_hold : map (λ (c : Spelt). same_bytes (copied_in_full (read ceilings (chunk_of c))) (drop 32 (chunk_of c))) spelt ≡ map (λ (c : Spelt). eqb (respelt_full c.spelling) 0) spelt
+unfolding spelt read reader.function reader.body full_copy full_function all_within behind_source list_bytes shortest flatten
+own_full_hold = refl

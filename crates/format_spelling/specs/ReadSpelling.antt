@@ -35,12 +35,12 @@ abbrev pub besides : {A : Type 0} → Reader A → Count → (A → Spelling) �
 besides r c f = plus r c λ x at s. f x
 
 -- a number that begins there is padded
-abbrev pub isPadded : Bytes → Bool
-isPadded [] = false
-isPadded (x ∷ s) = eqb x 0
+abbrev pub is_padded : Bytes → Bool
+is_padded [] = false
+is_padded (x ∷ s) = eqb x 0
 
 abbrev pub number : Count
-number at s = record { padded = cond (isPadded s) 1 0; filled = 0; sources = 0; repeated = 0 }
+number at s = record { padded = cond (is_padded s) 1 0; filled = 0; sources = 0; repeated = 0 }
 
 -- a string's size
 abbrev pub string : Count
@@ -88,20 +88,20 @@ unfoldable pub body : (L : ResourceLimits) → (Where → Reader (List Prototype
 body L r c w =
     plus (field.string L.max_string_bytes) (source L.max_string_bytes w) λ spelt.
     plus field.number number λ line_defined.
-    plus field.number number λ last-line-defined.
+    plus field.number number λ last-line_defined.
     plus field.byte none λ numparams.
-    plus field.byte none λ is-vararg.
+    plus field.byte none λ is_vararg.
     plus field.byte none λ maxstacksize.
     plus field.number number λ size.
     plus (plain.many size (field.field 4)) none λ instructions.
-    plus (reader.countedUpTo L.max_constants_per_proto Constants (reader.constant L.max_string_bytes)) (counted (reader.constant L.max_string_bytes) (constant L.max_string_bytes)) λ constants.
-    plus (reader.countedUpTo L.max_upvalues_per_proto Upvalues reader.upvalue) (counted reader.upvalue none) λ upvalues.
+    plus (reader.counted_up_to L.max_constants_per_proto Constants (reader.constant L.max_string_bytes)) (counted (reader.constant L.max_string_bytes) (constant L.max_string_bytes)) λ constants.
+    plus (reader.counted_up_to L.max_upvalues_per_proto Upvalues reader.upvalue) (counted reader.upvalue none) λ upvalues.
     plus field.number number λ protos.
     plus (reader.forest protos r (within w (inherit spelt w.source) (length instructions))) (forest protos r c (within w (inherit spelt w.source) (length instructions))) λ nested.
     plus field.number number λ line-info-size.
-    plus (run line-info-size) none λ line-info.
-    plus (reader.counted reader.anchor) (counted reader.anchor anchor) λ abs-line-info.
-    plus (reader.counted (reader.local L.max_string_bytes)) (counted (reader.local L.max_string_bytes) (local L.max_string_bytes)) λ loc-vars.
+    plus (run line-info-size) none λ line_info_lem.
+    plus (reader.counted reader.anchor) (counted reader.anchor anchor) λ abs_line_info.
+    plus (reader.counted (reader.local L.max_string_bytes)) (counted (reader.local L.max_string_bytes) (local L.max_string_bytes)) λ loc_vars.
     counted (field.string L.max_string_bytes) string
 
 -- a function that nests in another, below which functions nest at most `left` deep

@@ -13,7 +13,7 @@ use Rattle.format.specs.GrammarFields.{LuaString, Number, String}
 use Rattle.format.specs.Reading.{Prototype, Reading}
 use Rattle.format.specs.GrammarChunk.{Counted, CountedUpTo, Always, Tagged, Constant, Anchor, Local, inherit, Where, after, within, outermost, Forest, Body, Function, Main, Chunk}
 use Rattle.format.specs.Shortest.{shortest}
-use Rattle.format.specs.FullCopy.{equalSources}
+use Rattle.format.specs.FullCopy.{equal_sources}
 
 infixl 6 ◌⊕◌
 -- no place is otherwise
@@ -27,8 +27,8 @@ abbrev pub ◌⊕◌ : Spelling → Spelling → Spelling
 abbrev pub respelt : Spelling → ℕ
 respelt a = a.padded + a.filled + a.sources
 
-abbrev pub respeltFull : Spelling → ℕ
-respeltFull a = a.padded + a.filled + a.repeated
+abbrev pub respelt_full : Spelling → ℕ
+respelt_full a = a.padded + a.filled + a.repeated
 
 -- of bytes that are of the form F: how they are spelt
 pub record Tally {A : Type 0} (F : Form A) : Type 0 where
@@ -68,8 +68,8 @@ string limit = both number λ size. none
 unfoldable pub counted : {A : Type 0} {F : Form A} → Tally F → Tally (Counted F)
 counted p = both number λ n. both none λ place. both (each n p) λ items. none
 
-unfoldable pub countedUpTo : {A : Type 0} {F : Form A} (limit : ℕ) → Tally F → Tally (CountedUpTo limit F)
-countedUpTo limit p = both number λ n. both none λ _. both none λ place. both (each n p) λ items. none
+unfoldable pub counted_up_to : {A : Type 0} {F : Form A} (limit : ℕ) → Tally F → Tally (CountedUpTo limit F)
+counted_up_to limit p = both number λ n. both none λ _. both none λ place. both (each n p) λ items. none
 
 -- ## Entries
 -- a string constant or a local name of size 0: the copy writes what it reads as, empty or `?`
@@ -104,7 +104,7 @@ local limit = both (always limit (63 ∷ [])) λ name. both number λ startpc. b
 -- the source of a function that stands at w, where it is spelt: the archive copy drops it but for main's, and main has the number 0; the full copy where it is the parent's as read (`w.source`; main has no parent)
 abbrev pub dropping : Where → Option LuaString → Spelling
 dropping w option.none = same
-dropping w (option.some t) = record { padded = 0; filled = 0; sources = cond (eqb w.number 0) 0 1; repeated = cond (equalSources (option.some t) w.source) 1 0 }
+dropping w (option.some t) = record { padded = 0; filled = 0; sources = cond (eqb w.number 0) 0 1; repeated = cond (equal_sources (option.some t) w.source) 1 0 }
 
 unfoldable pub source : (limit : ℕ) → Where → Tally (String limit)
 source limit w = besides (string limit) (dropping w)
@@ -119,27 +119,27 @@ body L p w =
     both none λ start.
     both (source L.max_string_bytes w) λ spelt.
     both number λ line_defined.
-    both number λ last-line-defined.
+    both number λ last-line_defined.
     both none λ numparams.
-    both none λ is-vararg.
+    both none λ is_vararg.
     both none λ maxstacksize.
     both number λ size.
     both none λ _.
     both none λ _.
     both none λ instructions-at.
     both none λ instructions.
-    both (countedUpTo L.max_constants_per_proto (constant L.max_string_bytes)) λ constants.
-    both (countedUpTo L.max_upvalues_per_proto none) λ upvalues.
+    both (counted_up_to L.max_constants_per_proto (constant L.max_string_bytes)) λ constants.
+    both (counted_up_to L.max_upvalues_per_proto none) λ upvalues.
     both number λ protos.
     both none λ _.
     both none λ protos-at.
     both (forest protos p (within w (inherit spelt w.source) (length instructions))) λ nested.
     both number λ line-info-size.
     both none λ line-info-at.
-    both none λ line-info.
-    both (counted anchor) λ abs-line-info.
-    both (counted (local L.max_string_bytes)) λ loc-vars.
-    both (counted (string L.max_string_bytes)) λ upvalue-names.
+    both none λ line_info_lem.
+    both (counted anchor) λ abs_line_info.
+    both (counted (local L.max_string_bytes)) λ loc_vars.
+    both (counted (string L.max_string_bytes)) λ upvalue_names_lem.
     none
 
 unfoldable pub function : (L : ResourceLimits) (left : ℕ) (w : Where) → Tally (Function L left w)
@@ -152,17 +152,17 @@ unfoldable pub main : (L : ResourceLimits) → Tally (Main L)
 main L = both none λ headed. both none λ forgotten. both (function L L.max_nesting_depth outermost) λ functions. none
 
 -- HOW A CHUNK IS SPELT
-unfoldable pub spellingOf : {L : ResourceLimits} {chunk : Bytes} {r : Reading} → Chunk L chunk r → Spelling
-spellingOf {L} c = (main L).of 0 c.front c.value c.main
+unfoldable pub spelling_of : {L : ResourceLimits} {chunk : Bytes} {r : Reading} → Chunk L chunk r → Spelling
+spelling_of {L} c = (main L).of 0 c.front c.value c.main
 
 -- HOW MANY OF ITS NUMBERS ARE PADDED
-abbrev pub paddedIn : {L : ResourceLimits} {chunk : Bytes} {r : Reading} → Chunk L chunk r → ℕ
-paddedIn c = (spellingOf c).padded
+abbrev pub padded_in : {L : ResourceLimits} {chunk : Bytes} {r : Reading} → Chunk L chunk r → ℕ
+padded_in c = (spelling_of c).padded
 
 -- IN HOW MANY PLACES ITS ARCHIVE COPY SPELLS OTHERWISE
-abbrev pub respeltIn : {L : ResourceLimits} {chunk : Bytes} {r : Reading} → Chunk L chunk r → ℕ
-respeltIn c = respelt (spellingOf c)
+abbrev pub respelt_in : {L : ResourceLimits} {chunk : Bytes} {r : Reading} → Chunk L chunk r → ℕ
+respelt_in c = respelt (spelling_of c)
 
 -- IN HOW MANY PLACES ITS FULL COPY SPELLS OTHERWISE
-abbrev pub respeltFullIn : {L : ResourceLimits} {chunk : Bytes} {r : Reading} → Chunk L chunk r → ℕ
-respeltFullIn c = respeltFull (spellingOf c)
+abbrev pub respelt_full_in : {L : ResourceLimits} {chunk : Bytes} {r : Reading} → Chunk L chunk r → ℕ
+respelt_full_in c = respelt_full (spelling_of c)

@@ -1,7 +1,7 @@
 // Places counted while a chunk is read. The counts stand in lent memory and are written only where something is spelt otherwise, so that counting costs next to nothing where nothing is.
 ghost use Rattle.std.specs.Prelude.{◌≡◌};
 ghost use Rattle.format_spelling.specs.Spelling as spec;
-ghost use Rattle.format_spelling.specs.Inner.Tally.{ofNumber, counts, Fits};
+ghost use Rattle.format_spelling.specs.Inner.Tally.{of_number, counts, Fits};
 
 use format::spelling::Spelling;
 
@@ -23,8 +23,8 @@ pub fn add(tally: &mut Tally, more: Spelling)
 
 // Counts a number, where it is padded. Ruled out: a number counted that is not padded.
 pub fn add_number(tally: &mut Tally, padded: bool)
-    requires { Fits (counts tally.old) (ofNumber padded) }
-    ensures { counts tally.new ≡ spec.◌⊕◌ (counts tally.old) (ofNumber padded) }
+    requires { Fits (counts tally.old) (of_number padded) }
+    ensures { counts tally.new ≡ spec.◌⊕◌ (counts tally.old) (of_number padded) }
 {
     if padded {
         add(

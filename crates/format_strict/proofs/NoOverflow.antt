@@ -1,6 +1,6 @@
 -- Refusal 2 is none of the stricter reading's (02, item 7): what it reads as an int is below 2^31 - 128, a string is within its limit, and the file is short, so that no place plus a length comes near 2^64. (In the ordinary reading the deltas' length alone can.)
 --     Small r          from a place in a short file on, r does not refuse with 2; one law for each way to make a reader
---     strict-no-two    of whole chunks
+--     strict_no_two    of whole chunks
 -- Assumes nothing.
 use mathlib.Core.Path.{◌≡◌, refl, sym, ◌∙◌, ap}
 use mathlib.Core.Bool.{Bool, true, false, cond, ◌&&◌}
@@ -16,17 +16,17 @@ use Rattle.format.specs.declared.refusal.Refusal.{Refusal}
 use Rattle.format.specs.declared.refusal.Refusal.TheVariants.{VarintOverflow, StringBytes, ConstantTag, Instructions, TotalInstructions, Constants, Upvalues, Prototypes, NestingDepth, TotalPrototypes, LimitAboveCeiling, InputBytes, Signature, Version, LuacData, InstructionSize, LuaIntegerSize, LuaNumberSize, LuacInt, LuacNum, Format, IntOverflow, NullString}
 use Rattle.format.specs.Refusals.{reported}
 use Rattle.format.specs.Form.{Bytes}
-use Rattle.format.specs.Limits.{MOST, withinCeilings}
+use Rattle.format.specs.Limits.{MOST, within_ceilings}
 use Rattle.format.specs.GrammarFields.{LuaString}
-use Rattle.format.specs.GrammarHeader.{signature, luacData, luacInt, luacNum}
+use Rattle.format.specs.GrammarHeader.{signature, luac_data, luac_int, luac_num}
 use Rattle.format.specs.Reading.{Prototype}
 use Rattle.format.specs.GrammarChunk.{inherit, Where, after, within, outermost, Loaded}
 use Rattle.format.specs.Read.{Read, ok, refused, Reader, next, ◌>>=◌, give, here, refuse, test, short, piece, run, many}
 use Rattle.format.specs.ReadFields.{field, byte, groups, number, content, string}
-use Rattle.format.specs.ReadHeader.{sameBytes, expect, beforeFormat, behindFormat}
+use Rattle.format.specs.ReadHeader.{same_bytes, expect, before_format, behind_format}
 use Rattle.format.specs.ReadChunk.{always, upvalue, forest, refusal, outcome}
-use Rattle.format_strict.specs.ReadStrict.{int, strictCounted, strictCountedUpTo, there, present, strictTagged, strictConstant, strictAnchor, strictLocal, strictBody, strictFunction, strictHeader, strictMain, strictRead}
-use Rattle.format.proofs.ReadChunkLaws.{no-refusal}
+use Rattle.format_strict.specs.ReadStrict.{int, strict_counted, strict_counted_up_to, there, present, strict_tagged, strict_constant, strict_anchor, strict_local, strict_body, strict_function, strict_header, strict_main, strict_read}
+use Rattle.format.proofs.ReadChunkLaws.{no_refusal}
 
 never_true : false ≡ true → ⊥
 never_true e = let z : ◌≡◌ {A = ℕ} 0 1 = cc in omega arith
@@ -101,15 +101,15 @@ small-groups high at (x ∷ s) h = by (ltb high (2 ^ 57 - 1)) (ltb x 128) (small
     by true false m = omega (arith, h)
     by false b m = λ e. omega (arith, e)
 
-a-number : Small number
-a-number = record { small = λ at s h. small-groups 0 at s h }
+a_number : Small number
+a_number = record { small = λ at s h. small-groups 0 at s h }
 
 an_int : Small int
-an_int = then at_here λ first. then a-number λ n. then (tests (ltb n (2 ^ 31 - 128)) (IntOverflow first) (λ e. omega (arith, e))) λ _. gives n
+an_int = then at_here λ first. then a_number λ n. then (tests (ltb n (2 ^ 31 - 128)) (IntOverflow first) (λ e. omega (arith, e))) λ _. gives n
 
 -- as many bytes as an int says: that is a small number of them
 int-run : {B : Type 0} {f : ℕ → ℕ → Bytes → Reader B} → ((n place : ℕ) (b : Bytes) → Small (f n place b)) → Small (int >>= λ n. here >>= λ place. run n >>= f n place)
-int-run {B} {f} rest = record { small = λ at s h. go at (number at s) (a-number.small at s h) }
+int-run {B} {f} rest = record { small = λ at s h. go at (number at s) (a_number.small at s h) }
   where
     by : (at n to : ℕ) (s : Bytes) → to + length s ≤ FAR → (b : Bool) → ltb n (2 ^ 31 - 128) ≡ b → Mild (next (next (test b (IntOverflow at) to s) (λ _. give n)) (λ n. here >>= λ place. run n >>= f n place))
     by at n to s m true e = let few = ltb-true n (2 ^ 31 - 128) e in (then (runs n (omega (arith, few))) (rest n to)).small to s m
@@ -131,13 +131,13 @@ contents limit first (suc n) l = record { small = λ at s h. by at s h (leb n li
     by at s h false e = λ e. omega (arith, e)
 
 strings : (limit : ℕ) → limit ≤ FAR → Small (string limit)
-strings limit l = then at_here λ first. then a-number λ size. contents limit first size l
+strings limit l = then at_here λ first. then a_number λ size. contents limit first size l
 
 -- ## Lists behind their counts
-counted : {A : Type 0} {r : Reader A} → Small r → Small (strictCounted r)
+counted : {A : Type 0} {r : Reader A} → Small r → Small (strict_counted r)
 counted one = then an_int λ n. then at_here λ place. then (manys n one) λ items. gives _
 
-up_to : {A : Type 0} {r : Reader A} (limit : ℕ) (above : ℕ → Refusal) → ((at : ℕ) → Not2 (above at)) → Small r → Small (strictCountedUpTo limit above r)
+up_to : {A : Type 0} {r : Reader A} (limit : ℕ) (above : ℕ → Refusal) → ((at : ℕ) → Not2 (above at)) → Small r → Small (strict_counted_up_to limit above r)
 up_to limit above n one = then at_here λ first. then an_int λ k. then (tests (leb k limit) (above first) (n first)) λ _. then at_here λ place. then (manys k one) λ items. gives _
 
 -- ## Entries
@@ -148,7 +148,7 @@ is-there first (some t) = gives t
 presents : (limit : ℕ) → limit ≤ FAR → Small (present limit)
 presents limit l = then at_here λ first. then (strings limit l) λ t. is-there first t
 
-tagged : (limit place tag : ℕ) → limit ≤ FAR → Small (strictTagged limit place tag)
+tagged : (limit place tag : ℕ) → limit ≤ FAR → Small (strict_tagged limit place tag)
 tagged limit place tag l =
     either (eqb tag 0) (gives _)
     (either (eqb tag 1) (gives _)
@@ -159,19 +159,19 @@ tagged limit place tag l =
     (either (eqb tag 20) (then (presents limit l) λ t. gives _)
     (refuses (ConstantTag place) (λ e. omega (arith, e)))))))))
 
-constants : (limit : ℕ) → limit ≤ FAR → Small (strictConstant limit)
+constants : (limit : ℕ) → limit ≤ FAR → Small (strict_constant limit)
 constants limit l = then at_here λ place. then a_byte λ tag. tagged limit place tag l
 
 upvalues : Small upvalue
 upvalues = then a_byte λ _. then a_byte λ _. then a_byte λ _. gives _
 
-anchors : Small strictAnchor
+anchors : Small strict_anchor
 anchors = then an_int λ pc. then an_int λ line. gives _
 
 names : (limit : ℕ) (instead : Bytes) → limit ≤ FAR → Small (always limit instead)
 names limit instead l = then (strings limit l) λ t. then at_here λ place. gives _
 
-locals : (limit : ℕ) → limit ≤ FAR → Small (strictLocal limit)
+locals : (limit : ℕ) → limit ≤ FAR → Small (strict_local limit)
 locals limit l = then (names limit (63 ∷ []) l) λ name. then an_int λ startpc. then an_int λ endpc. gives _
 
 -- ## Functions
@@ -179,15 +179,15 @@ forests : (n : ℕ) {r : Where → Reader (List Prototype)} (w : Where) → ((w 
 forests zero w one = gives []
 forests (suc n) w one = then (one w) λ ps. then (forests n (after ps w) one) λ more. gives _
 
-bodies : (L : ResourceLimits) → L.max_string_bytes ≤ FAR → {r : Where → Reader (List Prototype)} → ((w : Where) → Small (r w)) → (w : Where) → Small (strictBody L r w)
-unfolding strictBody
+bodies : (L : ResourceLimits) → L.max_string_bytes ≤ FAR → {r : Where → Reader (List Prototype)} → ((w : Where) → Small (r w)) → (w : Where) → Small (strict_body L r w)
+unfolding strict_body
 bodies L l one w =
     then at_here λ start.
     then (strings L.max_string_bytes l) λ spelt.
     then an_int λ line_defined.
-    then an_int λ last-line-defined.
+    then an_int λ last-line_defined.
     then a_byte λ numparams.
-    then a_byte λ is-vararg.
+    then a_byte λ is_vararg.
     then a_byte λ maxstacksize.
     then at_here λ first.
     then an_int λ size.
@@ -202,66 +202,66 @@ bodies L l one w =
     then (tests (leb protos L.max_total_prototypes) (Prototypes first) (λ e. omega (arith, e))) λ _.
     then at_here λ protos-at.
     then (forests protos (within w (inherit spelt w.source) (length instructions)) one) λ nested.
-    int-run λ line-info-size line-info-at line-info.
-    then (counted anchors) λ abs-line-info.
-    then (counted (locals L.max_string_bytes l)) λ loc-vars.
-    then (counted (strings L.max_string_bytes l)) λ upvalue-names.
+    int-run λ line-info-size line-info-at line_info_lem.
+    then (counted anchors) λ abs_line_info.
+    then (counted (locals L.max_string_bytes l)) λ loc_vars.
+    then (counted (strings L.max_string_bytes l)) λ upvalue_names_lem.
     then at_here λ end.
     gives _
 
-functions : (L : ResourceLimits) → L.max_string_bytes ≤ FAR → (left : ℕ) (w : Where) → Small (strictFunction L left w)
-unfolding strictFunction
+functions : (L : ResourceLimits) → L.max_string_bytes ≤ FAR → (left : ℕ) (w : Where) → Small (strict_function L left w)
+unfolding strict_function
 functions L l zero w = bodies L l (λ w. then at_here λ place. refuses (NestingDepth place) (λ e. omega (arith, e))) w
 functions L l (suc left) w = bodies L l (λ w. then at_here λ place. then (tests (leb w.number L.max_total_prototypes) (TotalPrototypes place) (λ e. omega (arith, e))) λ _. functions L l left w) w
 
 -- ## Chunks
 expects : (bytes : Bytes) (q : ℕ → Refusal) → length bytes ≤ FAR → ((at : ℕ) → Not2 (q at)) → Small (expect bytes q)
-expects bytes q l n = then at_here λ place. then (runs (length bytes) l) λ b. tests (sameBytes b bytes) (q place) (n place)
+expects bytes q l n = then at_here λ place. then (runs (length bytes) l) λ b. tests (same_bytes b bytes) (q place) (n place)
 
-before-format : Small beforeFormat
-before-format = then (expects signature Signature (omega arith) (λ at e. omega (arith, e))) λ _. expects (0x54 ∷ []) Version (omega arith) (λ at e. omega (arith, e))
+before_format_lem : Small before_format
+before_format_lem = then (expects signature Signature (omega arith) (λ at e. omega (arith, e))) λ _. expects (0x54 ∷ []) Version (omega arith) (λ at e. omega (arith, e))
 
-behind-format : Small behindFormat
-behind-format =
-    then (expects luacData LuacData (omega arith) (λ at e. omega (arith, e))) λ _.
+behind_format_lem : Small behind_format
+behind_format_lem =
+    then (expects luac_data LuacData (omega arith) (λ at e. omega (arith, e))) λ _.
     then (expects (4 ∷ []) InstructionSize (omega arith) (λ at e. omega (arith, e))) λ _.
     then (expects (8 ∷ []) LuaIntegerSize (omega arith) (λ at e. omega (arith, e))) λ _.
     then (expects (8 ∷ []) LuaNumberSize (omega arith) (λ at e. omega (arith, e))) λ _.
-    then (expects luacInt LuacInt (omega arith) (λ at e. omega (arith, e))) λ _.
-    expects luacNum LuacNum (omega arith) (λ at e. omega (arith, e))
+    then (expects luac_int LuacInt (omega arith) (λ at e. omega (arith, e))) λ _.
+    expects luac_num LuacNum (omega arith) (λ at e. omega (arith, e))
 
-headers : Small strictHeader
-headers = then before-format λ _. then (expects (0 ∷ []) Format (omega arith) (λ at e. omega (arith, e))) λ _. then behind-format λ _. gives _
+headers : Small strict_header
+headers = then before_format_lem λ _. then (expects (0 ∷ []) Format (omega arith) (λ at e. omega (arith, e))) λ _. then behind_format_lem λ _. gives _
 
-mains : (L : ResourceLimits) → L.max_string_bytes ≤ FAR → Small (strictMain L)
+mains : (L : ResourceLimits) → L.max_string_bytes ≤ FAR → Small (strict_main L)
 mains L l = then headers λ headed. then a_byte λ forgotten. then (functions L l L.max_nesting_depth outermost) λ functions. gives _
 
 -- of the nine tests of the limits: those of the input and of strings
-two-tests : (a b c d e f g h i : Bool) → (a && b && c && d && e && f && g && h && i) ≡ true → (a ≡ true) × (h ≡ true)
-two-tests true true true true true true true true i z = (refl, refl)
-two-tests true true true true true true true false i z = absurd (never_true z)
-two-tests true true true true true true false h i z = absurd (never_true z)
-two-tests true true true true true false g h i z = absurd (never_true z)
-two-tests true true true true false f g h i z = absurd (never_true z)
-two-tests true true true false e f g h i z = absurd (never_true z)
-two-tests true true false d e f g h i z = absurd (never_true z)
-two-tests true false c d e f g h i z = absurd (never_true z)
-two-tests false b c d e f g h i z = absurd (never_true z)
+two_tests : (a b c d e f g h i : Bool) → (a && b && c && d && e && f && g && h && i) ≡ true → (a ≡ true) × (h ≡ true)
+two_tests true true true true true true true true i z = (refl, refl)
+two_tests true true true true true true true false i z = absurd (never_true z)
+two_tests true true true true true true false h i z = absurd (never_true z)
+two_tests true true true true true false g h i z = absurd (never_true z)
+two_tests true true true true false f g h i z = absurd (never_true z)
+two_tests true true true false e f g h i z = absurd (never_true z)
+two_tests true true false d e f g h i z = absurd (never_true z)
+two_tests true false c d e f g h i z = absurd (never_true z)
+two_tests false b c d e f g h i z = absurd (never_true z)
 
-pub strict-no-two : (L : ResourceLimits) (s : Bytes) (q : Refusal) → strictRead L s ≡ refusal q → (reported q).number ≡ 2 → ⊥
-unfolding strictRead
-strict-no-two L s q = go (withinCeilings L) refl (leb (length s) L.max_input_bytes) refl
+pub strict_no_two : (L : ResourceLimits) (s : Bytes) (q : Refusal) → strict_read L s ≡ refusal q → (reported q).number ≡ 2 → ⊥
+unfolding strict_read
+strict_no_two L s q = go (within_ceilings L) refl (leb (length s) L.max_input_bytes) refl
   where
     by : (o : Read Loaded) → Mild o → outcome L o ≡ refusal q → (reported q).number ≡ 2 → ⊥
-    by (ok m to rest) a e n = no-refusal (sym e)
+    by (ok m to rest) a e n = no_refusal (sym e)
     by (refused p) a e n = let is : p ≡ q = cc in a (rw is n)
 
-    go : (within : Bool) → withinCeilings L ≡ within → (fits : Bool) → leb (length s) L.max_input_bytes ≡ fits → cond within (cond fits (outcome L (strictMain L 0 s)) (refusal InputBytes)) (refusal LimitAboveCeiling) ≡ refusal q → (reported q).number ≡ 2 → ⊥
+    go : (within : Bool) → within_ceilings L ≡ within → (fits : Bool) → leb (length s) L.max_input_bytes ≡ fits → cond within (cond fits (outcome L (strict_main L 0 s)) (refusal InputBytes)) (refusal LimitAboveCeiling) ≡ refusal q → (reported q).number ≡ 2 → ⊥
     go true w true f e n =
-        let two = two-tests _ _ _ _ _ _ _ _ _ w in
+        let two = two_tests _ _ _ _ _ _ _ _ _ w in
         let input = leb-true L.max_input_bytes MOST two.0 in
         let text = leb-true L.max_string_bytes MOST two.1 in
         let file = leb-true (length s) L.max_input_bytes f in
-        by (strictMain L 0 s) ((mains L (omega (arith, text))).small 0 s (omega (arith, input, file))) e n
+        by (strict_main L 0 s) ((mains L (omega (arith, text))).small 0 s (omega (arith, input, file))) e n
     go true w false f e n = let is : InputBytes ≡ q = cc in let z : (reported InputBytes).number ≡ 2 = ap (λ q. (reported q).number) is ∙ n in omega (arith, z)
     go false w fits f e n = let is : LimitAboveCeiling ≡ q = cc in let z : (reported LimitAboveCeiling).number ≡ 2 = ap (λ q. (reported q).number) is ∙ n in omega (arith, z)

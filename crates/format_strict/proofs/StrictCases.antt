@@ -27,10 +27,10 @@ use Rattle.format.specs.declared.refusal.Refusal.TheVariants.{
   NullString,
 }
 use Rattle.format.specs.Form.{Bytes}
-use Rattle.format.specs.GrammarHeader.{signature, luacData, luacInt, luacNum}
+use Rattle.format.specs.GrammarHeader.{signature, luac_data, luac_int, luac_num}
 use Rattle.format.specs.Limits.{ceilings}
 use Rattle.format.specs.ReadChunk.{Outcome, shown, refusal, body, function, read}
-use Rattle.format_strict.specs.ReadStrict.{strictBody, strictFunction, strictRead}
+use Rattle.format_strict.specs.ReadStrict.{strict_body, strict_function, strict_read}
 
 -- what is seen of an outcome: how many functions, the warnings, how many trailing bytes; or the refusal
 pub data Seen : Type 0 where
@@ -46,7 +46,7 @@ pub data Case : Type 0 where
 
 -- by the two readings, and as it is to be
 abbrev pub found : Case → Seen × Seen
-found (case L s ordinary strict) = (seen (read L s), seen (strictRead L s))
+found (case L s ordinary strict) = (seen (read L s), seen (strict_read L s))
 
 abbrev pub wanted : Case → Seen × Seen
 wanted (case L s ordinary strict) = (ordinary, strict)
@@ -95,10 +95,10 @@ small = record {
 -- ## Parts of a chunk
 -- the header behind the check bytes; with this format byte; with format 0
 abbrev pub behind : Bytes
-behind = 4 ∷ 8 ∷ 8 ∷ luacInt ++ luacNum
+behind = 4 ∷ 8 ∷ 8 ∷ luac_int ++ luac_num
 
 abbrev pub formatted : ℕ → Bytes
-formatted format = signature ++ 0x54 ∷ format ∷ luacData ++ behind
+formatted format = signature ++ 0x54 ∷ format ∷ luac_data ++ behind
 
 abbrev pub front : Bytes
 front = formatted 0
@@ -136,7 +136,7 @@ header =
     -- cut before the format
     ∷ case ceilings (signature ++ 0x54 ∷ []) (refuses (Truncated 5)) (refuses (Truncated 5))
     -- version 53, format 1
-    ∷ case ceilings (signature ++ 0x53 ∷ 0x01 ∷ luacData ++ behind ++ 0x00 ∷ 0x80 ∷ 0x80 ∷ 0x80 ∷ 0x00 ∷ 0x00 ∷ 0x02 ∷ replicate 8 0x80) (refuses (Version 4)) (refuses (Version 4))
+    ∷ case ceilings (signature ++ 0x53 ∷ 0x01 ∷ luac_data ++ behind ++ 0x00 ∷ 0x80 ∷ 0x80 ∷ 0x80 ∷ 0x00 ∷ 0x00 ∷ 0x02 ∷ replicate 8 0x80) (refuses (Version 4)) (refuses (Version 4))
     -- format 1, nesting limit 15
     ∷ case deep (formatted 1 ++ 0x00 ∷ 0x80 ∷ 0x80 ∷ 0x80 ∷ 0x00 ∷ 0x00 ∷ 0x02 ∷ replicate 8 0x80) (refuses LimitAboveCeiling) (refuses LimitAboveCeiling)
     -- format 1, input limit 45
@@ -145,9 +145,9 @@ header =
     ∷ case ceilings (formatted 2 ++ 0x00 ∷ 0x80 ∷ 0x08 ∷ 0x00 ∷ 0x00 ∷ 0x00 ∷ 0x80 ∷ 0x80 ∷ 0x00 ∷ 0x00 ∷ 0x02 ∷ replicate 8 0x80) (reads 1 (NonStandardFormat 5 ∷ []) 0) (refuses (Format 5))
     ∷ []
 
-pub header-so : map found header ≡ map wanted header
-unfolding header strictRead strictFunction strictBody read function body
-header-so = refl
+pub header_so : map found header ≡ map wanted header
+unfolding header strict_read strict_function strict_body read function body
+header_so = refl
 
 -- Ints: 32 at the first byte, once the number is complete; 1 and 3 are found earlier
 unfoldable pub ints : List Case
@@ -180,9 +180,9 @@ ints =
     ∷ case ceilings (plain ++ replicate 6 0x80 ++ 0x81 ∷ 0x80 ∷ 0x80 ∷ larger ++ 0x80 ∷ []) (reads 1 [] 0) (refuses (IntOverflow 47))
     ∷ []
 
-pub ints-so : map found ints ≡ map wanted ints
-unfolding ints strictRead strictFunction strictBody read function body
-ints-so = refl
+pub ints_so : map found ints ≡ map wanted ints
+unfolding ints strict_read strict_function strict_body read function body
+ints_so = refl
 
 -- Counts: 32 before the limit, and before 1 and 2 of what is counted
 unfoldable pub counts : List Case
@@ -213,9 +213,9 @@ counts =
     ∷ case ceilings (plain ++ replicate 7 0x80 ++ larger) (refuses (Truncated 50)) (refuses (IntOverflow 45))
     ∷ []
 
-pub counts-so : map found counts ≡ map wanted counts
-unfolding counts strictRead strictFunction strictBody read function body
-counts-so = refl
+pub counts_so : map found counts ≡ map wanted counts
+unfolding counts strict_read strict_function strict_body read function body
+counts_so = refl
 
 -- String sizes are no ints; 33 is for constants alone, behind the size
 unfoldable pub strings : List Case
@@ -238,9 +238,9 @@ strings =
     ∷ case ceilings (plain ++ 0x80 ∷ 0x80 ∷ 0x81 ∷ 0x00 ∷ 0x00 ∷ 0x00 ∷ 0x80 ∷ 0x80 ∷ 0x80 ∷ 0x81 ∷ 0x80 ∷ 0x80 ∷ 0x80 ∷ 0x81 ∷ 0x80 ∷ []) (reads 1 [] 0) (reads 1 [] 0)
     ∷ []
 
-pub strings-so : map found strings ≡ map wanted strings
-unfolding strings strictRead strictFunction strictBody read function body
-strings-so = refl
+pub strings_so : map found strings ≡ map wanted strings
+unfolding strings strict_read strict_function strict_body read function body
+strings_so = refl
 
 -- And what is read as before, or refused as before
 unfoldable pub others : List Case
@@ -257,6 +257,6 @@ others =
     ∷ case ceilings (plain ++ 0x80 ∷ 0x81 ∷ 0x04 ∷ 0x80 ∷ 0x80 ∷ 0x81 ∷ 0x80 ∷ 0x08 ∷ 0x00 ∷ 0x00 ∷ 0x00 ∷ 0x80 ∷ 0x80 ∷ 0x00 ∷ 0x00 ∷ 0x02 ∷ replicate 12 0x80) (reads 2 [] 0) (refuses (NullString 41))
     ∷ []
 
-pub others-so : map found others ≡ map wanted others
-unfolding others strictRead strictFunction strictBody read function body
-others-so = refl
+pub others_so : map found others ≡ map wanted others
+unfolding others strict_read strict_function strict_body read function body
+others_so = refl

@@ -1,7 +1,7 @@
 -- The stricter reading of whole chunks against its grammar, and against the ordinary reading.
---     strict-sound, strict-within, strict-complete     read strictly exactly where it belongs to the stricter grammar, with the limits and the file within theirs
---     strict-belongs                                   what belongs to the stricter grammar belongs to the ordinary one, with the same reading
---     strict-is-read                                   what is read strictly is read, with the same reading
+--     strict_sound, strict_within, strict_complete     read strictly exactly where it belongs to the stricter grammar, with the limits and the file within theirs
+--     strict_belongs                                   what belongs to the stricter grammar belongs to the ordinary one, with the same reading
+--     strict_is-read                                   what is read strictly is read, with the same reading
 --     int_number, int_small                            an int is a number below 2^31 - 128
 -- Assumes nothing.
 use mathlib.Core.Path.{◌≡◌, refl, ◌∙◌, ap}
@@ -16,7 +16,7 @@ use lib.ListN.{length}
 use Rattle.format.specs.declared.limits.ResourceLimits.{ResourceLimits}
 use Rattle.format.specs.declared.refusal.Refusal.TheVariants.{InputBytes, LimitAboveCeiling}
 use Rattle.format.specs.Form.{Bytes, Form, Then, Is, Here, Given, Spelt}
-use Rattle.format.specs.Limits.{withinCeilings}
+use Rattle.format.specs.Limits.{within_ceilings}
 use Rattle.format.specs.GrammarFields.{LuaString, Number, Byte, little}
 use Rattle.format.specs.GrammarHeader.{Header}
 use Rattle.format.specs.Reading.{Prototype, Reading}
@@ -24,12 +24,12 @@ use Rattle.format.specs.GrammarChunk.{Counted, CountedUpTo, Always, Constant, An
 use Rattle.format_strict.specs.GrammarStrict.{Int, StrictCounted, StrictCountedUpTo, There, Present, StrictConstant, StrictAnchor, StrictLocal, StrictBody, StrictFunction, StrictHeader, StrictMain, StrictChunk}
 use Rattle.format.specs.Read.{Read, ok, refused}
 use Rattle.format.specs.ReadChunk.{shown, refusal, outcome, read}
-use Rattle.format_strict.specs.ReadStrict.{strictMain, strictRead}
+use Rattle.format_strict.specs.ReadStrict.{strict_main, strict_read}
 use Rattle.format.proofs.Exact.{Split}
-use Rattle.format_strict.proofs.ExactStrict.{exact-strictMain}
-use Rattle.format.proofs.ReadChunkLaws.{no-refusal, read-complete}
-use Rattle.format.proofs.Wider.{Wider, same-wider, none-wider, then-wider, behind, so, many-wider, when-wider, joined, opened, known, at_place}
-use Rattle.format.proofs.WiderChunk.{forest-wider}
+use Rattle.format_strict.proofs.ExactStrict.{exact_strict_main}
+use Rattle.format.proofs.ReadChunkLaws.{no_refusal, read_complete}
+use Rattle.format.proofs.Wider.{Wider, same_wider, none_wider, then_wider, behind, so, many_wider, when_wider, joined, opened, known, at_place}
+use Rattle.format.proofs.WiderChunk.{forest_wider}
 
 -- ## The stricter grammar is a part of the ordinary one
 -- a test that is left out
@@ -57,72 +57,72 @@ int_small at b v d = rw (← d.two.two.1) d.two.one.1
 after-int : {A : Type 0} {G G' : ℕ → Form A} → ((n : ℕ) → Wider (G n) (G' n)) → Wider (Then Int G) (Then Number G')
 after-int two = joined opened (behind λ n. joined opened (joined untested (joined known (two n))))
 
-counted-strict : {A : Type 0} {F G : Form A} → Wider F G → Wider (StrictCounted F) (Counted G)
-counted-strict one = after-int λ n. behind λ place. so (many-wider n one)
+counted_strict : {A : Type 0} {F G : Form A} → Wider F G → Wider (StrictCounted F) (Counted G)
+counted_strict one = after-int λ n. behind λ place. so (many_wider n one)
 
-upTo-strict : {A : Type 0} {F G : Form A} (limit : ℕ) → Wider F G → Wider (StrictCountedUpTo limit F) (CountedUpTo limit G)
-upTo-strict limit one = after-int λ n. behind λ _. behind λ place. so (many-wider n one)
+up_to_strict : {A : Type 0} {F G : Form A} (limit : ℕ) → Wider F G → Wider (StrictCountedUpTo limit F) (CountedUpTo limit G)
+up_to_strict limit one = after-int λ n. behind λ _. behind λ place. so (many_wider n one)
 
-there-strict : (t : Option LuaString) → Wider (There t) (Then Here (λ place. Is (get_or t (record { place = place; bytes = [] }))))
-there-strict none = none-wider
-there-strict (some t) = at_place λ place. same-wider
+there_strict : (t : Option LuaString) → Wider (There t) (Then Here (λ place. Is (get_or t (record { place = place; bytes = [] }))))
+there_strict none = none_wider
+there_strict (some t) = at_place λ place. same_wider
 
-present-strict : (limit : ℕ) → Wider (Present limit) (Always limit [])
-present-strict limit = behind there-strict
+present_strict : (limit : ℕ) → Wider (Present limit) (Always limit [])
+present_strict limit = behind there_strict
 
-constant-strict : (limit : ℕ) → Wider (StrictConstant limit) (Constant limit)
-constant-strict limit = behind λ tag.
-    when-wider (eqb tag 0) same-wider
-    (when-wider (eqb tag 1) same-wider
-    (when-wider (eqb tag 17) same-wider
-    (when-wider (eqb tag 3) same-wider
-    (when-wider (eqb tag 19) same-wider
-    (when-wider (eqb tag 4) (so (present-strict limit))
-    (when-wider (eqb tag 20) (so (present-strict limit))
-    same-wider))))))
+constant_strict : (limit : ℕ) → Wider (StrictConstant limit) (Constant limit)
+constant_strict limit = behind λ tag.
+    when_wider (eqb tag 0) same_wider
+    (when_wider (eqb tag 1) same_wider
+    (when_wider (eqb tag 17) same_wider
+    (when_wider (eqb tag 3) same_wider
+    (when_wider (eqb tag 19) same_wider
+    (when_wider (eqb tag 4) (so (present_strict limit))
+    (when_wider (eqb tag 20) (so (present_strict limit))
+    same_wider))))))
 
-anchor-strict : Wider StrictAnchor Anchor
-anchor-strict = after-int λ pc. after-int λ line. same-wider
+anchor_strict : Wider StrictAnchor Anchor
+anchor_strict = after-int λ pc. after-int λ line. same_wider
 
-local-strict : (limit : ℕ) → Wider (StrictLocal limit) (Local limit)
-local-strict limit = behind λ name. after-int λ startpc. after-int λ endpc. same-wider
+local_strict : (limit : ℕ) → Wider (StrictLocal limit) (Local limit)
+local_strict limit = behind λ name. after-int λ startpc. after-int λ endpc. same_wider
 
-body-strict : (L : ResourceLimits) {F G : Where → Form (List Prototype)} → ((w : Where) → Wider (F w) (G w)) → (w : Where) → Wider (StrictBody L F w) (Body L G w)
+body_strict : (L : ResourceLimits) {F G : Where → Form (List Prototype)} → ((w : Where) → Wider (F w) (G w)) → (w : Where) → Wider (StrictBody L F w) (Body L G w)
 unfolding StrictBody Body
-body-strict L one w =
+body_strict L one w =
     behind λ start.
     behind λ spelt.
     after-int λ line_defined.
-    after-int λ last-line-defined.
+    after-int λ last-line_defined.
     behind λ numparams.
-    behind λ is-vararg.
+    behind λ is_vararg.
     behind λ maxstacksize.
     after-int λ size.
     behind λ _.
     behind λ _.
     behind λ instructions-at.
     behind λ instructions.
-    then-wider (upTo-strict L.max_constants_per_proto (constant-strict L.max_string_bytes)) λ constants.
-    then-wider (upTo-strict L.max_upvalues_per_proto same-wider) λ upvalues.
+    then_wider (up_to_strict L.max_constants_per_proto (constant_strict L.max_string_bytes)) λ constants.
+    then_wider (up_to_strict L.max_upvalues_per_proto same_wider) λ upvalues.
     after-int λ protos.
     behind λ _.
     behind λ protos-at.
-    then-wider (forest-wider protos _ one) λ nested.
+    then_wider (forest_wider protos _ one) λ nested.
     after-int λ line-info-size.
     behind λ line-info-at.
-    behind λ line-info.
-    then-wider (counted-strict anchor-strict) λ abs-line-info.
-    then-wider (counted-strict (local-strict L.max_string_bytes)) λ loc-vars.
-    so (counted-strict same-wider)
+    behind λ line_info_lem.
+    then_wider (counted_strict anchor_strict) λ abs_line_info.
+    then_wider (counted_strict (local_strict L.max_string_bytes)) λ loc_vars.
+    so (counted_strict same_wider)
 
-function-strict : (L : ResourceLimits) (left : ℕ) (w : Where) → Wider (StrictFunction L left w) (Function L left w)
+function_strict : (L : ResourceLimits) (left : ℕ) (w : Where) → Wider (StrictFunction L left w) (Function L left w)
 unfolding StrictFunction Function
-function-strict L zero w = body-strict L (λ w. none-wider) w
-function-strict L (suc left) w = body-strict L (λ w. behind λ _. function-strict L left w) w
+function_strict L zero w = body_strict L (λ w. none_wider) w
+function_strict L (suc left) w = body_strict L (λ w. behind λ _. function_strict L left w) w
 
 -- the format byte is 0, and the ordinary header shows it
-format-byte : {A : Type 0} {G : ℕ → Form A} → Wider (Then (Spelt (0 ∷ [])) (λ _. G 0)) (Then Byte G)
-format-byte = record {
+format_byte : {A : Type 0} {G : ℕ → Form A} → Wider (Then (Spelt (0 ∷ [])) (λ _. G 0)) (Then Byte G)
+format_byte = record {
   widens = λ d.
       let f = d.one in
       record {
@@ -135,51 +135,51 @@ format-byte = record {
       };
 }
 
-header-strict : Wider StrictHeader Header
-header-strict = behind λ _. at_place λ place. format-byte
+header_strict : Wider StrictHeader Header
+header_strict = behind λ _. at_place λ place. format_byte
 
-pub main-strict : (L : ResourceLimits) → Wider (StrictMain L) (Main L)
-main-strict L = then-wider header-strict λ headed. behind λ forgotten. so (function-strict L _ _)
+pub main_strict : (L : ResourceLimits) → Wider (StrictMain L) (Main L)
+main_strict L = then_wider header_strict λ headed. behind λ forgotten. so (function_strict L _ _)
 
-pub strict-belongs : (L : ResourceLimits) (chunk : Bytes) (r : Reading) → StrictChunk L chunk r → Chunk L chunk r
-strict-belongs L chunk r c = record { front = c.front; trailing = c.trailing; whole = c.whole; value = c.value; main = (main-strict L).widens c.main; shows = c.shows }
+pub strict_belongs : (L : ResourceLimits) (chunk : Bytes) (r : Reading) → StrictChunk L chunk r → Chunk L chunk r
+strict_belongs L chunk r c = record { front = c.front; trailing = c.trailing; whole = c.whole; value = c.value; main = (main_strict L).widens c.main; shows = c.shows }
 
 -- ## Read strictly exactly where it belongs
 record Judged (L : ResourceLimits) (chunk : Bytes) (r : Reading) : Type 0 where
-  ceilings : withinCeilings L ≡ true
+  ceilings : within_ceilings L ≡ true
   input : length chunk ≤ L.max_input_bytes
-  rest : outcome L (strictMain L 0 chunk) ≡ shown r
+  rest : outcome L (strict_main L 0 chunk) ≡ shown r
 
-judged : (L : ResourceLimits) (chunk : Bytes) (r : Reading) → strictRead L chunk ≡ shown r → Judged L chunk r
-unfolding strictRead
-judged L chunk r e = first (withinCeilings L) (leb (length chunk) L.max_input_bytes) refl refl e
+judged : (L : ResourceLimits) (chunk : Bytes) (r : Reading) → strict_read L chunk ≡ shown r → Judged L chunk r
+unfolding strict_read
+judged L chunk r e = first (within_ceilings L) (leb (length chunk) L.max_input_bytes) refl refl e
   where
-    first : (a b : Bool) → withinCeilings L ≡ a → leb (length chunk) L.max_input_bytes ≡ b
-        → cond a (cond b (outcome L (strictMain L 0 chunk)) (refusal InputBytes)) (refusal LimitAboveCeiling) ≡ shown r → Judged L chunk r
+    first : (a b : Bool) → within_ceilings L ≡ a → leb (length chunk) L.max_input_bytes ≡ b
+        → cond a (cond b (outcome L (strict_main L 0 chunk)) (refusal InputBytes)) (refusal LimitAboveCeiling) ≡ shown r → Judged L chunk r
     first true true p q e = record { ceilings = p; input = leb-true (length chunk) L.max_input_bytes q; rest = e }
-    first true false p q e = no-refusal e
-    first false b p q e = no-refusal e
+    first true false p q e = no_refusal e
+    first false b p q e = no_refusal e
 
-pub strict-sound : (L : ResourceLimits) (chunk : Bytes) (r : Reading) → strictRead L chunk ≡ shown r → StrictChunk L chunk r
-strict-sound L chunk r e = from (strictMain L 0 chunk) refl (judged L chunk r e).rest
+pub strict_sound : (L : ResourceLimits) (chunk : Bytes) (r : Reading) → strict_read L chunk ≡ shown r → StrictChunk L chunk r
+strict_sound L chunk r e = from (strict_main L 0 chunk) refl (judged L chunk r e).rest
   where
-    from : (o : Read Loaded) → strictMain L 0 chunk ≡ o → outcome L o ≡ shown r → StrictChunk L chunk r
+    from : (o : Read Loaded) → strict_main L 0 chunk ≡ o → outcome L o ≡ shown r → StrictChunk L chunk r
     from (ok m to trailing) p e =
-        let a : Split (StrictMain L) 0 chunk m to trailing = (exact-strictMain L).sound p in
+        let a : Split (StrictMain L) 0 chunk m to trailing = (exact_strict_main L).sound p in
         let place : to ≡ length a.bytes = a.place ∙ zero-add (length a.bytes) in
         let shows : reading L m to trailing ≡ r = cc in
         record { front = a.bytes; trailing = trailing; whole = a.whole; value = m; main = a.spelt; shows = rw place at shows }
-    from (refused q) p e = no-refusal e
+    from (refused q) p e = no_refusal e
 
-pub strict-within : (L : ResourceLimits) (chunk : Bytes) (r : Reading) → strictRead L chunk ≡ shown r → (withinCeilings L ≡ true) × (length chunk ≤ L.max_input_bytes)
-strict-within L chunk r e = let j = judged L chunk r e in (j.ceilings, j.input)
+pub strict_within : (L : ResourceLimits) (chunk : Bytes) (r : Reading) → strict_read L chunk ≡ shown r → (within_ceilings L ≡ true) × (length chunk ≤ L.max_input_bytes)
+strict_within L chunk r e = let j = judged L chunk r e in (j.ceilings, j.input)
 
-pub strict-complete : (L : ResourceLimits) (chunk : Bytes) (r : Reading) → withinCeilings L ≡ true → length chunk ≤ L.max_input_bytes → StrictChunk L chunk r → strictRead L chunk ≡ shown r
-unfolding strictRead
-strict-complete L chunk r p q c =
+pub strict_complete : (L : ResourceLimits) (chunk : Bytes) (r : Reading) → within_ceilings L ≡ true → length chunk ≤ L.max_input_bytes → StrictChunk L chunk r → strict_read L chunk ≡ shown r
+unfolding strict_read
+strict_complete L chunk r p q c =
     rw (p, le-leb (length chunk) L.max_input_bytes q)
-    (rw (c.whole, (exact-strictMain L).complete c.trailing c.main, zero-add (length c.front), c.shows))
+    (rw (c.whole, (exact_strict_main L).complete c.trailing c.main, zero-add (length c.front), c.shows))
 
 -- ## And it is the ordinary reading
-pub strict-is-read : (L : ResourceLimits) (chunk : Bytes) (r : Reading) → strictRead L chunk ≡ shown r → read L chunk ≡ shown r
-strict-is-read L chunk r e = let w = strict-within L chunk r e in read-complete L chunk r w.0 w.1 (strict-belongs L chunk r (strict-sound L chunk r e))
+pub strict_is-read : (L : ResourceLimits) (chunk : Bytes) (r : Reading) → strict_read L chunk ≡ shown r → read L chunk ≡ shown r
+strict_is-read L chunk r e = let w = strict_within L chunk r e in read_complete L chunk r w.0 w.1 (strict_belongs L chunk r (strict_sound L chunk r e))

@@ -7,7 +7,7 @@ use Rattle.format.specs.declared.limits.ResourceLimits.{ResourceLimits}
 use Rattle.format.specs.declared.entry.AbsLineInfo.{AbsLineInfo}
 use Rattle.format.specs.Form.{Bytes, Form, ◌>>=◌, ◌>>◌, Is, Here, Given, Spelt, Nothing, When, Run, Many}
 use Rattle.format.specs.GrammarFields.{Field, Byte, Number, LuaString, String}
-use Rattle.format.specs.GrammarHeader.{Headed, headerOf, BeforeFormat, BehindFormat}
+use Rattle.format.specs.GrammarHeader.{Headed, header_of, BeforeFormat, BehindFormat}
 use Rattle.format.specs.Reading.{ConstantValue, nil, boolean, integer, float, short-string, long-string, LocalVar, Prototype, Reading}
 use Rattle.format.specs.GrammarChunk.{Listed, Always, Upvalue, inherit, Where, within, prototype, Forest, Loaded, outermost, reading}
 
@@ -91,9 +91,9 @@ StrictBody L F w = do
   start ← Here
   spelt ← String L.max_string_bytes
   line_defined ← Int
-  last-line-defined ← Int
+  last-line_defined ← Int
   numparams ← Byte
-  is-vararg ← Byte
+  is_vararg ← Byte
   maxstacksize ← Byte
   size ← Int
   Given (size ≤ L.max_instructions_per_proto)
@@ -108,12 +108,12 @@ StrictBody L F w = do
   nested ← Forest protos F (within w (inherit spelt w.source) (length instructions))
   line-info-size ← Int
   line-info-at ← Here
-  line-info ← Run line-info-size
-  abs-line-info ← StrictCounted StrictAnchor
-  loc-vars ← StrictCounted (StrictLocal L.max_string_bytes)
-  upvalue-names ← StrictCounted (String L.max_string_bytes)
+  line_info_lem ← Run line-info-size
+  abs_line_info ← StrictCounted StrictAnchor
+  loc_vars ← StrictCounted (StrictLocal L.max_string_bytes)
+  upvalue_names_lem ← StrictCounted (String L.max_string_bytes)
   end ← Here
-  Is (prototype w start spelt line_defined last-line-defined numparams is-vararg maxstacksize (record { place = instructions-at; items = instructions }) constants upvalues protos-at protos (record { place = line-info-at; items = line-info }) abs-line-info loc-vars upvalue-names end ∷ nested)
+  Is (prototype w start spelt line_defined last-line_defined numparams is_vararg maxstacksize (record { place = instructions-at; items = instructions }) constants upvalues protos-at protos (record { place = line-info-at; items = line_info_lem }) abs_line_info loc_vars upvalue_names_lem end ∷ nested)
 
 -- a function below which functions nest at most `left` deep
 unfoldable pub StrictFunction : ResourceLimits → ℕ → Where → Form (List Prototype)
@@ -129,7 +129,7 @@ StrictHeader = do
   BeforeFormat
   Spelt (0 ∷ [])
   BehindFormat
-  Is (record { header = headerOf 0; warnings = [] })
+  Is (record { header = header_of 0; warnings = [] })
 
 -- `luaU_undump`; the byte behind the header is forgotten
 abbrev pub StrictMain : ResourceLimits → Form Loaded

@@ -24,13 +24,13 @@ use Rattle.format.specs.declared.refusal.Refusal.TheVariants.{
 use Rattle.format.specs.declared.entry.AbsLineInfo.{AbsLineInfo}
 use Rattle.format.specs.Form.{Bytes}
 use Rattle.format.specs.GrammarFields.{LuaString}
-use Rattle.format.specs.GrammarHeader.{Headed, headerOf}
-use Rattle.format.specs.Limits.{withinCeilings}
+use Rattle.format.specs.GrammarHeader.{Headed, header_of}
+use Rattle.format.specs.Limits.{within_ceilings}
 use Rattle.format.specs.Reading.{ConstantValue, nil, boolean, integer, float, short-string, long-string, LocalVar, Prototype}
 use Rattle.format.specs.GrammarChunk.{Listed, inherit, Where, within, prototype, outermost, Loaded}
 use Rattle.format.specs.Read.{Reader, next, ◌>>=◌, ◌>>◌, give, here, refuse, test, at_most, run, many}
 use Rattle.format.specs.ReadFields.{field, byte, number, string}
-use Rattle.format.specs.ReadHeader.{expect, beforeFormat, behindFormat}
+use Rattle.format.specs.ReadHeader.{expect, before_format, behind_format}
 use Rattle.format.specs.ReadChunk.{always, upvalue, forest, Outcome, refusal, outcome}
 
 abbrev pub int : Reader ℕ
@@ -41,15 +41,15 @@ int = do
   give n
 
 -- ## Lists behind their counts
-abbrev pub strictCounted : {A : Type 0} → Reader A → Reader (Listed A)
-strictCounted r = do
+abbrev pub strict_counted : {A : Type 0} → Reader A → Reader (Listed A)
+strict_counted r = do
   n ← int
   place ← here
   items ← many n r
   give (record { place = place; items = items })
 
-abbrev pub strictCountedUpTo : {A : Type 0} → ℕ → (ℕ → Refusal) → Reader A → Reader (Listed A)
-strictCountedUpTo limit above r = do
+abbrev pub strict_counted_up_to : {A : Type 0} → ℕ → (ℕ → Refusal) → Reader A → Reader (Listed A)
+strict_counted_up_to limit above r = do
   first ← here
   n ← int
   at_most n limit (above first)
@@ -69,8 +69,8 @@ present limit = do
   there first t
 
 -- behind a tag that stands at `place`
-abbrev pub strictTagged : ℕ → ℕ → ℕ → Reader ConstantValue
-strictTagged limit place tag =
+abbrev pub strict_tagged : ℕ → ℕ → ℕ → Reader ConstantValue
+strict_tagged limit place tag =
     cond (eqb tag 0) (give nil)
     (cond (eqb tag 1) (give (boolean false))
     (cond (eqb tag 17) (give (boolean true))
@@ -88,34 +88,34 @@ strictTagged limit place tag =
       give (long-string t))
     (refuse (ConstantTag place))))))))
 
-abbrev pub strictConstant : ℕ → Reader ConstantValue
-strictConstant limit = do
+abbrev pub strict_constant : ℕ → Reader ConstantValue
+strict_constant limit = do
   place ← here
   tag ← byte
-  strictTagged limit place tag
+  strict_tagged limit place tag
 
-abbrev pub strictAnchor : Reader AbsLineInfo
-strictAnchor = do
+abbrev pub strict_anchor : Reader AbsLineInfo
+strict_anchor = do
   pc ← int
   line ← int
   give (record { pc = pc; line = line })
 
-abbrev pub strictLocal : ℕ → Reader LocalVar
-strictLocal limit = do
+abbrev pub strict_local : ℕ → Reader LocalVar
+strict_local limit = do
   name ← always limit (63 ∷ [])
   startpc ← int
   endpc ← int
   give (record { name = name; startpc = startpc; endpc = endpc })
 
 -- ## Functions
-unfoldable pub strictBody : ResourceLimits → (Where → Reader (List Prototype)) → Where → Reader (List Prototype)
-strictBody L r w = do
+unfoldable pub strict_body : ResourceLimits → (Where → Reader (List Prototype)) → Where → Reader (List Prototype)
+strict_body L r w = do
   start ← here
   spelt ← string L.max_string_bytes
   line_defined ← int
-  last-line-defined ← int
+  last-line_defined ← int
   numparams ← byte
-  is-vararg ← byte
+  is_vararg ← byte
   maxstacksize ← byte
   first ← here
   size ← int
@@ -123,8 +123,8 @@ strictBody L r w = do
   at_most (w.instructions + size) L.max_total_instructions (TotalInstructions first)
   instructions-at ← here
   instructions ← many size (field 4)
-  constants ← strictCountedUpTo L.max_constants_per_proto Constants (strictConstant L.max_string_bytes)
-  upvalues ← strictCountedUpTo L.max_upvalues_per_proto Upvalues upvalue
+  constants ← strict_counted_up_to L.max_constants_per_proto Constants (strict_constant L.max_string_bytes)
+  upvalues ← strict_counted_up_to L.max_upvalues_per_proto Upvalues upvalue
   first ← here
   protos ← int
   at_most protos L.max_total_prototypes (Prototypes first)
@@ -132,37 +132,37 @@ strictBody L r w = do
   nested ← forest protos r (within w (inherit spelt w.source) (length instructions))
   line-info-size ← int
   line-info-at ← here
-  line-info ← run line-info-size
-  abs-line-info ← strictCounted strictAnchor
-  loc-vars ← strictCounted (strictLocal L.max_string_bytes)
-  upvalue-names ← strictCounted (string L.max_string_bytes)
+  line_info_lem ← run line-info-size
+  abs_line_info ← strict_counted strict_anchor
+  loc_vars ← strict_counted (strict_local L.max_string_bytes)
+  upvalue_names_lem ← strict_counted (string L.max_string_bytes)
   end ← here
-  give (prototype w start spelt line_defined last-line-defined numparams is-vararg maxstacksize (record { place = instructions-at; items = instructions }) constants upvalues protos-at protos (record { place = line-info-at; items = line-info }) abs-line-info loc-vars upvalue-names end ∷ nested)
+  give (prototype w start spelt line_defined last-line_defined numparams is_vararg maxstacksize (record { place = instructions-at; items = instructions }) constants upvalues protos-at protos (record { place = line-info-at; items = line_info_lem }) abs_line_info loc_vars upvalue_names_lem end ∷ nested)
 
-unfoldable pub strictFunction : ResourceLimits → ℕ → Where → Reader (List Prototype)
-strictFunction L zero = strictBody L (λ w. do
+unfoldable pub strict_function : ResourceLimits → ℕ → Where → Reader (List Prototype)
+strict_function L zero = strict_body L (λ w. do
   place ← here
   refuse (NestingDepth place))
-strictFunction L (suc left) = strictBody L (λ w. do
+strict_function L (suc left) = strict_body L (λ w. do
   place ← here
   at_most w.number L.max_total_prototypes (TotalPrototypes place)
-  strictFunction L left w)
+  strict_function L left w)
 
 -- ## Chunks
-abbrev pub strictHeader : Reader Headed
-strictHeader = do
-  beforeFormat
+abbrev pub strict_header : Reader Headed
+strict_header = do
+  before_format
   expect (0 ∷ []) Format
-  behindFormat
-  give (record { header = headerOf 0; warnings = [] })
+  behind_format
+  give (record { header = header_of 0; warnings = [] })
 
-abbrev pub strictMain : ResourceLimits → Reader Loaded
-strictMain L = do
-  headed ← strictHeader
+abbrev pub strict_main : ResourceLimits → Reader Loaded
+strict_main L = do
+  headed ← strict_header
   forgotten ← byte
-  functions ← strictFunction L L.max_nesting_depth outermost
+  functions ← strict_function L L.max_nesting_depth outermost
   give (record { headed = headed; functions = functions })
 
 -- 21 and 22 first
-unfoldable pub strictRead : ResourceLimits → Bytes → Outcome
-strictRead L chunk = cond (withinCeilings L) (cond (leb (length chunk) L.max_input_bytes) (outcome L (strictMain L 0 chunk)) (refusal InputBytes)) (refusal LimitAboveCeiling)
+unfoldable pub strict_read : ResourceLimits → Bytes → Outcome
+strict_read L chunk = cond (within_ceilings L) (cond (leb (length chunk) L.max_input_bytes) (outcome L (strict_main L 0 chunk)) (refusal InputBytes)) (refusal LimitAboveCeiling)

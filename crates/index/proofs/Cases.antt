@@ -1,6 +1,6 @@
 -- The order of the index's fourteen numbers and of its rows (01 'Calls'; 02, item 2), on a chunk whose function 4 has numbers that all differ (crates/format/proofs/Distinct.antt); antt computes both.
---     row-holds        start, end, depth, parent; instructions, constants, upvalues, nested functions, deltas, anchors, locals, upvalue names; where the instructions and the constants begin
---     index-holds      the whole index, from the bytes; what is written where there is room for it, and for one number more or less
+--     row_holds        start, end, depth, parent; instructions, constants, upvalues, nested functions, deltas, anchors, locals, upvalue names; where the instructions and the constants begin
+--     index_holds      the whole index, from the bytes; what is written where there is room for it, and for one number more or less
 -- Told apart: any two columns exchanged, rows in another order, the parent counted from 1, an end before the last byte, a row of space too few taken.
 -- Assumes nothing.
 use mathlib.Core.Path.{◌≡◌, refl}
@@ -13,11 +13,11 @@ use Rattle.format.specs.ReadChunk.{body, function, Outcome, read}
 use Rattle.format.proofs.Distinct.{distinct, fourth}
 use Rattle.index.specs.declared.IndexAnswer.{IndexAnswer}
 use Rattle.index.specs.declared.IndexAnswer.TheVariants.{Ok, Err}
-use Rattle.index.specs.Index.{indexRow, shownIndex, indexWritten}
+use Rattle.index.specs.Index.{index_row, shown_index, index_written}
 
-row-holds : indexRow fourth ≡ 81 ∷ 300 ∷ 2 ∷ 3 ∷ 5 ∷ 7 ∷ 6 ∷ 4 ∷ 8 ∷ 9 ∷ 10 ∷ 11 ∷ 100 ∷ 121 ∷ []
+row_holds : index_row fourth ≡ 81 ∷ 300 ∷ 2 ∷ 3 ∷ 5 ∷ 7 ∷ 6 ∷ 4 ∷ 8 ∷ 9 ∷ 10 ∷ 11 ∷ 100 ∷ 121 ∷ []
 unfolding fourth
-row-holds = refl
+row_holds = refl
 
 -- ## The chunk
 -- behind the counts of nested functions; before its lists such a function has six bytes, and its counts one each
@@ -53,10 +53,10 @@ cases =
     ∷ (125, Err LentSpace, replicate 125 77)
     ∷ []
 
-answers-hold : map (λ c. shownIndex c.0 chunk) cases ≡ map (λ c. c.1) cases
+answers_hold : map (λ c. shown_index c.0 chunk) cases ≡ map (λ c. c.1) cases
 unfolding rows cases distinct read body function
-answers-hold = refl
+answers_hold = refl
 
-index-holds : map (λ c. indexWritten (replicate c.0 77) chunk) cases ≡ map (λ c. c.2) cases
+index_holds : map (λ c. index_written (replicate c.0 77) chunk) cases ≡ map (λ c. c.2) cases
 unfolding rows cases distinct read body function
-index-holds = refl
+index_holds = refl

@@ -1,6 +1,6 @@
 -- Where the words and the constants of each function begin (02, item 2), with the rest of its row: chunks behind their headers and their indices, in a list, and one theorem over the list, which antt computes.
---     places-hold      the index of each
---     lent-holds       with one number too few nothing is written, with just enough the row, and a number behind it stays
+--     places_hold      the index of each
+--     lent_holds       with one number too few nothing is written, with just enough the row, and a number behind it stays
 -- Told apart: the two places exchanged, the place of a count, the place behind the count's first byte, the place of another list, of the second word or constant, 0 where there is none; thirteen numbers taken for enough.
 -- Assumes nothing.
 use mathlib.Core.Path.{◌≡◌, refl}
@@ -9,12 +9,12 @@ use Prim.Native.Nat.{ℕ}
 use lib.ListN.{length, replicate}
 use Rattle.format.specs.declared.refusal.Refusal.TheVariants.{LentSpace}
 use Rattle.format.specs.Form.{Bytes}
-use Rattle.format.specs.Copy.{headerBytes}
+use Rattle.format.specs.Copy.{header_bytes}
 use Rattle.format.specs.Limits.{ceilings}
 use Rattle.format.specs.ReadChunk.{body, function, Outcome, read}
 use Rattle.index.specs.declared.IndexAnswer.{IndexAnswer}
 use Rattle.index.specs.declared.IndexAnswer.TheVariants.{Ok, Err}
-use Rattle.index.specs.Index.{shownIndex, indexWritten}
+use Rattle.index.specs.Index.{shown_index, index_written}
 
 record Case : Type 0 where
   -- byte 31 and the functions
@@ -22,7 +22,7 @@ record Case : Type 0 where
   rows : List ℕ
 
 abbrev chunk : Bytes → Outcome
-chunk behind = read ceilings (headerBytes 0 ++ behind)
+chunk behind = read ceilings (header_bytes 0 ++ behind)
 
 cases : List Case
 cases =
@@ -59,9 +59,9 @@ cases =
     }
     ∷ []
 
-places-hold : map (λ (c : Case). indexWritten (replicate (length c.rows) 77) (chunk c.behind)) cases ≡ map (λ (c : Case). c.rows) cases
+places_hold : map (λ (c : Case). index_written (replicate (length c.rows) 77) (chunk c.behind)) cases ≡ map (λ (c : Case). c.rows) cases
 unfolding cases read body function
-places-hold = refl
+places_hold = refl
 
 -- ## Lent memory: how many numbers are lent, the answer, and what then stands there
 abbrev smallest : Outcome
@@ -73,6 +73,6 @@ row = 32 ∷ 46 ∷ replicate 10 0 ++ (39 ∷ 40 ∷ [])
 spaces : List (ℕ × IndexAnswer × List ℕ)
 spaces = (13, Err LentSpace, replicate 13 77) ∷ (14, Ok 1, row) ∷ (15, Ok 1, row ++ (77 ∷ [])) ∷ []
 
-lent-holds : map (λ c. (c.0, shownIndex c.0 smallest, indexWritten (replicate c.0 77) smallest)) spaces ≡ spaces
+lent_holds : map (λ c. (c.0, shown_index c.0 smallest, index_written (replicate c.0 77) smallest)) spaces ≡ spaces
 unfolding spaces read body function
-lent-holds = refl
+lent_holds = refl

@@ -1,8 +1,8 @@
 -- The index of a chunk: fourteen numbers for each function, functions in the order their bytes begin (01 'Calls'; 02, item 2: the last two).
---     indexRow p           the numbers of the function p
+--     index_row p           the numbers of the function p
 --     index ps             those of all functions, one after the other
---     shownIndex n o       the answer, where o was read and n numbers have room
---     indexWritten old o   what then stands in the lent space that held `old`
+--     shown_index n o       the answer, where o was read and n numbers have room
+--     index_written old o   what then stands in the lent space that held `old`
 use Rattle.std.specs.Prelude.{cond, List, [], ◌∷◌, ◌++◌, ℕ, leb, length}
 use Rattle.format.specs.declared.refusal.Refusal.TheVariants.{LentSpace}
 use Rattle.format.specs.Reading.{Prototype}
@@ -13,8 +13,8 @@ use Rattle.index.specs.declared.IndexAnswer.TheVariants as answer
 
 -- where it begins and ends (just behind its last byte), its depth, its parent's number (main's is 0), how long each list is, in the grammar's order,
 -- and where its instruction words and its constants begin: just after their counts, also where there are none
-abbrev pub indexRow : Prototype → List ℕ
-indexRow p =
+abbrev pub index_row : Prototype → List ℕ
+index_row p =
     p.start
     ∷ p.end
     ∷ p.depth
@@ -23,24 +23,24 @@ indexRow p =
     ∷ length p.constants
     ∷ length p.upvalues
     ∷ p.protos
-    ∷ length p.line-info
-    ∷ length p.abs-line-info
-    ∷ length p.loc-vars
-    ∷ length p.upvalue-names
+    ∷ length p.line_info_lem
+    ∷ length p.abs_line_info
+    ∷ length p.loc_vars
+    ∷ length p.upvalue_names_lem
     ∷ p.places.instructions
     ∷ p.places.constants
     ∷ []
 
 abbrev pub index : List Prototype → List ℕ
 index [] = []
-index (p ∷ ps) = indexRow p ++ index ps
+index (p ∷ ps) = index_row p ++ index ps
 
 -- the number of functions; 26 where the space is shorter than the index, after every other refusal
-abbrev pub shownIndex : ℕ → Outcome → IndexAnswer
-shownIndex space (shown r) = cond (leb (length (index r.functions)) space) (answer.Ok (length r.functions)) (answer.Err LentSpace)
-shownIndex space (refusal q) = answer.Err q
+abbrev pub shown_index : ℕ → Outcome → IndexAnswer
+shown_index space (shown r) = cond (leb (length (index r.functions)) space) (answer.Ok (length r.functions)) (answer.Err LentSpace)
+shown_index space (refusal q) = answer.Err q
 
 -- the index, and behind it what stood there; on any refusal all that stood there
-abbrev pub indexWritten : List ℕ → Outcome → List ℕ
-indexWritten old (shown r) = over (index r.functions) old
-indexWritten old (refusal q) = old
+abbrev pub index_written : List ℕ → Outcome → List ℕ
+index_written old (shown r) = over (index r.functions) old
+index_written old (refusal q) = old

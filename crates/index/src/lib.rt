@@ -1,7 +1,7 @@
 // The index: a row of numbers for each function of a chunk, written into lent space.
 ghost use Rattle.std.specs.Prelude.{◌≡◌, length};
 ghost use Rattle.format.specs.ReadChunk as format;
-ghost use Rattle.index.specs.Index.{shownIndex, indexWritten};
+ghost use Rattle.index.specs.Index.{shown_index, index_written};
 
 use format::limits::ResourceLimits;
 use format::refusal::Refusal;
@@ -22,8 +22,8 @@ pub enum IndexAnswer {
 // Writes the index of a chunk at the start of `rows`: for each function, in the order their bytes begin, start, end, depth, parent, eight counts, and the places of its first instruction word and
 // of its first constant (with none, just after their count). The first pass judges, the second writes. Ruled out: a count or a place that is another list's, rows touched where the answer is a refusal.
 pub fn function_index(s: &[u8], limits: ResourceLimits, rows: &mut [u32]) -> IndexAnswer
-    ensures value { result ≡ shownIndex (length rows.old) (format.read limits s.now) }
-    ensures rows_after { rows.new ≡ indexWritten rows.old (format.read limits s.now) }
+    ensures value { result ≡ shown_index (length rows.old) (format.read limits s.now) }
+    ensures rows_after { rows.new ≡ index_written rows.old (format.read limits s.now) }
 {
     let judged = judge_chunk(s, limits);
     match judged {

@@ -1,7 +1,7 @@
 // The numbers of a function, stored.
 ghost use Rattle.std.specs.Prelude.{◌≡◌, [], ◌∷◌, ◌+◌, ◌*◌, ◌≤◌, length};
 ghost use Rattle.slice.specs.Inner.Splice.{splice};
-ghost use Rattle.index_row.specs.Inner.Stored.{COLUMNS, low, storedHead, storedPlaces, storedTail};
+ghost use Rattle.index_row.specs.Inner.Stored.{COLUMNS, low, stored_head, stored_places, stored_tail};
 
 use read_prototype::pass::{HeadCounts, TailCounts};
 
@@ -45,7 +45,7 @@ pub fn put_head(
     parent: usize,
     head: HeadCounts,
 )
-    ensures { COLUMNS * number + COLUMNS ≤ length rows.old → rows.new ≡ splice (COLUMNS * number + 12) (storedPlaces head) (splice (COLUMNS * number) (storedHead start start depth parent head) rows.old) }
+    ensures { COLUMNS * number + COLUMNS ≤ length rows.old → rows.new ≡ splice (COLUMNS * number + 12) (stored_places head) (splice (COLUMNS * number) (stored_head start start depth parent head) rows.old) }
 {
     if rows.len() / COLUMNS <= number {
         return;
@@ -65,7 +65,7 @@ pub fn put_head(
 
 // Stores the rest of the row. Ruled out: the same, an end that stays the start.
 pub fn put_tail(rows: &mut [u32], number: usize, end: usize, tail: TailCounts)
-    ensures { COLUMNS * number + COLUMNS ≤ length rows.old → rows.new ≡ splice (COLUMNS * number + 1) (low end ∷ []) (splice (COLUMNS * number + 8) (storedTail tail) rows.old) }
+    ensures { COLUMNS * number + COLUMNS ≤ length rows.old → rows.new ≡ splice (COLUMNS * number + 1) (low end ∷ []) (splice (COLUMNS * number + 8) (stored_tail tail) rows.old) }
 {
     if number < rows.len() / COLUMNS {
         let at = COLUMNS * number;

@@ -22,17 +22,17 @@ use Rattle.read_prototype.specs.declared.pass.HeadCounts.{HeadCounts}
 use Rattle.read_prototype.specs.declared.pass.HeadCountsResult.TheVariants as head-answer
 use Rattle.read_prototype.specs.declared.pass.TailCounts.{TailCounts}
 use Rattle.read_prototype.specs.declared.pass.TailCountsResult.TheVariants as tail-answer
-use Rattle.read_prototype.specs.Inner.Counts.{headCounts, tailCounts, headCountsResult, tailCountsResult}
-use Rattle.read_prototype.specs.Inner.Whole.{prototypeOf}
+use Rattle.read_prototype.specs.Inner.Counts.{head_counts, tail_counts, head_counts_result, tail_counts_result}
+use Rattle.read_prototype.specs.Inner.Whole.{prototype_of}
 use Rattle.read_walk.specs.declared.walk.Skimmed.{Skimmed}
 use Rattle.read_walk.specs.declared.walk.SkimResult.TheVariants as skim
-use Rattle.read_walk.specs.Inner.Skim.{entered, on, skimResult}
-use Rattle.read_walk.proofs.OneFunction.{skim-err}
-use Rattle.read_walk.proofs.Passes.{begins, its-head, head-counts, first, inner, nested, ends, its-tail, tail-counted, function-read}
-use Rattle.read_walk.proofs.SoFar.{SoFar, starts, ended, goes_on, next-read}
+use Rattle.read_walk.specs.Inner.Skim.{entered, on, skim_result}
+use Rattle.read_walk.proofs.OneFunction.{skim_err}
+use Rattle.read_walk.proofs.Passes.{begins, its_head, head-counts, first, inner, nested, ends, its_tail, tail-counted, function-read}
+use Rattle.read_walk.proofs.SoFar.{SoFar, starts, ended, goes_on_lem, next-read}
 use Rattle.slice.specs.Inner.Splice.{splice}
-use Rattle.slice.proofs.Splices.{splice-length, splice-none, splice-then, splice-before}
-use Rattle.index_row.specs.Inner.Stored.{COLUMNS, low, storedHead, storedPlaces, storedTail, storedFunction, stored}
+use Rattle.slice.proofs.Splices.{splice-length, splice-none, splice_then, splice-before}
+use Rattle.index_row.specs.Inner.Stored.{COLUMNS, low, stored_head, stored_places, stored_tail, stored_function, stored}
 use Rattle.index_walk.specs.Inner.Written.{Wrote}
 
 -- ## Rows
@@ -42,71 +42,71 @@ stored-length (p ∷ ps) = let more = stored-length ps in omega arith
 
 stored-append : (ps qs : List Prototype) → stored (ps ++ qs) ≡ stored ps ++ stored qs
 stored-append [] qs = refl
-stored-append (p ∷ ps) qs = ap (λ more. storedFunction p ++ more) (stored-append ps qs)
+stored-append (p ∷ ps) qs = ap (λ more. stored_function p ++ more) (stored-append ps qs)
 
 -- what stands behind k elements P, with e written over the first of it
 over_first : (P D : List ℕ) (b e k : ℕ) → length P ≡ k → take k (P ++ (b ∷ D)) ++ (e ∷ drop (k + 1) (P ++ (b ∷ D))) ≡ P ++ (e ∷ D)
 over_first P D b e k h = rw (← h, take-append_seam, drop-append-add)
 
 -- a piece of which the second number is written over
-over-second : (k a b e : ℕ) (xs l : List ℕ) → k ≤ length l → splice (k + 1) (e ∷ []) (splice k (a ∷ b ∷ xs) l) ≡ splice k (a ∷ e ∷ xs) l
+over_second : (k a b e : ℕ) (xs l : List ℕ) → k ≤ length l → splice (k + 1) (e ∷ []) (splice k (a ∷ b ∷ xs) l) ≡ splice k (a ∷ e ∷ xs) l
 unfolding splice
-over-second k a b e xs l h =
+over_second k a b e xs l h =
     ap (λ (x : List ℕ). take (k + 1) x ++ (e ∷ drop (k + 1 + 1) x)) (sym (append_assoc (take k l) (a ∷ []) (b ∷ (xs ++ drop (k + length (a ∷ b ∷ xs)) l))))
     ∙ over_first (take k l ++ (a ∷ [])) (xs ++ drop (k + length (a ∷ b ∷ xs)) l) b e (k + 1) (length-append (take k l) (a ∷ []) ∙ ap (λ (n : ℕ). n + 1) (length-take-le k l h))
     ∙ append_assoc (take k l) (a ∷ []) (e ∷ (xs ++ drop (k + length (a ∷ b ∷ xs)) l))
 
 -- the front of a row, its two places, what stands behind the row, the four numbers before the places, and the row's second: one piece
-row-around : (at a b e : ℕ) (xs t places more l₀ l₁ : List ℕ) → l₁ ≡ splice (at + 12) places (splice at (a ∷ b ∷ xs) l₀) → length xs ≡ 6 → length t ≡ 4 → length places ≡ 2 → at + COLUMNS ≤ length l₀
+row_around : (at a b e : ℕ) (xs t places more l₀ l₁ : List ℕ) → l₁ ≡ splice (at + 12) places (splice at (a ∷ b ∷ xs) l₀) → length xs ≡ 6 → length t ≡ 4 → length places ≡ 2 → at + COLUMNS ≤ length l₀
     → splice (at + 1) (e ∷ []) (splice (at + 8) t (splice (at + COLUMNS) more l₁)) ≡ splice at (a ∷ e ∷ (xs ++ (t ++ (places ++ more)))) l₀
-row-around at a b e xs t places more l₀ l₁ begun six four two fits =
+row_around at a b e xs t places more l₀ l₁ begun six four two fits =
     let front = splice at (a ∷ b ∷ xs) l₀ in
     let long : length front ≡ length l₀ = splice-length at (a ∷ b ∷ xs) l₀ (omega arith) in
     let eight : at + 8 ≡ at + length (a ∷ b ∷ xs) = omega arith in
     let twelve : at + 12 ≡ at + 8 + length t = omega arith in
     let behind : at + COLUMNS ≡ at + 12 + length places = omega arith in
     (λ i. splice (at + 1) (e ∷ []) (splice (at + 8) t (splice (behind i) more (begun i))))
-    ∙ ap (λ l. splice (at + 1) (e ∷ []) (splice (at + 8) t l)) (splice-then (at + 12) places more front (omega arith))
+    ∙ ap (λ l. splice (at + 1) (e ∷ []) (splice (at + 8) t l)) (splice_then (at + 12) places more front (omega arith))
     ∙ ap (λ k. splice (at + 1) (e ∷ []) (splice (at + 8) t (splice k (places ++ more) front))) twelve
     ∙ ap (splice (at + 1) (e ∷ [])) (splice-before (at + 8) t (places ++ more) front (omega arith))
     ∙ ap (λ k. splice (at + 1) (e ∷ []) (splice k (t ++ (places ++ more)) front)) eight
-    ∙ ap (splice (at + 1) (e ∷ [])) (splice-then at (a ∷ b ∷ xs) (t ++ (places ++ more)) l₀ (omega arith))
-    ∙ over-second at a b e (xs ++ (t ++ (places ++ more))) l₀ (omega arith)
+    ∙ ap (splice (at + 1) (e ∷ [])) (splice_then at (a ∷ b ∷ xs) (t ++ (places ++ more)) l₀ (omega arith))
+    ∙ over_second at a b e (xs ++ (t ++ (places ++ more))) l₀ (omega arith)
 
-none-wrote : (w : Where) (o : Read (List Prototype)) (l l' : List ℕ) (q : Refusal) → skim.Err q ≡ skimResult w o → Wrote w o l l'
-none-wrote w o l l' q e = record { wrote = λ ps to rest f _. absurd (never (sym (skim-err w o q e) ∙ f)) }
+none-wrote : (w : Where) (o : Read (List Prototype)) (l l' : List ℕ) (q : Refusal) → skim.Err q ≡ skim_result w o → Wrote w o l l'
+none-wrote w o l l' q e = record { wrote = λ ps to rest f _. absurd (never (sym (skim_err w o q e) ∙ f)) }
 
 -- what a return with a refusal shows, and what is then asked of the rows
-pub refuses : (from : Skimmed) (depth parent : ℕ) (o : Where → Read (List Prototype)) (l l' : List ℕ) (q : Refusal) → ((w : Where) → from.number ≡ w.number → from.instructions ≡ w.instructions → skim.Err q ≡ skimResult w (o w))
-    → ((w : Where) → from.number ≡ w.number → from.instructions ≡ w.instructions → skim.Err q ≡ skimResult w (o w))
+pub refuses : (from : Skimmed) (depth parent : ℕ) (o : Where → Read (List Prototype)) (l l' : List ℕ) (q : Refusal) → ((w : Where) → from.number ≡ w.number → from.instructions ≡ w.instructions → skim.Err q ≡ skim_result w (o w))
+    → ((w : Where) → from.number ≡ w.number → from.instructions ≡ w.instructions → skim.Err q ≡ skim_result w (o w))
     × ((w : Where) → from.number ≡ w.number → from.instructions ≡ w.instructions → depth ≡ w.depth → parent ≡ w.parent → Wrote w (o w) l l')
 refuses from depth parent o l l' q shows = (shows, λ w n i _ _. none-wrote w (o w) l l' q (shows w n i))
 
 -- ## A function
 module _ (s : Bytes) (L : ResourceLimits) (left : ℕ) (w : Where) (at : ℕ) {before : ℕ} (so_far : before ≡ w.instructions)
-    (h : HeadCounts) (c₁ : Cursor) (e₁ : head-answer.Ok h c₁ ≡ headCountsResult (begins s L left w at so_far))
-    (k : Skimmed) (e₂ : skim.Ok k ≡ skimResult (first s L left w at so_far h c₁ e₁) (inner s L left w at so_far h c₁ e₁))
-    (t : TailCounts) (c₃ : Cursor) (e₃ : tail-answer.Ok t c₃ ≡ tailCountsResult (ends s L left w at so_far h c₁ e₁ k e₂)) where
+    (h : HeadCounts) (c₁ : Cursor) (e₁ : head-answer.Ok h c₁ ≡ head_counts_result (begins s L left w at so_far))
+    (k : Skimmed) (e₂ : skim.Ok k ≡ skim_result (first s L left w at so_far h c₁ e₁) (inner s L left w at so_far h c₁ e₁))
+    (t : TailCounts) (c₃ : Cursor) (e₃ : tail-answer.Ok t c₃ ≡ tail_counts_result (ends s L left w at so_far h c₁ e₁ k e₂)) where
   abbrev those : List Prototype
   those = (nested s L left w at so_far h c₁ e₁ k e₂).value
 
   abbrev this : Prototype
-  this = prototypeOf w at (its-head s L left w at so_far h c₁ e₁) (its-tail s L left w at so_far h c₁ e₁ k e₂ t c₃ e₃) c₃.at
+  this = prototype_of w at (its_head s L left w at so_far h c₁ e₁) (its_tail s L left w at so_far h c₁ e₁ k e₂ t c₃ e₃) c₃.at
 
   -- its numbers as they are stored before and behind those of the nested functions
-  abbrev before-those : List ℕ
-  before-those = storedHead at at w.depth w.parent (headCounts (its-head s L left w at so_far h c₁ e₁))
+  abbrev before_those : List ℕ
+  before_those = stored_head at at w.depth w.parent (head_counts (its_head s L left w at so_far h c₁ e₁))
 
-  abbrev its-places : List ℕ
-  its-places = storedPlaces (headCounts (its-head s L left w at so_far h c₁ e₁))
+  abbrev its_places : List ℕ
+  its_places = stored_places (head_counts (its_head s L left w at so_far h c₁ e₁))
 
-  abbrev behind-those : List ℕ
-  behind-those = storedTail (tailCounts (its-tail s L left w at so_far h c₁ e₁ k e₂ t c₃ e₃))
+  abbrev behind_those : List ℕ
+  behind_those = stored_tail (tail_counts (its_tail s L left w at so_far h c₁ e₁ k e₂ t c₃ e₃))
 
   pub function-wrote : (number depth parent : ℕ) → number ≡ w.number → depth ≡ w.depth → parent ≡ w.parent
-      → (l₀ l₁ l₂ l₃ : List ℕ) → (COLUMNS * number + COLUMNS ≤ length l₀ → l₁ ≡ splice (COLUMNS * number + 12) (storedPlaces h) (splice (COLUMNS * number) (storedHead at at depth parent h) l₀)) → length l₁ ≡ length l₀
+      → (l₀ l₁ l₂ l₃ : List ℕ) → (COLUMNS * number + COLUMNS ≤ length l₀ → l₁ ≡ splice (COLUMNS * number + 12) (stored_places h) (splice (COLUMNS * number) (stored_head at at depth parent h) l₀)) → length l₁ ≡ length l₀
       → Wrote (first s L left w at so_far h c₁ e₁) (inner s L left w at so_far h c₁ e₁) l₁ l₂ → length l₂ ≡ length l₁
-      → (COLUMNS * number + COLUMNS ≤ length l₂ → l₃ ≡ splice (COLUMNS * number + 1) (low c₃.at ∷ []) (splice (COLUMNS * number + 8) (storedTail t) l₂))
+      → (COLUMNS * number + COLUMNS ≤ length l₂ → l₃ ≡ splice (COLUMNS * number + 1) (low c₃.at ∷ []) (splice (COLUMNS * number + 8) (stored_tail t) l₂))
       → Wrote w (function L left w at (drop at s)) l₀ l₃
   function-wrote number depth parent n d p l₀ l₁ l₂ l₃ begun same-long inside long put = record { wrote = λ ps to rest e fits. written ps (let both = sym (function-read s L left w at so_far h c₁ e₁ k e₂ t c₃ e₃) ∙ e in cc) fits }
     where
@@ -116,10 +116,10 @@ module _ (s : Bytes) (L : ResourceLimits) (left : ℕ) (w : Where) (at : ℕ) {b
           let behind : COLUMNS * (w.number + 1) ≡ COLUMNS * w.number + COLUMNS = omega arith in
           let below = inside.wrote those _ _ (nested s L left w at so_far h c₁ e₁ k e₂).is (omega arith) in
           put (omega arith)
-          ∙ (λ i. splice (COLUMNS * n i + 1) (low c₃.at ∷ []) (splice (COLUMNS * n i + 8) (storedTail (tail-counted s L left w at so_far h c₁ e₁ k e₂ t c₃ e₃ i)) (below i)))
-          ∙ ap (λ m. splice (COLUMNS * w.number + 1) (low c₃.at ∷ []) (splice (COLUMNS * w.number + 8) behind-those (splice m (stored those) l₁))) behind
-          ∙ row-around (COLUMNS * w.number) (low at) (low at) (low c₃.at) (drop 2 before-those) behind-those its-places (stored those) l₀ l₁
-          (begun (omega arith) ∙ (λ i. let h = head-counts s L left w at so_far h c₁ e₁ i in splice (COLUMNS * n i + 12) (storedPlaces h) (splice (COLUMNS * n i) (storedHead at at (d i) (p i) h) l₀))) refl refl refl (omega arith)
+          ∙ (λ i. splice (COLUMNS * n i + 1) (low c₃.at ∷ []) (splice (COLUMNS * n i + 8) (stored_tail (tail-counted s L left w at so_far h c₁ e₁ k e₂ t c₃ e₃ i)) (below i)))
+          ∙ ap (λ m. splice (COLUMNS * w.number + 1) (low c₃.at ∷ []) (splice (COLUMNS * w.number + 8) behind_those (splice m (stored those) l₁))) behind
+          ∙ row_around (COLUMNS * w.number) (low at) (low at) (low c₃.at) (drop 2 before_those) behind_those its_places (stored those) l₀ l₁
+          (begun (omega arith) ∙ (λ i. let h = head-counts s L left w at so_far h c₁ e₁ i in splice (COLUMNS * n i + 12) (stored_places h) (splice (COLUMNS * n i) (stored_head at at (d i) (p i) h) l₀))) refl refl refl (omega arith)
           ∙ ap (λ ps. splice (COLUMNS * w.number) (stored ps) l₀) same
 
 -- ## The loop
@@ -139,8 +139,8 @@ module _ (s : Bytes) (L : ResourceLimits) (n left depth parent : ℕ) (from : Sk
   abbrev all : Where → Read (List Prototype)
   all w = forest n (entered L left) w from.next.at (drop from.next.at s)
 
-  pub ends-behind : more ≤ 0 → (w : Where) → from.number ≡ w.number → from.instructions ≡ w.instructions → depth ≡ w.depth → parent ≡ w.parent → Wrote w (all w) l₀ l
-  ends-behind none w e i d p = record { wrote = λ ps to rest is fits. last ps (let both = sym (ended a.so_far none) ∙ is in cc) fits }
+  pub ends_behind : more ≤ 0 → (w : Where) → from.number ≡ w.number → from.instructions ≡ w.instructions → depth ≡ w.depth → parent ≡ w.parent → Wrote w (all w) l₀ l
+  ends_behind none w e i d p = record { wrote = λ ps to rest is fits. last ps (let both = sym (ended a.so_far none) ∙ is in cc) fits }
     where
       a : Part s L n left depth parent from.next.at w l₀ k more l
       a = b w e i
@@ -152,10 +152,10 @@ module _ (s : Bytes) (L : ResourceLimits) (n left depth parent : ℕ) (from : Sk
           a.wrote d p (omega arith) ∙ ap (λ ps. splice (COLUMNS * w.number) (stored ps) l₀) same
 
   module _ (long : length l ≡ length l₀) (some : 0 < more) (level : 0 < left) (few : k.number ≤ L.max_total_prototypes) (l' : List ℕ) (later : Skimmed)
-      (one : (w : Where) → k.number ≡ w.number → k.instructions ≡ w.instructions → skim.Ok later ≡ skimResult w (function L (left - 1) w k.next.at (drop k.next.at s)))
+      (one : (w : Where) → k.number ≡ w.number → k.instructions ≡ w.instructions → skim.Ok later ≡ skim_result w (function L (left - 1) w k.next.at (drop k.next.at s)))
       (its : (w : Where) → k.number ≡ w.number → k.instructions ≡ w.instructions → depth ≡ w.depth → parent ≡ w.parent → Wrote w (function L (left - 1) w k.next.at (drop k.next.at s)) l l') where
     pub on-behind : Behind s L n left depth parent from l₀ later (more - 1) l'
-    on-behind w e i = record { passed = a.passed ++ qs; so_far = goes_on L left a.so_far some level few later (one (on w k) refl refl); wrote = written }
+    on-behind w e i = record { passed = a.passed ++ qs; so_far = goes_on_lem L left a.so_far some level few later (one (on w k) refl refl); wrote = written }
       where
         a : Part s L n left depth parent from.next.at w l₀ k more l
         a = b w e i
@@ -172,5 +172,5 @@ module _ (s : Bytes) (L : ResourceLimits) (n left depth parent : ℕ) (from : Sk
             let from-here : COLUMNS * k.number ≡ COLUMNS * w.number + length (stored a.passed) = omega arith in
             (its (on w k) refl refl d p).wrote qs _ _ read.is (omega arith)
             ∙ (λ j. splice (from-here j) (stored qs) (a.wrote d p (omega arith) j))
-            ∙ splice-then (COLUMNS * w.number) (stored a.passed) (stored qs) l₀ (omega arith)
+            ∙ splice_then (COLUMNS * w.number) (stored a.passed) (stored qs) l₀ (omega arith)
             ∙ ap (λ x. splice (COLUMNS * w.number) x l₀) (sym (stored-append a.passed qs))

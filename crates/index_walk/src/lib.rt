@@ -3,7 +3,7 @@ ghost use Rattle.std.specs.Prelude.{◌≡◌, ◌+◌, ◌≤◌, drop};
 ghost use Rattle.format.specs.Limits.{DEEPEST, MOST, Walkable};
 ghost use Rattle.format.specs.GrammarChunk as grammar;
 ghost use Rattle.format.specs.ReadChunk.{function};
-ghost use Rattle.read_walk.specs.Inner.Skim.{skimResult};
+ghost use Rattle.read_walk.specs.Inner.Skim.{skim_result};
 ghost use Rattle.index_walk.specs.Inner.Written.{Wrote};
 
 use format::limits::ResourceLimits;
@@ -26,7 +26,7 @@ pub fn write_function(
     unused: &mut Tally,
 ) -> SkimResult
     requires { Walkable limits × (from.number ≤ MOST) × (depth + left ≤ DEEPEST) }
-    ensures value { (w : grammar.Where) → from.number ≡ w.number → from.instructions ≡ w.instructions → result ≡ skimResult w (function limits left w from.next.at (drop from.next.at s.now)) }
+    ensures value { (w : grammar.Where) → from.number ≡ w.number → from.instructions ≡ w.instructions → result ≡ skim_result w (function limits left w from.next.at (drop from.next.at s.now)) }
     ensures wrote { (w : grammar.Where) → from.number ≡ w.number → from.instructions ≡ w.instructions → depth ≡ w.depth → parent ≡ w.parent → Wrote w (function limits left w from.next.at (drop from.next.at s.now)) rows.old rows.new }
 {
     *unused = [0usize; 4];

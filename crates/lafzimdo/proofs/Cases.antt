@@ -1,12 +1,12 @@
 -- The numbers of answers for C, as include/lafzimdo.h lists them for each array: values in which all numbers differ, and one theorem over each list, which antt computes.
---     summary-holds    version, format, instruction size, integer size, size_t size, number size, the test number's bits; functions; trailing place and length; code and place of both warnings; padded numbers
---     summary-read, strict-read    of a chunk's bytes, by the ordinary and by the stricter reading
---     warnings-hold    1 is L54-HEADER-003, 2 L54-CHUNK-001; without a warning both numbers are 0
---     fields-hold      function 4 of the chunk of crates/format/proofs/Distinct.antt: depth, parent; source; lines; three bytes; eight counts; a source that is absent
---     constants-hold   the tag, value or place, length
---     entries-hold     word, upvalue, delta, anchor, local, upvalue name, line, deltas read
---     verdicts-hold    0 valid for analysis, 1 invalid, 2 incomplete; and the numbers of index, copy and findings
---     refused-hold     a refusal is handed on
+--     summary_holds    version, format, instruction size, integer size, size_t size, number size, the test number's bits; functions; trailing place and length; code and place of both warnings; padded numbers
+--     summary_read, strict_read_lem    of a chunk's bytes, by the ordinary and by the stricter reading
+--     warnings_hold    1 is L54-HEADER-003, 2 L54-CHUNK-001; without a warning both numbers are 0
+--     fields_hold      function 4 of the chunk of crates/format/proofs/Distinct.antt: depth, parent; source; lines; three bytes; eight counts; a source that is absent
+--     constants_hold   the tag, value or place, length
+--     entries_hold     word, upvalue, delta, anchor, local, upvalue name, line, deltas read
+--     verdicts_hold    0 valid for analysis, 1 invalid, 2 incomplete; and the numbers of index, copy and findings
+--     refused_hold     a refusal is handed on
 -- Told apart: two numbers of an array exchanged, two codes or verdicts exchanged, a sign left out.
 -- Assumes nothing.
 use mathlib.Core.Path.{◌≡◌, refl}
@@ -18,7 +18,7 @@ use Rattle.format.specs.declared.refusal.Refusal.TheVariants.{NoEntry, LineTooLa
 use Rattle.format.specs.declared.header.Warning.TheVariants.{NonStandardFormat, TrailingBytes}
 use Rattle.format.specs.Limits.{ceilings}
 use Rattle.format.specs.ReadChunk.{body, function, read}
-use Rattle.format_strict.specs.ReadStrict.{strictBody, strictFunction, strictRead}
+use Rattle.format_strict.specs.ReadStrict.{strict_body, strict_function, strict_read}
 use Rattle.format.proofs.Distinct.{distinct}
 use Rattle.format_spelling.specs.ReadSpelling.{spelling}
 use Rattle.format_spelling.specs.ReadSpelling as spelt
@@ -27,12 +27,12 @@ use Rattle.read_header.specs.declared.OptionWarning.{OptionWarning}
 use Rattle.read_header.specs.declared.OptionWarning.TheVariants as option
 use Rattle.read_entry.specs.declared.constant.ConstantValue.{ConstantValue}
 use Rattle.read_entry.specs.declared.constant.ConstantValue.TheVariants as value
-use Rattle.show_row.specs.Asked.{functionOf}
+use Rattle.show_row.specs.Asked.{function_of}
 use Rattle.validate_rules.specs.declared.finding.Verdict.TheVariants.{ValidForAnalysis, Invalid, Incomplete}
 use Rattle.show_chunk.specs.declared.summary.SummaryAnswer.TheVariants as summary
 use Rattle.show_chunk.specs.declared.fields.FunctionFields.{FunctionFields}
-use Rattle.show_chunk.specs.Fields.{shownFields}
-use Rattle.show_chunk.specs.Summaries.{shownSummary}
+use Rattle.show_chunk.specs.Fields.{shown_fields}
+use Rattle.show_chunk.specs.Summaries.{shown_summary}
 use Rattle.show_entry.specs.declared.WordAnswer.TheVariants as word
 use Rattle.show_entry.specs.declared.ConstantAnswer.TheVariants as constant
 use Rattle.show_entry.specs.declared.UpvalueAnswer.TheVariants as upvalue
@@ -47,7 +47,7 @@ use Rattle.copy.specs.declared.whole.CopyAnswer.TheVariants as copy
 use Rattle.validate_verdict.specs.declared.verdict.VerdictAnswer.TheVariants as verdict
 use Rattle.validate_verdict.specs.declared.verdict.CountAnswer.TheVariants as count
 use Rattle.c_boundary.specs.Status.{Answer, done, refuses}
-use Rattle.c_numbers.specs.Numbers.{warningCode, warningPlace}
+use Rattle.c_numbers.specs.Numbers.{warning_code, warning_place}
 use Rattle.lafzimdo.specs.Answers.{
   ofSummary,
   of_fields,
@@ -58,7 +58,7 @@ use Rattle.lafzimdo.specs.Answers.{
   ofUpvalue,
   ofDelta,
   ofAnchor,
-  ofLocal,
+  of_local,
   ofName,
   ofIndex,
   ofCopy,
@@ -67,7 +67,7 @@ use Rattle.lafzimdo.specs.Answers.{
 }
 
 -- ## The summary
-summary-holds : ofSummary (summary.Ok (record {
+summary_holds : ofSummary (summary.Ok (record {
   summary = record {
     header = record { version = 1; format = 2; instruction_size = 3; lua_integer_size = 4; sizeof_sizet = 5; lua_number_size = 6; luac_int = pos 99; luac_num = 7 };
     warnings = record { first = option.Some (TrailingBytes 11); second = option.Some (NonStandardFormat 12) };
@@ -77,33 +77,33 @@ summary-holds : ofSummary (summary.Ok (record {
   };
   padded_numbers = 13;
 })) ≡ done (1 ∷ 2 ∷ 3 ∷ 4 ∷ 5 ∷ 6 ∷ 7 ∷ 8 ∷ 9 ∷ 10 ∷ 2 ∷ 11 ∷ 1 ∷ 12 ∷ 13 ∷ [])
-summary-holds = refl
+summary_holds = refl
 
 -- from the bytes of a chunk
-summary-read : ofSummary (shownSummary (spelling ceilings distinct) (read ceilings distinct)) ≡ done (0x54 ∷ 3 ∷ 4 ∷ 8 ∷ 8 ∷ 8 ∷ 0x4077280000000000 ∷ 9 ∷ 308 ∷ 3 ∷ 1 ∷ 5 ∷ 2 ∷ 308 ∷ 0 ∷ [])
+summary_read : ofSummary (shown_summary (spelling ceilings distinct) (read ceilings distinct)) ≡ done (0x54 ∷ 3 ∷ 4 ∷ 8 ∷ 8 ∷ 8 ∷ 0x4077280000000000 ∷ 9 ∷ 308 ∷ 3 ∷ 1 ∷ 5 ∷ 2 ∷ 308 ∷ 0 ∷ [])
 unfolding distinct read body function spelling spelt.body spelt.function
-summary-read = refl
+summary_read = refl
 
 -- the same bytes in the stricter reading: their format byte is 3, so 31, at its place
-strict-read : ofSummary (shownSummary (spelling ceilings distinct) (strictRead ceilings distinct)) ≡ refuses (Format 5)
-unfolding distinct strictRead strictBody strictFunction spelling spelt.body spelt.function
-strict-read = refl
+strict_read_lem : ofSummary (shown_summary (spelling ceilings distinct) (strict_read ceilings distinct)) ≡ refuses (Format 5)
+unfolding distinct strict_read strict_body strict_function spelling spelt.body spelt.function
+strict_read_lem = refl
 
 -- a warning, its code and its place
 warnings : List (OptionWarning × (ℕ × ℕ))
 warnings = (option.None, (0, 0)) ∷ (option.Some (NonStandardFormat 5), (1, 5)) ∷ (option.Some (TrailingBytes 46), (2, 46)) ∷ []
 
 abbrev numbered : OptionWarning → ℕ × ℕ
-numbered w = (warningCode w, warningPlace w)
+numbered w = (warning_code w, warning_place w)
 
-warnings-hold : map (λ c. numbered c.0) warnings ≡ map (λ c. c.1) warnings
+warnings_hold : map (λ c. numbered c.0) warnings ≡ map (λ c. c.1) warnings
 unfolding warnings
-warnings-hold = refl
+warnings_hold = refl
 
 -- ## A function's fields
-fields-hold : of_fields (shownFields (functionOf 4 (read ceilings distinct))) ≡ done (2 ∷ 3 ∷ 1 ∷ 82 ∷ 12 ∷ 13 ∷ 14 ∷ 15 ∷ 16 ∷ 17 ∷ 5 ∷ 7 ∷ 6 ∷ 4 ∷ 8 ∷ 9 ∷ 10 ∷ 11 ∷ [])
+fields_hold : of_fields (shown_fields (function_of 4 (read ceilings distinct))) ≡ done (2 ∷ 3 ∷ 1 ∷ 82 ∷ 12 ∷ 13 ∷ 14 ∷ 15 ∷ 16 ∷ 17 ∷ 5 ∷ 7 ∷ 6 ∷ 4 ∷ 8 ∷ 9 ∷ 10 ∷ 11 ∷ [])
 unfolding distinct read body function
-fields-hold = refl
+fields_hold = refl
 
 -- ## Entries
 -- nil, false, true, 5, −5, a float's bits, a short string, a long one
@@ -119,9 +119,9 @@ constants =
     ∷ (value.LongString (record { place = 148; len = 3 }), 20 ∷ 148 ∷ 3 ∷ [])
     ∷ []
 
-constants-hold : map (λ c. ofConstant (constant.Ok c.0)) constants ≡ map (λ c. done c.1) constants
+constants_hold : map (λ c. ofConstant (constant.Ok c.0)) constants ≡ map (λ c. done c.1) constants
 unfolding constants
-constants-hold = refl
+constants_hold = refl
 
 entries : List (Answer × List ℕ)
 entries =
@@ -129,23 +129,23 @@ entries =
     ∷ (ofUpvalue (upvalue.Ok (record { instack = 1; idx = 2; kind = 3 })), 1 ∷ 2 ∷ 3 ∷ [])
     ∷ (ofDelta (delta.Ok (negsuc 127)), (2 ^ 64 - 128) ∷ [])
     ∷ (ofAnchor (anchor.Ok (record { pc = 3; line = 4 })), 3 ∷ 4 ∷ [])
-    ∷ (ofLocal (local.Ok 7 5 6), 7 ∷ 5 ∷ 6 ∷ [])
+    ∷ (of_local (local.Ok 7 5 6), 7 ∷ 5 ∷ 6 ∷ [])
     ∷ (ofName (name.Ok (string.Some (record { place = 289; len = 4 }))), 1 ∷ 289 ∷ 4 ∷ [])
     ∷ (ofName (name.Ok string.None), 0 ∷ 0 ∷ 0 ∷ [])
     ∷ (ofLine (line.Ok 77), 77 ∷ [])
     ∷ (ofLines (lines.Ok 5), 5 ∷ [])
     ∷ []
 
-entries-hold : map (λ c. c.0) entries ≡ map (λ c. done c.1) entries
+entries_hold : map (λ c. c.0) entries ≡ map (λ c. done c.1) entries
 unfolding entries
-entries-hold = refl
+entries_hold = refl
 
 -- ## Whole chunks
-verdicts-hold : map (λ v. ofVerdict (verdict.Ok v)) (ValidForAnalysis ∷ Invalid ∷ Incomplete ∷ []) ≡ done (0 ∷ []) ∷ done (1 ∷ []) ∷ done (2 ∷ []) ∷ []
-verdicts-hold = refl
+verdicts_hold : map (λ v. ofVerdict (verdict.Ok v)) (ValidForAnalysis ∷ Invalid ∷ Incomplete ∷ []) ≡ done (0 ∷ []) ∷ done (1 ∷ []) ∷ done (2 ∷ []) ∷ []
+verdicts_hold = refl
 
-counts-hold : ofIndex (index.Ok 9) ∷ ofCopy (copy.Ok 311) ∷ ofCount (count.Ok 7) ∷ [] ≡ done (9 ∷ []) ∷ done (311 ∷ []) ∷ done (7 ∷ []) ∷ []
-counts-hold = refl
+counts_hold : ofIndex (index.Ok 9) ∷ ofCopy (copy.Ok 311) ∷ ofCount (count.Ok 7) ∷ [] ≡ done (9 ∷ []) ∷ done (311 ∷ []) ∷ done (7 ∷ []) ∷ []
+counts_hold = refl
 
-refused-hold : ofLine (line.Err LineTooLarge) ∷ ofWord (word.Err NoEntry) ∷ ofLines (lines.Err AnchorOrder) ∷ ofLines (lines.Err PcOrder) ∷ [] ≡ refuses LineTooLarge ∷ refuses NoEntry ∷ refuses AnchorOrder ∷ refuses PcOrder ∷ []
-refused-hold = refl
+refused_hold : ofLine (line.Err LineTooLarge) ∷ ofWord (word.Err NoEntry) ∷ ofLines (lines.Err AnchorOrder) ∷ ofLines (lines.Err PcOrder) ∷ [] ≡ refuses LineTooLarge ∷ refuses NoEntry ∷ refuses AnchorOrder ∷ refuses PcOrder ∷ []
+refused_hold = refl

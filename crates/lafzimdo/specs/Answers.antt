@@ -31,16 +31,16 @@ use Rattle.validate_verdict.specs.declared.verdict.VerdictAnswer.TheVariants as 
 use Rattle.validate_verdict.specs.declared.verdict.CountAnswer.{CountAnswer}
 use Rattle.validate_verdict.specs.declared.verdict.CountAnswer.TheVariants as count
 use Rattle.c_boundary.specs.Status.{Answer, done, refuses, complement}
-use Rattle.c_entries.specs.EntryNumbers.{stringNumbers, constantNumbers, upvalueNumbers, anchorNumbers, localNumbers}
-use Rattle.c_finding.specs.FindingNumbers.{verdictNumber}
-use Rattle.c_numbers.specs.Numbers.{summaryNumbers, fieldsNumbers}
+use Rattle.c_entries.specs.EntryNumbers.{string_numbers, constant_numbers, upvalue_numbers, anchor_numbers, local_numbers}
+use Rattle.c_finding.specs.FindingNumbers.{verdict_number}
+use Rattle.c_numbers.specs.Numbers.{summary_numbers, fields_numbers}
 
 abbrev pub ofSummary : SummaryAnswer → Answer
-ofSummary (summary.Ok y) = done (summaryNumbers y)
+ofSummary (summary.Ok y) = done (summary_numbers y)
 ofSummary (summary.Err q) = refuses q
 
 abbrev pub of_fields : FieldsAnswer → Answer
-of_fields (fields.Ok y) = done (fieldsNumbers y)
+of_fields (fields.Ok y) = done (fields_numbers y)
 of_fields (fields.Err q) = refuses q
 
 abbrev pub ofLine : LineAnswer → Answer
@@ -57,11 +57,11 @@ ofWord (word.Ok w) = done (w ∷ [])
 ofWord (word.Err q) = refuses q
 
 abbrev pub ofConstant : ConstantAnswer → Answer
-ofConstant (constant.Ok k) = done (constantNumbers k)
+ofConstant (constant.Ok k) = done (constant_numbers k)
 ofConstant (constant.Err q) = refuses q
 
 abbrev pub ofUpvalue : UpvalueAnswer → Answer
-ofUpvalue (upvalue.Ok u) = done (upvalueNumbers u)
+ofUpvalue (upvalue.Ok u) = done (upvalue_numbers u)
 ofUpvalue (upvalue.Err q) = refuses q
 
 abbrev pub ofDelta : DeltaAnswer → Answer
@@ -69,15 +69,15 @@ ofDelta (delta.Ok z) = done (complement z ∷ [])
 ofDelta (delta.Err q) = refuses q
 
 abbrev pub ofAnchor : AnchorAnswer → Answer
-ofAnchor (anchor.Ok a) = done (anchorNumbers a)
+ofAnchor (anchor.Ok a) = done (anchor_numbers a)
 ofAnchor (anchor.Err q) = refuses q
 
-abbrev pub ofLocal : LocalAnswer → Answer
-ofLocal (local.Ok n startpc endpc) = done (localNumbers n startpc endpc)
-ofLocal (local.Err q) = refuses q
+abbrev pub of_local : LocalAnswer → Answer
+of_local (local.Ok n startpc endpc) = done (local_numbers n startpc endpc)
+of_local (local.Err q) = refuses q
 
 abbrev pub ofName : NameAnswer → Answer
-ofName (name.Ok t) = done (stringNumbers t)
+ofName (name.Ok t) = done (string_numbers t)
 ofName (name.Err q) = refuses q
 
 -- ## Whole chunks
@@ -90,7 +90,7 @@ ofCopy (copy.Ok n) = done (n ∷ [])
 ofCopy (copy.Err q) = refuses q
 
 abbrev pub ofVerdict : VerdictAnswer → Answer
-ofVerdict (verdict.Ok v) = done (verdictNumber v ∷ [])
+ofVerdict (verdict.Ok v) = done (verdict_number v ∷ [])
 ofVerdict (verdict.Err q) = refuses q
 
 abbrev pub ofCount : CountAnswer → Answer

@@ -2,8 +2,8 @@
 ghost use Rattle.std.specs.Prelude.{◌≡◌};
 ghost use Rattle.format.specs.ReadChunk.{read};
 ghost use Rattle.show_row.specs.Asked.{entry_of};
-ghost use Rattle.show_entry.specs.Entries.{shownWord, shownConstant, shownUpvalue, shownDelta, shownAnchor, shownName};
-ghost use Rattle.c_boundary.specs.Status.{limitsOf, status, written};
+ghost use Rattle.show_entry.specs.Entries.{shown_word, shown_constant, shown_upvalue, shown_delta, shown_anchor, shown_name};
+ghost use Rattle.c_boundary.specs.Status.{limits_of, status, written};
 ghost use Rattle.lafzimdo.specs.Answers.{ofWord, ofConstant, ofUpvalue, ofDelta, ofAnchor, ofName};
 
 use c_boundary::signed::complement_of_i8;
@@ -24,8 +24,8 @@ pub extern "C" fn lafzimdo_instruction(
     entry: usize,
     out: &mut [u64; 1],
 ) -> u64
-    ensures value { result ≡ status (ofWord (shownWord (entry_of (λ p. p.instructions) function entry (read (limitsOf limits.now) chunk.now)))) }
-    ensures out_after { out.new ≡ written (ofWord (shownWord (entry_of (λ p. p.instructions) function entry (read (limitsOf limits.now) chunk.now)))) out.old }
+    ensures value { result ≡ status (ofWord (shown_word (entry_of (λ p. p.instructions) function entry (read (limits_of limits.now) chunk.now)))) }
+    ensures out_after { out.new ≡ written (ofWord (shown_word (entry_of (λ p. p.instructions) function entry (read (limits_of limits.now) chunk.now)))) out.old }
 {
     let answer = instruction(chunk, limits_of(limits), function, entry);
     match answer {
@@ -47,8 +47,8 @@ pub extern "C" fn lafzimdo_constant(
     entry: usize,
     out: &mut [u64; 3],
 ) -> u64
-    ensures value { result ≡ status (ofConstant (shownConstant (entry_of (λ p. p.constants) function entry (read (limitsOf limits.now) chunk.now)))) }
-    ensures out_after { out.new ≡ written (ofConstant (shownConstant (entry_of (λ p. p.constants) function entry (read (limitsOf limits.now) chunk.now)))) out.old }
+    ensures value { result ≡ status (ofConstant (shown_constant (entry_of (λ p. p.constants) function entry (read (limits_of limits.now) chunk.now)))) }
+    ensures out_after { out.new ≡ written (ofConstant (shown_constant (entry_of (λ p. p.constants) function entry (read (limits_of limits.now) chunk.now)))) out.old }
 {
     let answer = constant(chunk, limits_of(limits), function, entry);
     match answer {
@@ -69,8 +69,8 @@ pub extern "C" fn lafzimdo_upvalue(
     entry: usize,
     out: &mut [u64; 3],
 ) -> u64
-    ensures value { result ≡ status (ofUpvalue (shownUpvalue (entry_of (λ p. p.upvalues) function entry (read (limitsOf limits.now) chunk.now)))) }
-    ensures out_after { out.new ≡ written (ofUpvalue (shownUpvalue (entry_of (λ p. p.upvalues) function entry (read (limitsOf limits.now) chunk.now)))) out.old }
+    ensures value { result ≡ status (ofUpvalue (shown_upvalue (entry_of (λ p. p.upvalues) function entry (read (limits_of limits.now) chunk.now)))) }
+    ensures out_after { out.new ≡ written (ofUpvalue (shown_upvalue (entry_of (λ p. p.upvalues) function entry (read (limits_of limits.now) chunk.now)))) out.old }
 {
     let answer = upvalue(chunk, limits_of(limits), function, entry);
     match answer {
@@ -91,8 +91,8 @@ pub extern "C" fn lafzimdo_delta(
     entry: usize,
     out: &mut [u64; 1],
 ) -> u64
-    ensures value { result ≡ status (ofDelta (shownDelta (entry_of (λ p. p.line-info) function entry (read (limitsOf limits.now) chunk.now)))) }
-    ensures out_after { out.new ≡ written (ofDelta (shownDelta (entry_of (λ p. p.line-info) function entry (read (limitsOf limits.now) chunk.now)))) out.old }
+    ensures value { result ≡ status (ofDelta (shown_delta (entry_of (λ p. p.line_info_lem) function entry (read (limits_of limits.now) chunk.now)))) }
+    ensures out_after { out.new ≡ written (ofDelta (shown_delta (entry_of (λ p. p.line_info_lem) function entry (read (limits_of limits.now) chunk.now)))) out.old }
 {
     let answer = delta(chunk, limits_of(limits), function, entry);
     match answer {
@@ -113,8 +113,8 @@ pub extern "C" fn lafzimdo_anchor(
     entry: usize,
     out: &mut [u64; 2],
 ) -> u64
-    ensures value { result ≡ status (ofAnchor (shownAnchor (entry_of (λ p. p.abs-line-info) function entry (read (limitsOf limits.now) chunk.now)))) }
-    ensures out_after { out.new ≡ written (ofAnchor (shownAnchor (entry_of (λ p. p.abs-line-info) function entry (read (limitsOf limits.now) chunk.now)))) out.old }
+    ensures value { result ≡ status (ofAnchor (shown_anchor (entry_of (λ p. p.abs_line_info) function entry (read (limits_of limits.now) chunk.now)))) }
+    ensures out_after { out.new ≡ written (ofAnchor (shown_anchor (entry_of (λ p. p.abs_line_info) function entry (read (limits_of limits.now) chunk.now)))) out.old }
 {
     let answer = anchor(chunk, limits_of(limits), function, entry);
     match answer {
@@ -136,8 +136,8 @@ pub extern "C" fn lafzimdo_upvalue_name(
     entry: usize,
     out: &mut [u64; 3],
 ) -> u64
-    ensures value { result ≡ status (ofName (shownName (entry_of (λ p. p.upvalue-names) function entry (read (limitsOf limits.now) chunk.now)))) }
-    ensures out_after { out.new ≡ written (ofName (shownName (entry_of (λ p. p.upvalue-names) function entry (read (limitsOf limits.now) chunk.now)))) out.old }
+    ensures value { result ≡ status (ofName (shown_name (entry_of (λ p. p.upvalue_names_lem) function entry (read (limits_of limits.now) chunk.now)))) }
+    ensures out_after { out.new ≡ written (ofName (shown_name (entry_of (λ p. p.upvalue_names_lem) function entry (read (limits_of limits.now) chunk.now)))) out.old }
 {
     let answer = upvalue_name(chunk, limits_of(limits), function, entry);
     match answer {

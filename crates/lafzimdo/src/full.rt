@@ -1,8 +1,8 @@
 // The full copy: its length; the copy itself, written into memory that the caller lends beside the array.
 ghost use Rattle.std.specs.Prelude.{◌≡◌, length};
 ghost use Rattle.format.specs.ReadChunk.{read};
-ghost use Rattle.copy_full.specs.InFull.{shownFullLength, shownFull, fullWritten};
-ghost use Rattle.c_boundary.specs.Status.{limitsOf, status, written};
+ghost use Rattle.copy_full.specs.InFull.{shown_full_length, shown_full, full_written};
+ghost use Rattle.c_boundary.specs.Status.{limits_of, status, written};
 ghost use Rattle.lafzimdo.specs.Answers.{ofCopy};
 
 use c_boundary::{limits_of, one, refused};
@@ -16,8 +16,8 @@ pub extern "C" fn lafzimdo_full_copy_length(
     limits: &[u64; 9],
     out: &mut [u64; 1],
 ) -> u64
-    ensures value { result ≡ status (ofCopy (shownFullLength (read (limitsOf limits.now) chunk.now))) }
-    ensures out_after { out.new ≡ written (ofCopy (shownFullLength (read (limitsOf limits.now) chunk.now))) out.old }
+    ensures value { result ≡ status (ofCopy (shown_full_length (read (limits_of limits.now) chunk.now))) }
+    ensures out_after { out.new ≡ written (ofCopy (shown_full_length (read (limits_of limits.now) chunk.now))) out.old }
 {
     let answer = full_copy_length(chunk, limits_of(limits));
     match answer {
@@ -37,9 +37,9 @@ pub extern "C" fn lafzimdo_full_copy(
     copy: &mut [u8],
     out: &mut [u64; 1],
 ) -> u64
-    ensures value { result ≡ status (ofCopy (shownFull (length copy.old) (read (limitsOf limits.now) chunk.now))) }
-    ensures out_after { out.new ≡ written (ofCopy (shownFull (length copy.old) (read (limitsOf limits.now) chunk.now))) out.old }
-    ensures copy_after { copy.new ≡ fullWritten copy.old (read (limitsOf limits.now) chunk.now) }
+    ensures value { result ≡ status (ofCopy (shown_full (length copy.old) (read (limits_of limits.now) chunk.now))) }
+    ensures out_after { out.new ≡ written (ofCopy (shown_full (length copy.old) (read (limits_of limits.now) chunk.now))) out.old }
+    ensures copy_after { copy.new ≡ full_written copy.old (read (limits_of limits.now) chunk.now) }
 {
     let answer = full_copy(chunk, limits_of(limits), copy);
     match answer {

@@ -1,10 +1,10 @@
 // A function's fields, and the line of an instruction.
 ghost use Rattle.std.specs.Prelude.{◌≡◌};
 ghost use Rattle.format.specs.ReadChunk.{read};
-ghost use Rattle.show_row.specs.Asked.{functionOf};
-ghost use Rattle.show_chunk.specs.Fields.{shownFields};
-ghost use Rattle.line_lookup.specs.Lines.{shownLine};
-ghost use Rattle.c_boundary.specs.Status.{limitsOf, status, written};
+ghost use Rattle.show_row.specs.Asked.{function_of};
+ghost use Rattle.show_chunk.specs.Fields.{shown_fields};
+ghost use Rattle.line_lookup.specs.Lines.{shown_line};
+ghost use Rattle.c_boundary.specs.Status.{limits_of, status, written};
 ghost use Rattle.lafzimdo.specs.Answers.{of_fields, ofLine};
 
 use c_boundary::{limits_of, one, refused};
@@ -21,8 +21,8 @@ pub extern "C" fn lafzimdo_function(
     function: usize,
     out: &mut [u64; 18],
 ) -> u64
-    ensures value { result ≡ status (of_fields (shownFields (functionOf function (read (limitsOf limits.now) chunk.now)))) }
-    ensures out_after { out.new ≡ written (of_fields (shownFields (functionOf function (read (limitsOf limits.now) chunk.now)))) out.old }
+    ensures value { result ≡ status (of_fields (shown_fields (function_of function (read (limits_of limits.now) chunk.now)))) }
+    ensures out_after { out.new ≡ written (of_fields (shown_fields (function_of function (read (limits_of limits.now) chunk.now)))) out.old }
 {
     let answer = function_fields(chunk, limits_of(limits), function);
     match answer {
@@ -43,8 +43,8 @@ pub extern "C" fn lafzimdo_line(
     pc: usize,
     out: &mut [u64; 1],
 ) -> u64
-    ensures value { result ≡ status (ofLine (shownLine pc (functionOf function (read (limitsOf limits.now) chunk.now)))) }
-    ensures out_after { out.new ≡ written (ofLine (shownLine pc (functionOf function (read (limitsOf limits.now) chunk.now)))) out.old }
+    ensures value { result ≡ status (ofLine (shown_line pc (function_of function (read (limits_of limits.now) chunk.now)))) }
+    ensures out_after { out.new ≡ written (ofLine (shown_line pc (function_of function (read (limits_of limits.now) chunk.now)))) out.old }
 {
     let answer = get_line_for_pc(chunk, limits_of(limits), function, pc);
     match answer {

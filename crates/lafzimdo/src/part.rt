@@ -1,8 +1,8 @@
 // Parts at a place: each tests 21 and 22 first, takes no pass over the chunk, and costs what its part costs. What each answers is in specs/ of crates c_parts and c_entries_at.
 ghost use Rattle.std.specs.Prelude.{◌≡◌};
 ghost use Rattle.c_boundary.specs.Status.{status, written};
-ghost use Rattle.c_entries_at.specs.EntryNumbers.{word_at, constantAt, upvalueAt, deltaAt, anchorAt, local_at, stringAt};
-ghost use Rattle.c_parts.specs.PartNumbers.{headAt, tail_at};
+ghost use Rattle.c_entries_at.specs.EntryNumbers.{word_at, constant_at, upvalue_at, delta_at, anchor_at, local_at, string_at};
+ghost use Rattle.c_parts.specs.PartNumbers.{head_at, tail_at};
 
 use c_entries_at::{anchor_at, constant_at, delta_at, local_at, string_at, upvalue_at, word_at};
 use c_parts::{head_at, tail_at};
@@ -15,8 +15,8 @@ pub extern "C" fn lafzimdo_head_at(
     place: usize,
     out: &mut [u64; 16],
 ) -> u64
-    ensures value { result ≡ status (headAt limits.now place chunk.now) }
-    ensures out_after { out.new ≡ written (headAt limits.now place chunk.now) out.old }
+    ensures value { result ≡ status (head_at limits.now place chunk.now) }
+    ensures out_after { out.new ≡ written (head_at limits.now place chunk.now) out.old }
 {
     head_at(chunk, limits, place, out)
 }
@@ -57,8 +57,8 @@ pub extern "C" fn lafzimdo_constant_at(
     place: usize,
     out: &mut [u64; 4],
 ) -> u64
-    ensures value { result ≡ status (constantAt limits.now place chunk.now) }
-    ensures out_after { out.new ≡ written (constantAt limits.now place chunk.now) out.old }
+    ensures value { result ≡ status (constant_at limits.now place chunk.now) }
+    ensures out_after { out.new ≡ written (constant_at limits.now place chunk.now) out.old }
 {
     constant_at(chunk, limits, place, out)
 }
@@ -71,8 +71,8 @@ pub extern "C" fn lafzimdo_upvalue_at(
     place: usize,
     out: &mut [u64; 4],
 ) -> u64
-    ensures value { result ≡ status (upvalueAt limits.now place chunk.now) }
-    ensures out_after { out.new ≡ written (upvalueAt limits.now place chunk.now) out.old }
+    ensures value { result ≡ status (upvalue_at limits.now place chunk.now) }
+    ensures out_after { out.new ≡ written (upvalue_at limits.now place chunk.now) out.old }
 {
     upvalue_at(chunk, limits, place, out)
 }
@@ -85,8 +85,8 @@ pub extern "C" fn lafzimdo_delta_at(
     place: usize,
     out: &mut [u64; 2],
 ) -> u64
-    ensures value { result ≡ status (deltaAt limits.now place chunk.now) }
-    ensures out_after { out.new ≡ written (deltaAt limits.now place chunk.now) out.old }
+    ensures value { result ≡ status (delta_at limits.now place chunk.now) }
+    ensures out_after { out.new ≡ written (delta_at limits.now place chunk.now) out.old }
 {
     delta_at(chunk, limits, place, out)
 }
@@ -99,8 +99,8 @@ pub extern "C" fn lafzimdo_anchor_at(
     place: usize,
     out: &mut [u64; 3],
 ) -> u64
-    ensures value { result ≡ status (anchorAt limits.now place chunk.now) }
-    ensures out_after { out.new ≡ written (anchorAt limits.now place chunk.now) out.old }
+    ensures value { result ≡ status (anchor_at limits.now place chunk.now) }
+    ensures out_after { out.new ≡ written (anchor_at limits.now place chunk.now) out.old }
 {
     anchor_at(chunk, limits, place, out)
 }
@@ -127,8 +127,8 @@ pub extern "C" fn lafzimdo_string_at(
     place: usize,
     out: &mut [u64; 4],
 ) -> u64
-    ensures value { result ≡ status (stringAt limits.now place chunk.now) }
-    ensures out_after { out.new ≡ written (stringAt limits.now place chunk.now) out.old }
+    ensures value { result ≡ status (string_at limits.now place chunk.now) }
+    ensures out_after { out.new ≡ written (string_at limits.now place chunk.now) out.old }
 {
     string_at(chunk, limits, place, out)
 }

@@ -1,13 +1,13 @@
 // What is written into memory that the caller lends beside the array: the index, the copy, a local variable's name, the lines of a list of pcs.
 ghost use Rattle.std.specs.Prelude.{◌≡◌, length};
 ghost use Rattle.format.specs.ReadChunk.{read};
-ghost use Rattle.show_row.specs.Asked.{functionOf, entry_of};
-ghost use Rattle.copy.specs.Copied.{shownCopy, copyWritten};
-ghost use Rattle.index.specs.Index.{shownIndex, indexWritten};
-ghost use Rattle.show_local.specs.Locals.{shownLocal, nameWritten};
-ghost use Rattle.line_batch.specs.Batch.{shownLines, linesWritten};
-ghost use Rattle.c_boundary.specs.Status.{limitsOf, status, written};
-ghost use Rattle.lafzimdo.specs.Answers.{ofIndex, ofCopy, ofLocal, ofLines};
+ghost use Rattle.show_row.specs.Asked.{function_of, entry_of};
+ghost use Rattle.copy.specs.Copied.{shown_copy, copy_written};
+ghost use Rattle.index.specs.Index.{shown_index, index_written};
+ghost use Rattle.show_local.specs.Locals.{shown_local, name_written};
+ghost use Rattle.line_batch.specs.Batch.{shown_lines, lines_written};
+ghost use Rattle.c_boundary.specs.Status.{limits_of, status, written};
+ghost use Rattle.lafzimdo.specs.Answers.{ofIndex, ofCopy, of_local, ofLines};
 
 use c_boundary::{limits_of, one, refused};
 use c_entries::entry::local_numbers;
@@ -26,9 +26,9 @@ pub extern "C" fn lafzimdo_index(
     rows: &mut [u32],
     out: &mut [u64; 1],
 ) -> u64
-    ensures value { result ≡ status (ofIndex (shownIndex (length rows.old) (read (limitsOf limits.now) chunk.now))) }
-    ensures out_after { out.new ≡ written (ofIndex (shownIndex (length rows.old) (read (limitsOf limits.now) chunk.now))) out.old }
-    ensures rows_after { rows.new ≡ indexWritten rows.old (read (limitsOf limits.now) chunk.now) }
+    ensures value { result ≡ status (ofIndex (shown_index (length rows.old) (read (limits_of limits.now) chunk.now))) }
+    ensures out_after { out.new ≡ written (ofIndex (shown_index (length rows.old) (read (limits_of limits.now) chunk.now))) out.old }
+    ensures rows_after { rows.new ≡ index_written rows.old (read (limits_of limits.now) chunk.now) }
 {
     let answer = function_index(chunk, limits_of(limits), rows);
     match answer {
@@ -48,9 +48,9 @@ pub extern "C" fn lafzimdo_copy(
     copy: &mut [u8],
     out: &mut [u64; 1],
 ) -> u64
-    ensures value { result ≡ status (ofCopy (shownCopy (length copy.old) (read (limitsOf limits.now) chunk.now))) }
-    ensures out_after { out.new ≡ written (ofCopy (shownCopy (length copy.old) (read (limitsOf limits.now) chunk.now))) out.old }
-    ensures copy_after { copy.new ≡ copyWritten copy.old (read (limitsOf limits.now) chunk.now) }
+    ensures value { result ≡ status (ofCopy (shown_copy (length copy.old) (read (limits_of limits.now) chunk.now))) }
+    ensures out_after { out.new ≡ written (ofCopy (shown_copy (length copy.old) (read (limits_of limits.now) chunk.now))) out.old }
+    ensures copy_after { copy.new ≡ copy_written copy.old (read (limits_of limits.now) chunk.now) }
 {
     let answer = encode_chunk_lua54(chunk, limits_of(limits), copy);
     match answer {
@@ -73,9 +73,9 @@ pub extern "C" fn lafzimdo_local(
     name: &mut [u8],
     out: &mut [u64; 3],
 ) -> u64
-    ensures value { result ≡ status (ofLocal (shownLocal (length name.old) (entry_of (λ p. p.loc-vars) function entry (read (limitsOf limits.now) chunk.now)))) }
-    ensures out_after { out.new ≡ written (ofLocal (shownLocal (length name.old) (entry_of (λ p. p.loc-vars) function entry (read (limitsOf limits.now) chunk.now)))) out.old }
-    ensures name_after { name.new ≡ nameWritten name.old (entry_of (λ p. p.loc-vars) function entry (read (limitsOf limits.now) chunk.now)) }
+    ensures value { result ≡ status (of_local (shown_local (length name.old) (entry_of (λ p. p.loc_vars) function entry (read (limits_of limits.now) chunk.now)))) }
+    ensures out_after { out.new ≡ written (of_local (shown_local (length name.old) (entry_of (λ p. p.loc_vars) function entry (read (limits_of limits.now) chunk.now)))) out.old }
+    ensures name_after { name.new ≡ name_written name.old (entry_of (λ p. p.loc_vars) function entry (read (limits_of limits.now) chunk.now)) }
 {
     let answer = local(chunk, limits_of(limits), function, entry, name);
     match answer {
@@ -102,9 +102,9 @@ pub extern "C" fn lafzimdo_lines(
     lines: &mut [u64],
     out: &mut [u64; 1],
 ) -> u64
-    ensures value { result ≡ status (ofLines (shownLines (length lines.old) pcs.now (functionOf function (read (limitsOf limits.now) chunk.now)))) }
-    ensures out_after { out.new ≡ written (ofLines (shownLines (length lines.old) pcs.now (functionOf function (read (limitsOf limits.now) chunk.now)))) out.old }
-    ensures lines_after { lines.new ≡ linesWritten lines.old pcs.now (functionOf function (read (limitsOf limits.now) chunk.now)) }
+    ensures value { result ≡ status (ofLines (shown_lines (length lines.old) pcs.now (function_of function (read (limits_of limits.now) chunk.now)))) }
+    ensures out_after { out.new ≡ written (ofLines (shown_lines (length lines.old) pcs.now (function_of function (read (limits_of limits.now) chunk.now)))) out.old }
+    ensures lines_after { lines.new ≡ lines_written lines.old pcs.now (function_of function (read (limits_of limits.now) chunk.now)) }
 {
     let answer = get_lines_for_pcs(chunk, limits_of(limits), function, pcs, lines);
     match answer {

@@ -1,9 +1,9 @@
 // The stricter reading.
 ghost use Rattle.std.specs.Prelude.{◌≡◌};
 ghost use Rattle.format_spelling.specs.ReadSpelling.{spelling};
-ghost use Rattle.format_strict.specs.ReadStrict.{strictRead};
-ghost use Rattle.show_chunk.specs.Summaries.{shownSummary};
-ghost use Rattle.c_boundary.specs.Status.{limitsOf, status, written};
+ghost use Rattle.format_strict.specs.ReadStrict.{strict_read};
+ghost use Rattle.show_chunk.specs.Summaries.{shown_summary};
+ghost use Rattle.c_boundary.specs.Status.{limits_of, status, written};
 ghost use Rattle.lafzimdo.specs.Answers.{ofSummary};
 
 use c_boundary::{limits_of, refused};
@@ -18,8 +18,8 @@ pub extern "C" fn lafzimdo_strict_summary(
     limits: &[u64; 9],
     out: &mut [u64; 15],
 ) -> u64
-    ensures value { result ≡ status (ofSummary (shownSummary (spelling (limitsOf limits.now) chunk.now) (strictRead (limitsOf limits.now) chunk.now))) }
-    ensures out_after { out.new ≡ written (ofSummary (shownSummary (spelling (limitsOf limits.now) chunk.now) (strictRead (limitsOf limits.now) chunk.now))) out.old }
+    ensures value { result ≡ status (ofSummary (shown_summary (spelling (limits_of limits.now) chunk.now) (strict_read (limits_of limits.now) chunk.now))) }
+    ensures out_after { out.new ≡ written (ofSummary (shown_summary (spelling (limits_of limits.now) chunk.now) (strict_read (limits_of limits.now) chunk.now))) out.old }
 {
     let answer = strict_summary(chunk, limits_of(limits));
     match answer {

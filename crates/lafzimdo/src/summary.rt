@@ -2,8 +2,8 @@
 ghost use Rattle.std.specs.Prelude.{◌≡◌};
 ghost use Rattle.format.specs.ReadChunk.{read};
 ghost use Rattle.format_spelling.specs.ReadSpelling.{spelling};
-ghost use Rattle.show_chunk.specs.Summaries.{shownSummary};
-ghost use Rattle.c_boundary.specs.Status.{limitsOf, status, written};
+ghost use Rattle.show_chunk.specs.Summaries.{shown_summary};
+ghost use Rattle.c_boundary.specs.Status.{limits_of, status, written};
 ghost use Rattle.lafzimdo.specs.Answers.{ofSummary};
 
 use c_boundary::{limits_of, refused};
@@ -14,8 +14,8 @@ use show_chunk::summary::{SummaryAnswer, chunk_summary};
 // Ruled out: every chunk called cut short, an array that is touched where the answer is a refusal.
 #[unsafe(no_mangle)]
 pub extern "C" fn lafzimdo_summary(chunk: &[u8], limits: &[u64; 9], out: &mut [u64; 15]) -> u64
-    ensures value { result ≡ status (ofSummary (shownSummary (spelling (limitsOf limits.now) chunk.now) (read (limitsOf limits.now) chunk.now))) }
-    ensures out_after { out.new ≡ written (ofSummary (shownSummary (spelling (limitsOf limits.now) chunk.now) (read (limitsOf limits.now) chunk.now))) out.old }
+    ensures value { result ≡ status (ofSummary (shown_summary (spelling (limits_of limits.now) chunk.now) (read (limits_of limits.now) chunk.now))) }
+    ensures out_after { out.new ≡ written (ofSummary (shown_summary (spelling (limits_of limits.now) chunk.now) (read (limits_of limits.now) chunk.now))) out.old }
 {
     let answer = chunk_summary(chunk, limits_of(limits));
     match answer {

@@ -1,9 +1,9 @@
 // A whole chunk: the copy's length, the verdict, and how many findings there are.
 ghost use Rattle.std.specs.Prelude.{◌≡◌};
 ghost use Rattle.format.specs.ReadChunk.{read};
-ghost use Rattle.copy.specs.Copied.{shownLength};
+ghost use Rattle.copy.specs.Copied.{shown_length};
 ghost use Rattle.validate_verdict.specs.Answers.{shownVerdict, shownCount};
-ghost use Rattle.c_boundary.specs.Status.{limitsOf, status, written};
+ghost use Rattle.c_boundary.specs.Status.{limits_of, status, written};
 ghost use Rattle.lafzimdo.specs.Answers.{ofCopy, ofVerdict, ofCount};
 
 use c_boundary::{limits_of, one, refused};
@@ -15,8 +15,8 @@ use validate_verdict::verdict::{CountAnswer, VerdictAnswer, chunk_verdict, findi
 // The length of the archive copy of a chunk. Ruled out: the length of the chunk itself, a length for a chunk that is refused.
 #[unsafe(no_mangle)]
 pub extern "C" fn lafzimdo_copy_length(chunk: &[u8], limits: &[u64; 9], out: &mut [u64; 1]) -> u64
-    ensures value { result ≡ status (ofCopy (shownLength (read (limitsOf limits.now) chunk.now))) }
-    ensures out_after { out.new ≡ written (ofCopy (shownLength (read (limitsOf limits.now) chunk.now))) out.old }
+    ensures value { result ≡ status (ofCopy (shown_length (read (limits_of limits.now) chunk.now))) }
+    ensures out_after { out.new ≡ written (ofCopy (shown_length (read (limits_of limits.now) chunk.now))) out.old }
 {
     let answer = copy_length(chunk, limits_of(limits));
     match answer {
@@ -31,8 +31,8 @@ pub extern "C" fn lafzimdo_copy_length(chunk: &[u8], limits: &[u64; 9], out: &mu
 // The verdict of validation on a chunk. Ruled out: incomplete at the first finding, valid for analysis where an error was found.
 #[unsafe(no_mangle)]
 pub extern "C" fn lafzimdo_verdict(chunk: &[u8], limits: &[u64; 9], out: &mut [u64; 1]) -> u64
-    ensures value { result ≡ status (ofVerdict (shownVerdict (read (limitsOf limits.now) chunk.now))) }
-    ensures out_after { out.new ≡ written (ofVerdict (shownVerdict (read (limitsOf limits.now) chunk.now))) out.old }
+    ensures value { result ≡ status (ofVerdict (shownVerdict (read (limits_of limits.now) chunk.now))) }
+    ensures out_after { out.new ≡ written (ofVerdict (shownVerdict (read (limits_of limits.now) chunk.now))) out.old }
 {
     let answer = chunk_verdict(chunk, limits_of(limits));
     match answer {
@@ -47,8 +47,8 @@ pub extern "C" fn lafzimdo_verdict(chunk: &[u8], limits: &[u64; 9], out: &mut [u
 // How many findings validation has on a chunk. Ruled out: the reading's warnings counted with them, an instruction's second finding left out.
 #[unsafe(no_mangle)]
 pub extern "C" fn lafzimdo_finding_count(chunk: &[u8], limits: &[u64; 9], out: &mut [u64; 1]) -> u64
-    ensures value { result ≡ status (ofCount (shownCount (read (limitsOf limits.now) chunk.now))) }
-    ensures out_after { out.new ≡ written (ofCount (shownCount (read (limitsOf limits.now) chunk.now))) out.old }
+    ensures value { result ≡ status (ofCount (shownCount (read (limits_of limits.now) chunk.now))) }
+    ensures out_after { out.new ≡ written (ofCount (shownCount (read (limits_of limits.now) chunk.now))) out.old }
 {
     let answer = finding_count(chunk, limits_of(limits));
     match answer {

@@ -2,7 +2,7 @@
 ghost use Rattle.std.specs.Prelude.{◌≡◌};
 ghost use Rattle.word_fields.specs.Word.{decoded, encoded};
 ghost use Rattle.c_boundary.specs.Status.{status, written};
-ghost use Rattle.c_words.specs.Words.{wordNumbers, spelt, ofEncoded};
+ghost use Rattle.c_words.specs.Words.{word_numbers, spelt, of_encoded};
 
 use c_boundary::{one, refused};
 use c_words::{word_numbers, word_of};
@@ -12,7 +12,7 @@ use word_fields::instruction::{Encoded, RawInstruction54};
 #[unsafe(no_mangle)]
 pub extern "C" fn lafzimdo_decode(word: u32, out: &mut [u64; 12]) -> u64
     ensures value { result ≡ 0 }
-    ensures out_after { out.new ≡ wordNumbers (decoded word) }
+    ensures out_after { out.new ≡ word_numbers (decoded word) }
 {
     *out = word_numbers(RawInstruction54::decode(word));
     0
@@ -33,8 +33,8 @@ pub extern "C" fn lafzimdo_encode(
     sj: i32,
     out: &mut [u64; 1],
 ) -> u64
-    ensures value { result ≡ status (ofEncoded (encoded (spelt op a k b c bx sbx ax sj))) }
-    ensures out_after { out.new ≡ written (ofEncoded (encoded (spelt op a k b c bx sbx ax sj))) out.old }
+    ensures value { result ≡ status (of_encoded (encoded (spelt op a k b c bx sbx ax sj))) }
+    ensures out_after { out.new ≡ written (of_encoded (encoded (spelt op a k b c bx sbx ax sj))) out.old }
 {
     let fields = word_of(op, a, k, b, c, bx, sbx, ax, sj);
     let answer = fields.encode();

@@ -2,7 +2,7 @@
 ghost use Rattle.std.specs.Prelude.{◌≡◌, true, false, cond, drop};
 ghost use Rattle.format.specs.Read.{many};
 ghost use Rattle.format.specs.ReadChunk.{anchor};
-ghost use Rattle.line_anchors.specs.Inner.Scan.{orLarge, stillTaking, resetBy, seekBy, passed, start_of, scanResult};
+ghost use Rattle.line_anchors.specs.Inner.Scan.{or_large, still_taking, reset_by, seek_by, passed, start_of, scan_result};
 
 use format::entry::AbsLineInfo;
 use format::refusal::Refusal;
@@ -37,7 +37,7 @@ pub enum ScanResult {
 }
 
 pub fn or_large(large: bool, line: usize) -> bool
-    ensures { result ≡ orLarge large line }
+    ensures { result ≡ or_large large line }
 {
     if large {
         return true;
@@ -46,7 +46,7 @@ pub fn or_large(large: bool, line: usize) -> bool
 }
 
 fn still_taking(taking: bool, pc: usize, anchor: AbsLineInfo) -> bool
-    ensures { result ≡ stillTaking taking pc anchor }
+    ensures { result ≡ still_taking taking pc anchor }
 {
     if taking {
         return anchor.pc <= pc;
@@ -65,7 +65,7 @@ fn taken(taking: bool, anchor: AbsLineInfo, base: AbsLineInfo) -> AbsLineInfo
 
 // Behind the delta at the anchor, if that is -128 and behind the one so far: of two anchors at a pc the first stays.
 fn reset_by(deltas: &[u8], reset: AbsLineInfo, anchor: AbsLineInfo) -> AbsLineInfo
-    ensures { result ≡ resetBy deltas.now reset anchor }
+    ensures { result ≡ reset_by deltas.now reset anchor }
 {
     let pc = anchor.pc;
     if pc >= deltas.len() {
@@ -85,7 +85,7 @@ fn reset_by(deltas: &[u8], reset: AbsLineInfo, anchor: AbsLineInfo) -> AbsLineIn
 }
 
 fn seek(sought: Sought, line: usize) -> Sought
-    ensures { result ≡ seekBy sought line }
+    ensures { result ≡ seek_by sought line }
 {
     match sought {
         Sought::At(_) => sought,
@@ -123,7 +123,7 @@ pub fn scan_anchors(
     pc: usize,
     line_defined: usize,
 ) -> ScanResult
-    ensures { result ≡ scanResult deltas.now pc (start_of pc line_defined) (many n anchor cursor.at (drop cursor.at s.now)) }
+    ensures { result ≡ scan_result deltas.now pc (start_of pc line_defined) (many n anchor cursor.at (drop cursor.at s.now)) }
 {
     let mut scan = Scan {
         large: 4611686018427387904 <= line_defined,

@@ -1,7 +1,7 @@
 -- Anchors that rise strictly: the base of one pc and of a later one, and that no delta of −128 changes the line on the way from a base.
 --     free             no anchor stands behind the base up to the pc
 --     plain_walk       so the walk is the sum
---     base-from        from a base on, a later one is not before it
+--     base_from        from a base on, a later one is not before it
 --     Took, takes      what taking anchors from the front gives
 -- Assumes nothing.
 use mathlib.Core.Path.{◌≡◌, refl, sym, ◌∙◌, ap}
@@ -20,8 +20,8 @@ use Rattle.format.specs.declared.entry.AbsLineInfo.{AbsLineInfo}
 use Rattle.format.specs.Form.{Bytes}
 use Rattle.line_lookup.specs.Lines.{base_of, line_at, stepped, walked}
 use Rattle.line_lookup.specs.Inner.Scan.{added, summed}
-use Rattle.line_lookup.proofs.Rising.{RisingFrom, Rising, At, from_on, base-last, base-within, base-line}
-use Rattle.line_batch.specs.Inner.Walk.{Step, takeUp, takeStep}
+use Rattle.line_lookup.proofs.Rising.{RisingFrom, Rising, At, from_on, base_last, base_within, base_line}
+use Rattle.line_batch.specs.Inner.Walk.{Step, take_up, take_step}
 
 -- ## No anchor at a pc
 no_line : (j : ℕ) (xs : List AbsLineInfo) (z : ℤ) → (At j xs → ⊥) → line_at j xs z ≡ z
@@ -51,15 +51,15 @@ module _ (anchors : List AbsLineInfo) (up : Rising anchors) (line_defined : ℕ)
   abbrev base : AbsLineInfo
   base = base_of pc start anchors
 
-  pub base-low : base.pc ≤ pc
-  base-low = go anchors
+  pub base_low : base.pc ≤ pc
+  base_low = go anchors
     where
       go : (xs : List AbsLineInfo) → (base_of pc start xs).pc ≤ pc
       go [] = omega arith
       go (a ∷ more) = by (leb a.pc pc) refl
         where
           by : (t : Bool) → leb a.pc pc ≡ t → (cond t (base_of pc a more) start).pc ≤ pc
-          by true t = base-within pc a more (leb-true a.pc pc t)
+          by true t = base_within pc a more (leb-true a.pc pc t)
           by false t = omega arith
 
   pub free : (j : ℕ) → base.pc < j → j ≤ pc → At j anchors → ⊥
@@ -70,7 +70,7 @@ module _ (anchors : List AbsLineInfo) (up : Rising anchors) (line_defined : ℕ)
       go (a ∷ more) r m h = by (leb a.pc pc) refl h
         where
           by : (t : Bool) → leb a.pc pc ≡ t → (cond t (base_of pc a more) start).pc < j → ⊥
-          by true t h = omega (arith, base-last pc a more r.1 j m k)
+          by true t h = omega (arith, base_last pc a more r.1 j m k)
           by false t h = let above = leb-false a.pc pc t in omega (arith, from_on a.pc j (a ∷ more) (omega arith, r.1) m)
 
   -- the line of an anchor at the base is the base's
@@ -82,7 +82,7 @@ module _ (anchors : List AbsLineInfo) (up : Rising anchors) (line_defined : ℕ)
       go (a ∷ more) r = by (leb a.pc pc) refl
         where
           by : (t : Bool) → leb a.pc pc ≡ t → line_at (cond t (base_of pc a more) start).pc (a ∷ more) (pos (cond t (base_of pc a more) start).line) ≡ pos (cond t (base_of pc a more) start).line
-          by true t = base-line pc a more r.1 (pos (base_of pc a more).line)
+          by true t = base_line pc a more r.1 (pos (base_of pc a more).line)
           by false t =
               let above = leb-false a.pc pc t in
               no_line 0 (a ∷ more) (pos line_defined) (λ m. omega (arith, from_on a.pc 0 (a ∷ more) (omega arith, r.1) m))
@@ -95,9 +95,9 @@ module _ (anchors : List AbsLineInfo) (up : Rising anchors) (line_defined : ℕ)
       ∙ free_walk anchors xs (base.pc + 1) (added (pos base.line) d) (λ j k l. free j (omega arith) (omega arith))
 
 -- from a base on
-pub base-from : (q m : ℕ) (b : AbsLineInfo) (left : List AbsLineInfo) → RisingFrom m left → b.pc ≤ m → b.pc ≤ (base_of q b left).pc
-base-from q m b [] r h = omega arith
-base-from q m b (a ∷ more) r h = by (leb a.pc q) (base-from q (a.pc + 1) a more r.1 (omega arith))
+pub base_from : (q m : ℕ) (b : AbsLineInfo) (left : List AbsLineInfo) → RisingFrom m left → b.pc ≤ m → b.pc ≤ (base_of q b left).pc
+base_from q m b [] r h = omega arith
+base_from q m b (a ∷ more) r h = by (leb a.pc q) (base_from q (a.pc + 1) a more r.1 (omega arith))
   where
     by : (t : Bool) → a.pc ≤ (base_of q a more).pc → b.pc ≤ (cond t (base_of q a more) b).pc
     by true k = let over = r.0 in omega arith
@@ -119,9 +119,9 @@ pub record Took (q m : ℕ) (b : AbsLineInfo) (old new : Step) : Type 0 where
 abbrev standing : List AbsLineInfo → ℕ → ℕ → ℤ → ℕ → Step
 standing left at from sum read = record { left = left; at = at; from = from; sum = sum; read = read }
 
-takes-up : (q m : ℕ) (b : AbsLineInfo) (left : List AbsLineInfo) (at from : ℕ) (sum : ℤ) (read : ℕ) → RisingFrom m left → Took q m b (standing left at from sum read) (takeUp q left at from sum read)
-takes-up q m b [] at from sum read r = record { read_is = refl; later = λ q' h. refl; rising = tt; which = inl (refl, refl, refl, refl) }
-takes-up q m b (a ∷ more) at from sum read r = by (leb a.pc q) refl (takes-up q (a.pc + 1) a more a.pc a.line (pos 0) read r.1)
+takes_up : (q m : ℕ) (b : AbsLineInfo) (left : List AbsLineInfo) (at from : ℕ) (sum : ℤ) (read : ℕ) → RisingFrom m left → Took q m b (standing left at from sum read) (take_up q left at from sum read)
+takes_up q m b [] at from sum read r = record { read_is = refl; later = λ q' h. refl; rising = tt; which = inl (refl, refl, refl, refl) }
+takes_up q m b (a ∷ more) at from sum read r = by (leb a.pc q) refl (takes_up q (a.pc + 1) a more a.pc a.line (pos 0) read r.1)
   where
     -- one is taken: it, or one behind it, is the base
     last : (new : Step) → Which (a.pc + 1) a (base_of q a more) (standing more a.pc a.line (pos 0) read) new → (m ≤ (base_of q a more).pc) × (new.at ≡ (base_of q a more).pc) × (new.from ≡ (base_of q a more).line) × (new.sum ≡ pos 0)
@@ -132,16 +132,16 @@ takes-up q m b (a ∷ more) at from sum read r = by (leb a.pc q) refl (takes-up 
         (λ (s : (a.pc + 1 ≤ (base_of q a more).pc) × (new.at ≡ (base_of q a more).pc) × (new.from ≡ (base_of q a more).line) × (new.sum ≡ pos 0)). let over = s.0 in (omega arith, s.1, s.2, s.3))
         w
 
-    by : (t : Bool) → leb a.pc q ≡ t → Took q (a.pc + 1) a (standing more a.pc a.line (pos 0) read) (takeUp q more a.pc a.line (pos 0) read)
-        → Took q m b (standing (a ∷ more) at from sum read) (cond t (takeUp q more a.pc a.line (pos 0) read) (standing (a ∷ more) at from sum read))
+    by : (t : Bool) → leb a.pc q ≡ t → Took q (a.pc + 1) a (standing more a.pc a.line (pos 0) read) (take_up q more a.pc a.line (pos 0) read)
+        → Took q m b (standing (a ∷ more) at from sum read) (cond t (take_up q more a.pc a.line (pos 0) read) (standing (a ∷ more) at from sum read))
     by true t go =
         let e : base_of q b (a ∷ more) ≡ base_of q a more = ap (λ t. cond t (base_of q a more) b) t in
         let reached = leb-true a.pc q t in
         record {
           read_is = go.read_is;
-          later = λ q' h. ap (λ t. cond t (base_of q' a more) b) (le-leb a.pc q' (omega arith)) ∙ go.later q' h ∙ ap (λ c. base_of q' c (takeUp q more a.pc a.line (pos 0) read).left) (sym e);
+          later = λ q' h. ap (λ t. cond t (base_of q' a more) b) (le-leb a.pc q' (omega arith)) ∙ go.later q' h ∙ ap (λ c. base_of q' c (take_up q more a.pc a.line (pos 0) read).left) (sym e);
           rising = go.rising;
-          which = inr (rw e (last (takeUp q more a.pc a.line (pos 0) read) go.which));
+          which = inr (rw e (last (take_up q more a.pc a.line (pos 0) read) go.which));
         }
     by false t go =
         let e : base_of q b (a ∷ more) ≡ b = ap (λ t. cond t (base_of q a more) b) t in
@@ -153,5 +153,5 @@ takes-up q m b (a ∷ more) at from sum read r = by (leb a.pc q) refl (takes-up 
           which = inl (e, refl, refl, refl);
         }
 
-pub takes : (q m : ℕ) (b : AbsLineInfo) (z : Step) → RisingFrom m z.left → Took q m b z (takeStep q z)
-takes q m b z r = takes-up q m b z.left z.at z.from z.sum z.read r
+pub takes : (q m : ℕ) (b : AbsLineInfo) (z : Step) → RisingFrom m z.left → Took q m b z (take_step q z)
+takes q m b z r = takes_up q m b z.left z.at z.from z.sum z.read r

@@ -11,7 +11,7 @@ use Rattle.line_lookup.specs.Lines.{line_of}
 use Rattle.line_lookup.proofs.Cases.{at}
 use Rattle.line_batch.specs.declared.list.LinesAnswer.{LinesAnswer}
 use Rattle.line_batch.specs.declared.list.LinesAnswer.TheVariants.{Ok, Err}
-use Rattle.line_batch.specs.Batch.{deltasRead, refusalOf, answered, overIf}
+use Rattle.line_batch.specs.Batch.{deltas_read, refusal_of, answered, over_if}
 
 -- a function's first line, its number of instructions, deltas and anchors
 record Function : Type 0 where
@@ -35,8 +35,8 @@ case f pcs room answer lines = record { function = f; pcs = pcs; room = room; an
 abbrev five : Function
 five = record { line_defined = 10; instructions = 5; deltas = 0x01 ∷ 0x00 ∷ 0x02 ∷ 0x80 ∷ 0x01 ∷ []; anchors = at 3 200 ∷ [] }
 
-abbrev two-bases : Function
-two-bases = record { line_defined = 7; instructions = 6; deltas = 0x01 ∷ 0x01 ∷ 0x01 ∷ 0x01 ∷ 0x01 ∷ 0x01 ∷ []; anchors = at 2 50 ∷ at 4 80 ∷ [] }
+abbrev two_bases : Function
+two_bases = record { line_defined = 7; instructions = 6; deltas = 0x01 ∷ 0x01 ∷ 0x01 ∷ 0x01 ∷ 0x01 ∷ 0x01 ∷ []; anchors = at 2 50 ∷ at 4 80 ∷ [] }
 
 -- as many anchors as instructions
 abbrev numbered : Function
@@ -62,8 +62,8 @@ read =
     ∷ case five (4 ∷ []) 3 (Ok 2) (201 ∷ 7 ∷ 7 ∷ [])
     -- deltas 1 and 2 stand between what was walked over and the next base
     ∷ case five (0 ∷ 9 ∷ []) 2 (Ok 3) (11 ∷ 201 ∷ [])
-    ∷ case two-bases (0 ∷ 4 ∷ 5 ∷ []) 3 (Ok 3) (8 ∷ 81 ∷ 82 ∷ [])
-    ∷ case two-bases (1 ∷ 3 ∷ 3 ∷ 5 ∷ (2 ^ 40) ∷ []) 5 (Ok 6) (9 ∷ 52 ∷ 52 ∷ 82 ∷ 82 ∷ [])
+    ∷ case two_bases (0 ∷ 4 ∷ 5 ∷ []) 3 (Ok 3) (8 ∷ 81 ∷ 82 ∷ [])
+    ∷ case two_bases (1 ∷ 3 ∷ 3 ∷ 5 ∷ (2 ^ 40) ∷ []) 5 (Ok 6) (9 ∷ 52 ∷ 52 ∷ 82 ∷ 82 ∷ [])
     -- rule 2, then the walk
     ∷ case numbered (0 ∷ 1 ∷ 2 ∷ 3 ∷ []) 4 (Ok 3) (50 ∷ 80 ∷ 52 ∷ 81 ∷ [])
     ∷ case numbered (0 ∷ 0 ∷ 1 ∷ 1 ∷ []) 4 (Ok 0) (50 ∷ 50 ∷ 80 ∷ 80 ∷ [])
@@ -94,15 +94,15 @@ refused =
     ∷ []
 
 abbrev answer_of : Case → LinesAnswer
-answer_of c = let f = c.function in answered (refusalOf f.line_defined f.anchors c.room c.pcs) (deltasRead f.instructions f.line_defined f.deltas f.anchors c.pcs)
+answer_of c = let f = c.function in answered (refusal_of f.line_defined f.anchors c.room c.pcs) (deltas_read f.instructions f.line_defined f.deltas f.anchors c.pcs)
 
 abbrev lines_of : Case → List ℕ
-lines_of c = let f = c.function in overIf (refusalOf f.line_defined f.anchors c.room c.pcs) (map (line_of f.instructions f.line_defined f.deltas f.anchors) c.pcs) (replicate c.room 7)
+lines_of c = let f = c.function in over_if (refusal_of f.line_defined f.anchors c.room c.pcs) (map (line_of f.instructions f.line_defined f.deltas f.anchors) c.pcs) (replicate c.room 7)
 
-read-hold : (map answer_of read ≡ map (λ c. c.answer) read) × (map lines_of read ≡ map (λ c. c.lines) read)
+read_hold : (map answer_of read ≡ map (λ c. c.answer) read) × (map lines_of read ≡ map (λ c. c.lines) read)
 unfolding read
-read-hold = (refl, refl)
+read_hold = (refl, refl)
 
-refused-hold : (map answer_of refused ≡ map (λ c. c.answer) refused) × (map lines_of refused ≡ map (λ c. c.lines) refused)
+refused_hold : (map answer_of refused ≡ map (λ c. c.answer) refused) × (map lines_of refused ≡ map (λ c. c.lines) refused)
 unfolding refused
-refused-hold = (refl, refl)
+refused_hold = (refl, refl)

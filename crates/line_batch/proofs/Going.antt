@@ -16,24 +16,24 @@ use Rattle.format.specs.declared.entry.AbsLineInfo.{AbsLineInfo}
 use Rattle.format.specs.Form.{Bytes}
 use Rattle.line_lookup.specs.Lines.{raised}
 use Rattle.line_lookup.specs.Inner.Scan.{added, summed}
-use Rattle.line_lookup.proofs.Range.{mag-plus, mag-added}
+use Rattle.line_lookup.proofs.Range.{mag_plus, mag_added}
 use Rattle.line_batch.specs.declared.walk.Walk.{Walk}
-use Rattle.line_batch.specs.Inner.Walk.{Step, takeUp, takeStep, readUp, forward, lineBy}
+use Rattle.line_batch.specs.Inner.Walk.{Step, take_up, take_step, read_up, forward, line_by}
 use Rattle.line_batch.specs.Inner.Steps.{step_of}
 
-take-read : (pc : ℕ) (left : List AbsLineInfo) (at from : ℕ) (sum : ℤ) (read : ℕ) → (takeUp pc left at from sum read).read ≡ read
+take-read : (pc : ℕ) (left : List AbsLineInfo) (at from : ℕ) (sum : ℤ) (read : ℕ) → (take_up pc left at from sum read).read ≡ read
 take-read pc [] at from sum read = refl
 take-read pc (a ∷ more) at from sum read = by (leb a.pc pc) (take-read pc more a.pc a.line (pos 0) read)
   where
-    by : (t : Bool) → (takeUp pc more a.pc a.line (pos 0) read).read ≡ read → (cond t (takeUp pc more a.pc a.line (pos 0) read) (record { left = a ∷ more; at = at; from = from; sum = sum; read = read })).read ≡ read
+    by : (t : Bool) → (take_up pc more a.pc a.line (pos 0) read).read ≡ read → (cond t (take_up pc more a.pc a.line (pos 0) read) (record { left = a ∷ more; at = at; from = from; sum = sum; read = read })).read ≡ read
     by true h = h
     by false h = refl
 
-mag-summed : (xs : Bytes) (z : ℤ) → mag (summed z xs) ≤ mag z + 128 * length xs
-mag-summed [] z = omega arith
-mag-summed (d ∷ xs) z = omega (arith, mag-summed xs (added z d), mag-added z d)
+mag_summed : (xs : Bytes) (z : ℤ) → mag (summed z xs) ≤ mag z + 128 * length xs
+mag_summed [] z = omega arith
+mag_summed (d ∷ xs) z = omega (arith, mag_summed xs (added z d), mag_added z d)
 
-module _ (s deltas : Bytes) (pc : ℕ) (first walk : Walk) (took : step_of s walk ≡ takeStep pc (step_of s first)) where
+module _ (s deltas : Bytes) (pc : ℕ) (first walk : Walk) (took : step_of s walk ≡ take_step pc (step_of s first)) where
   pub read_kept : walk.read ≡ first.read
   read_kept = ap (λ z. z.read) took ∙ take-read pc (step_of s first).left first.at first.from first.sum first.read
 
@@ -50,19 +50,19 @@ module _ (s deltas : Bytes) (pc : ℕ) (first walk : Walk) (took : step_of s wal
         gone =
             let sums : sum ≡ summed walk.sum (drop walk.at (take (pc + 1) deltas)) = adds ∙ ap (λ l. summed walk.sum (drop walk.at l)) is in
             ap₂ (λ k y. record { left = (step_of s walk).left; at = walk.at + k; from = walk.from; sum = y; read = walk.read + k }) (sym size) sums
-            ∙ ap (readUp deltas pc) took
+            ∙ ap (read_up deltas pc) took
 
         pub bounded : mag walk.sum ≤ 128 * walk.read → mag sum ≤ 128 * (walk.read + new)
-        bounded h = rw adds (omega (arith, mag-summed (drop walk.at cut) walk.sum, length-drop walk.at cut, n))
+        bounded h = rw adds (omega (arith, mag_summed (drop walk.at cut) walk.sum, length-drop walk.at cut, n))
 
 -- ## The line
-pub none-there : (ds : Bytes) (from : ℕ) (sum : ℤ) → length ds ≡ 0 → 0 ≡ lineBy ds from sum
+pub none-there : (ds : Bytes) (from : ℕ) (sum : ℤ) → length ds ≡ 0 → 0 ≡ line_by ds from sum
 none-there [] from sum e = refl
 none-there (d ∷ ds) from sum e = absurd (omega arith)
 
-pub some-there : (ds : Bytes) (from : ℕ) (sum : ℤ) → (length ds ≡ 0 → ⊥) → raised (pos from +ℤ sum) ≡ lineBy ds from sum
-some-there [] from sum e = absurd (e refl)
-some-there (d ∷ ds) from sum e = refl
+pub some_there : (ds : Bytes) (from : ℕ) (sum : ℤ) → (length ds ≡ 0 → ⊥) → raised (pos from +ℤ sum) ≡ line_by ds from sum
+some_there [] from sum e = absurd (e refl)
+some_there (d ∷ ds) from sum e = refl
 
 pub line-fits : (from : ℕ) (sum : ℤ) → from ≤ 2 ^ 62 → mag sum ≤ 2 ^ 32 → SFits w64 (pos from +ℤ sum)
-line-fits from sum h k = record { sfits = omega (arith, mag-plus (pos from) sum) }
+line-fits from sum h k = record { sfits = omega (arith, mag_plus (pos from) sum) }

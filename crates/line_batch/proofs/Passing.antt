@@ -9,25 +9,25 @@ use Rattle.format.specs.declared.entry.AbsLineInfo.{AbsLineInfo}
 use Rattle.format.specs.Form.{Bytes}
 use Rattle.line_batch.specs.declared.anchors.Anchors.{Anchors}
 use Rattle.line_batch.specs.declared.numbered.Numbered.{Numbered}
-use Rattle.line_batch.specs.Inner.Anchors.{anchorsOf}
-use Rattle.line_batch.specs.Inner.Numbered.{Passed, passed_by, passUp, passTo}
+use Rattle.line_batch.specs.Inner.Anchors.{anchors_of}
+use Rattle.line_batch.specs.Inner.Numbered.{Passed, passed_by, pass_up, pass_to}
 
-abbrev with-left : Numbered → List AbsLineInfo → Passed
-with-left z left = record { left = left; number = z.number; line = z.line }
+abbrev with_left : Numbered → List AbsLineInfo → Passed
+with_left z left = record { left = left; number = z.number; line = z.line }
 
 module _ (s : Bytes) (pc : ℕ) (z : Numbered) where
-  pub none_left : anchorsOf s z.rest ≡ [] → passTo pc (passed_by s z) ≡ passed_by s z
-  none_left e = ap (λ l. passTo pc (with-left z l)) e ∙ sym (ap (with-left z) e)
+  pub none_left : anchors_of s z.rest ≡ [] → pass_to pc (passed_by s z) ≡ passed_by s z
+  none_left e = ap (λ l. pass_to pc (with_left z l)) e ∙ sym (ap (with_left z) e)
 
-  pub reached : pc < z.number → passTo pc (passed_by s z) ≡ passed_by s z
-  reached h = by (anchorsOf s z.rest)
+  pub reached : pc < z.number → pass_to pc (passed_by s z) ≡ passed_by s z
+  reached h = by (anchors_of s z.rest)
     where
-      by : (l : List AbsLineInfo) → passTo pc (with-left z l) ≡ with-left z l
+      by : (l : List AbsLineInfo) → pass_to pc (with_left z l) ≡ with_left z l
       by [] = refl
-      by (a ∷ more) = ap (λ t. cond t (passUp pc more (z.number + 1) a.line) (with-left z (a ∷ more))) (lt-leb z.number pc h)
+      by (a ∷ more) = ap (λ t. cond t (pass_up pc more (z.number + 1) a.line) (with_left z (a ∷ more))) (lt-leb z.number pc h)
 
-  pub goes_on : (a : AbsLineInfo) (rest : Anchors) → anchorsOf s z.rest ≡ a ∷ anchorsOf s rest → z.number ≤ pc
-      → passTo pc (passed_by s z) ≡ passTo pc (passed_by s (record { rest = rest; number = z.number + 1; line = a.line }))
-  goes_on a rest e h =
-      ap (λ l. passTo pc (with-left z l)) e
-      ∙ ap (λ t. cond t (passUp pc (anchorsOf s rest) (z.number + 1) a.line) (with-left z (a ∷ anchorsOf s rest))) (le-leb z.number pc h)
+  pub goes_on_lem : (a : AbsLineInfo) (rest : Anchors) → anchors_of s z.rest ≡ a ∷ anchors_of s rest → z.number ≤ pc
+      → pass_to pc (passed_by s z) ≡ pass_to pc (passed_by s (record { rest = rest; number = z.number + 1; line = a.line }))
+  goes_on_lem a rest e h =
+      ap (λ l. pass_to pc (with_left z l)) e
+      ∙ ap (λ t. cond t (pass_up pc (anchors_of s rest) (z.number + 1) a.line) (with_left z (a ∷ anchors_of s rest))) (le-leb z.number pc h)

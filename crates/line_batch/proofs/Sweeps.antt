@@ -1,8 +1,8 @@
 -- The walk gives the lines and the number of deltas of the single lookups, where anchors rise and pcs never fall.
 --     Reached          where the walk is
---     goes_on          one pc further
+--     goes_on_lem          one pc further
 --     lines_are        the lines
---     reads-are        how many deltas were read
+--     reads_are        how many deltas were read
 -- Assumes nothing.
 use mathlib.Core.Path.{◌≡◌, refl, sym, ◌∙◌, ap, ap₂}
 use mathlib.Core.Bool.{Bool, true, false, ◌&&◌, ◌||◌, cond}
@@ -20,15 +20,15 @@ use mir.Syntax.{w8}
 use mir.Val.{to_z}
 use Rattle.format.specs.declared.entry.AbsLineInfo.{AbsLineInfo}
 use Rattle.format.specs.Form.{Bytes, All}
-use Rattle.line_lookup.specs.Lines.{base_of, walked, raised, byDeltas}
+use Rattle.line_lookup.specs.Lines.{base_of, walked, raised, by_deltas}
 use Rattle.line_lookup.specs.Inner.Scan.{added, summed}
 use Rattle.line_lookup.proofs.Rising.{RisingFrom, Rising}
-use Rattle.line_anchors.proofs.Tests.{drop-beyond}
-use Rattle.line_batch.specs.Batch.{numbersFrom, has, walkedByAny, countBelow, orderedFrom}
-use Rattle.line_batch.specs.Inner.Walk.{Step, takeStep, readUp, forward, lineIn, lines_from, end_of}
+use Rattle.line_anchors.proofs.Tests.{drop_beyond}
+use Rattle.line_batch.specs.Batch.{numbers_from, has, walked_by_any, count_below, ordered_from}
+use Rattle.line_batch.specs.Inner.Walk.{Step, take_step, read_up, forward, line_in, lines_from, end_of}
 use Rattle.line_batch.specs.Inner.Steps.{Writable}
-use Rattle.line_batch.proofs.Counts.{within, within-true, within_low, within-high, has-from, count-joined, count_same, count_none}
-use Rattle.line_batch.proofs.Bases.{base-low, plain_walk, base-from, Took, takes}
+use Rattle.line_batch.proofs.Counts.{within, within_true, within_low, within_high, has-from, count-joined, count_same, count_none}
+use Rattle.line_batch.proofs.Bases.{base_low, plain_walk, base_from, Took, takes}
 
 -- ## Lists
 summed-append : (xs ys : Bytes) (z : ℤ) → summed z (xs ++ ys) ≡ summed (summed z xs) ys
@@ -58,7 +58,7 @@ resume b xs ys = by (leb b (length xs)) refl
         drop-append-le b xs ys low ∙ ap (λ l. drop b xs ++ l) (sym (ap (λ n. drop n (xs ++ ys)) reached ∙ drop_at xs ys (length xs) refl))
     by false t =
         let over = leb-false b (length xs) t in
-        let none_left : drop b xs ≡ [] = drop-beyond xs b (omega arith) in
+        let none_left : drop b xs ≡ [] = drop_beyond xs b (omega arith) in
         let same : b ≡ b + 0 = omega arith in
         sym (ap (λ l. l ++ drop (b + length l) (xs ++ ys)) none_left ∙ ap (λ n. drop n (xs ++ ys)) (sym same))
 
@@ -70,10 +70,10 @@ resumed b m n ds h =
     ap (drop b) (further m n ds h) ∙ resume b (take m ds) (drop m (take n ds)) ∙ ap (λ l. drop b (take m ds) ++ drop (b + length (drop b (take m ds))) l) (sym (further m n ds h))
 
 -- ## A pc and the one before it
-pub steady : (least q : ℕ) (qs : List ℕ) → orderedFrom leb least (q ∷ qs) ≡ true → (least ≤ q) × (orderedFrom leb q qs ≡ true)
+pub steady : (least q : ℕ) (qs : List ℕ) → ordered_from leb least (q ∷ qs) ≡ true → (least ≤ q) × (ordered_from leb q qs ≡ true)
 steady least q qs e = by (leb least q) refl e
   where
-    by : (t : Bool) → leb least q ≡ t → (t && orderedFrom leb q qs) ≡ true → (least ≤ q) × (orderedFrom leb q qs ≡ true)
+    by : (t : Bool) → leb least q ≡ t → (t && ordered_from leb q qs) ≡ true → (least ≤ q) × (ordered_from leb q qs ≡ true)
     by true t e = (leb-true least q t, e)
     by false t e = absurd (let z : ◌≡◌ {A = ℕ} 0 1 = cc in omega arith)
 
@@ -86,7 +86,7 @@ module _ (line_defined : ℕ) (deltas : Bytes) (anchors : List AbsLineInfo) (up 
 
   -- the deltas that rule 3 walks over
   abbrev walk : ℕ → List ℕ
-  walk pc = numbersFrom (base pc).pc (part pc)
+  walk pc = numbers_from (base pc).pc (part pc)
 
   -- ## Where the walk is: at the deltas below `above`, with the base b
   pub record Reached (above : ℕ) (b : AbsLineInfo) (z : Step) : Type 0 where
@@ -106,7 +106,7 @@ module _ (line_defined : ℕ) (deltas : Bytes) (anchors : List AbsLineInfo) (up 
   -- ## One pc further
   module _ (above : ℕ) (b : AbsLineInfo) (z : Step) (here : Reached above b z) (q : ℕ) (h : above ≤ q + 1) where
     abbrev took : Step
-    took = takeStep q z
+    took = take_step q z
 
     t : Took q above b z took
     t = takes q above b z here.rising
@@ -120,9 +120,9 @@ module _ (line_defined : ℕ) (deltas : Bytes) (anchors : List AbsLineInfo) (up 
     -- where the new deltas begin: where the walk was, with the base it had; or at a new base, which is not before
     record From : Type 0 where
       not-before : z.at ≤ took.at
-      base-at : c.pc ≤ took.at
-      old-or-new : (b.pc ≡ c.pc) ⊎ (took.at ≡ c.pc)
-      old-start : took.at ≡ z.at ⊎ took.at ≡ c.pc
+      base_at : c.pc ≤ took.at
+      old_or_new : (b.pc ≡ c.pc) ⊎ (took.at ≡ c.pc)
+      old_start : took.at ≡ z.at ⊎ took.at ≡ c.pc
       at-is : took.at + length (drop took.at (take (q + 1) deltas)) ≡ c.pc + length (part q)
       from_is : took.from ≡ c.line
       sum_is : summed took.sum (drop took.at (take (q + 1) deltas)) ≡ summed (pos 0) (part q)
@@ -130,8 +130,8 @@ module _ (line_defined : ℕ) (deltas : Bytes) (anchors : List AbsLineInfo) (up 
     stands : z.at ≤ above
     stands = let low = here.low in let at = here.at-is in let size : length (drop b.pc (take above deltas)) ≤ above - b.pc = simp (length-drop, length-take) (omega arith) in omega arith
 
-    reaches-base : b.pc ≤ z.at
-    reaches-base = let at = here.at-is in omega arith
+    reaches_base : b.pc ≤ z.at
+    reaches_base = let at = here.at-is in omega arith
 
     from : From
     from = ⊎_elim
@@ -145,9 +145,9 @@ module _ (line_defined : ℕ) (deltas : Bytes) (anchors : List AbsLineInfo) (up 
         let same-pc : c.pc ≡ b.pc = ap (λ c. c.pc) same in
         record {
           not-before = omega arith;
-          base-at = omega (arith, reaches-base);
-          old-or-new = inl (sym same-pc);
-          old-start = inl at;
+          base_at = omega (arith, reaches_base);
+          old_or_new = inl (sym same-pc);
+          old_start = inl at;
           at-is = omega (arith, simp length-append at (ap length split));
           from_is = s.2 ∙ here.from_is ∙ ap (λ c. c.line) (sym same);
           sum_is =
@@ -161,18 +161,18 @@ module _ (line_defined : ℕ) (deltas : Bytes) (anchors : List AbsLineInfo) (up 
         let first-at = s.1 in
         record {
           not-before = omega (arith, stands);
-          base-at = omega arith;
-          old-or-new = inr new;
-          old-start = inr new;
+          base_at = omega arith;
+          old_or_new = inr new;
+          old_start = inr new;
           at-is = ap (λ n. n + length (drop n (take (q + 1) deltas))) new;
           from_is = s.2 ∙ ap (λ c. c.line) (sym is_base);
           sum_is = ap₂ (λ y n. summed y (drop n (take (q + 1) deltas))) s.3 new;
         })
         t.which
 
-    pub goes_on : Reached (q + 1) c (forward deltas q z)
-    goes_on = record {
-      low = omega (arith, base-low anchors up line_defined q);
+    pub goes_on_lem : Reached (q + 1) c (forward deltas q z)
+    goes_on_lem = record {
+      low = omega (arith, base_low anchors up line_defined q);
       later = λ q' k. here.later q' (omega arith) ∙ t.later q' (omega arith) ∙ ap (λ c. base_of q' c took.left) (sym is_base);
       rising = t.rising;
       at-is = from.at-is;
@@ -183,15 +183,15 @@ module _ (line_defined : ℕ) (deltas : Bytes) (anchors : List AbsLineInfo) (up 
     pub from-here : (forward deltas q z).from ≡ c.line
     from-here = from.from_is
 
-    pub line-here : raised (pos (forward deltas q z).from +ℤ (forward deltas q z).sum) ≡ byDeltas c deltas anchors q
+    pub line-here : raised (pos (forward deltas q z).from +ℤ (forward deltas q z).sum) ≡ by_deltas c deltas anchors q
     line-here =
-        let inside : c.pc + length (part q) ≤ q + 1 = let low = base-low anchors up line_defined q in simp (length-drop, length-take) (omega arith) in
+        let inside : c.pc + length (part q) ≤ q + 1 = let low = base_low anchors up line_defined q in simp (length-drop, length-take) (omega arith) in
         ap raised
         (ap₂ (λ l y. pos l +ℤ y) from.from_is from.sum_is ∙ sym (summed-from (part q) (pos c.line) (pos 0)) ∙ ap (λ y. summed y (part q)) (+ℤ_idr (pos c.line)) ∙ sym (plain_walk anchors up line_defined q (part q) inside))
 
     -- how many deltas are new
-    size-new : min (length deltas) (forward deltas q z).at - min (length deltas) took.at ≡ length (drop took.at (take (q + 1) deltas))
-    size-new = let size : length (drop took.at (take (q + 1) deltas)) ≡ min (q + 1) (length deltas) - took.at = simp (length-drop, length-take) refl in rw size (clamped (length deltas) (q + 1) took.at)
+    size_new : min (length deltas) (forward deltas q z).at - min (length deltas) took.at ≡ length (drop took.at (take (q + 1) deltas))
+    size_new = let size : length (drop took.at (take (q + 1) deltas)) ≡ min (q + 1) (length deltas) - took.at = simp (length-drop, length-take) refl in rw size (clamped (length deltas) (q + 1) took.at)
       where
         clamped : (n m a : ℕ) → min n (a + (min m n - a)) - min n a ≡ min m n - a
         clamped n m a = omega arith
@@ -211,33 +211,33 @@ module _ (line_defined : ℕ) (deltas : Bytes) (anchors : List AbsLineInfo) (up 
           behind : took.at ≤ e
           behind = omega arith
 
-          in-walk : z.at ≤ i → (t : Bool) → leb c.pc i ≡ t → (u : Bool) → ltb i e ≡ u → (cond t u false || any i) ≡ (within took.at e i || cond (leb e i) (any i) false)
-          in-walk h true t true u =
+          in_walk : z.at ≤ i → (t : Bool) → leb c.pc i ≡ t → (u : Bool) → ltb i e ≡ u → (cond t u false || any i) ≡ (within took.at e i || cond (leb e i) (any i) false)
+          in_walk h true t true u =
               let low = leb-true c.pc i t in
               let high = ltb-true i e u in
-              let at-or-behind : took.at ≤ i = ⊎_elim (λ (s : took.at ≡ z.at). omega arith) (λ (s : took.at ≡ c.pc). omega arith) from.old-start in
-              sym (ap (λ b. b || cond (leb e i) (any i) false) (within-true took.at e i at-or-behind high))
-          in-walk h true t false u =
+              let at-or-behind : took.at ≤ i = ⊎_elim (λ (s : took.at ≡ z.at). omega arith) (λ (s : took.at ≡ c.pc). omega arith) from.old_start in
+              sym (ap (λ b. b || cond (leb e i) (any i) false) (within_true took.at e i at-or-behind high))
+          in_walk h true t false u =
               let high = ltb-false i e u in
-              sym (ap (λ b. b || cond (leb e i) (any i) false) (within-high took.at e i high) ∙ ap (λ b. cond b (any i) false) (le-leb e i high))
-          in-walk h false t u v =
+              sym (ap (λ b. b || cond (leb e i) (any i) false) (within_high took.at e i high) ∙ ap (λ b. cond b (any i) false) (le-leb e i high))
+          in_walk h false t u v =
               let low = leb-false c.pc i t in
-              let before : i < took.at = omega (arith, from.base-at) in
+              let before : i < took.at = omega (arith, from.base_at) in
               none_before i low ∙ sym (ap (λ b. b || cond (leb e i) (any i) false) (within_low took.at e i before) ∙ ap (λ b. cond b (any i) false) (lt-leb e i (omega arith)))
 
           by : (t : Bool) → leb z.at i ≡ t → cond t (within c.pc e i || any i) false ≡ (within took.at e i || cond (leb e i) (any i) false)
-          by true t = in-walk (leb-true z.at i t) (leb c.pc i) refl (ltb i e) refl
+          by true t = in_walk (leb-true z.at i t) (leb c.pc i) refl (ltb i e) refl
           by false t =
               let low = leb-false z.at i t in
               let before : i < took.at = omega (arith, from.not-before) in
               sym (ap (λ b. b || cond (leb e i) (any i) false) (within_low took.at e i before) ∙ ap (λ b. cond b (any i) false) (lt-leb e i (omega arith)))
 
-      pub count-here : countBelow (length deltas) (λ i. cond (leb z.at i) (has (walk q) i || any i) false)
-          ≡ length (drop took.at (take (q + 1) deltas)) + countBelow (length deltas) (λ i. cond (leb e i) (any i) false)
+      pub count-here : count_below (length deltas) (λ i. cond (leb z.at i) (has (walk q) i || any i) false)
+          ≡ length (drop took.at (take (q + 1) deltas)) + count_below (length deltas) (λ i. cond (leb e i) (any i) false)
       count-here =
           count-joined took.at e (omega arith) (length deltas) (λ i. cond (leb z.at i) (has (walk q) i || any i) false) (λ i. cond (leb e i) (any i) false) (λ i k. joined i)
           (λ i k l. ap (λ b. cond b (any i) false) (lt-leb e i l))
-          ∙ ap (λ n. n + countBelow (length deltas) (λ i. cond (leb e i) (any i) false)) size-new
+          ∙ ap (λ n. n + count_below (length deltas) (λ i. cond (leb e i) (any i) false)) size_new
 
     read_here : (forward deltas q z).read ≡ z.read + length (drop took.at (take (q + 1) deltas))
     read_here = ap (λ n. n + length (drop took.at (take (q + 1) deltas))) t.read_is
@@ -253,16 +253,16 @@ module _ (line_defined : ℕ) (deltas : Bytes) (anchors : List AbsLineInfo) (up 
         low r a b m n h k = omega arith
 
   -- ## All pcs
-  pub lines_are : (qs : List ℕ) (least above : ℕ) (b : AbsLineInfo) (z : Step) → Reached above b z → above ≤ least + 1 → orderedFrom leb least qs ≡ true
-      → (d : ℕ) (ds : Bytes) → deltas ≡ d ∷ ds → lines_from deltas z qs ≡ map (λ q. byDeltas (base q) deltas anchors q) qs
+  pub lines_are : (qs : List ℕ) (least above : ℕ) (b : AbsLineInfo) (z : Step) → Reached above b z → above ≤ least + 1 → ordered_from leb least qs ≡ true
+      → (d : ℕ) (ds : Bytes) → deltas ≡ d ∷ ds → lines_from deltas z qs ≡ map (λ q. by_deltas (base q) deltas anchors q) qs
   lines_are [] least above b z here h s d ds e = refl
   lines_are (q ∷ qs) least above b z here h s d ds e =
       let p = steady least q qs s in
       let on : above ≤ q + 1 = let k = p.0 in omega arith in
-      ap₂ (λ x xs. x ∷ xs) (ap (λ l. lineIn l (forward deltas q z)) e ∙ line-here above b z here q on) (lines_are qs q (q + 1) (base q) (forward deltas q z) (goes_on above b z here q on) (omega arith) p.1 d ds e)
+      ap₂ (λ x xs. x ∷ xs) (ap (λ l. line_in l (forward deltas q z)) e ∙ line-here above b z here q on) (lines_are qs q (q + 1) (base q) (forward deltas q z) (goes_on_lem above b z here q on) (omega arith) p.1 d ds e)
 
   -- no sum on the way is too large, where the line of each pc's base is small
-  pub writable : length deltas ≤ 16777216 → (qs : List ℕ) → All (λ q. (base q).line ≤ 2 ^ 62) qs → (least above : ℕ) (b : AbsLineInfo) (z : Step) → Reached above b z → above ≤ least + 1 → orderedFrom leb least qs ≡ true
+  pub writable : length deltas ≤ 16777216 → (qs : List ℕ) → All (λ q. (base q).line ≤ 2 ^ 62) qs → (least above : ℕ) (b : AbsLineInfo) (z : Step) → Reached above b z → above ≤ least + 1 → ordered_from leb least qs ≡ true
       → z.read ≤ min z.at (length deltas) → Writable deltas z qs
   writable few [] small least above b z here h s low = tt
   writable few (q ∷ qs) small least above b z here h s low =
@@ -270,39 +270,39 @@ module _ (line_defined : ℕ) (deltas : Bytes) (anchors : List AbsLineInfo) (up 
       let on : above ≤ q + 1 = let k = p.0 in omega arith in
       let lower = read_low above b z here q on low in
       let base-small : (base q).line ≤ 2 ^ 62 = small.0 in
-      (omega arith, rw (from-here above b z here q on) base-small, omega arith, writable few qs small.1 q (q + 1) (base q) (forward deltas q z) (goes_on above b z here q on) (omega arith) p.1 lower)
+      (omega arith, rw (from-here above b z here q on) base-small, omega arith, writable few qs small.1 q (q + 1) (base q) (forward deltas q z) (goes_on_lem above b z here q on) (omega arith) p.1 lower)
 
   -- later lookups walk over nothing before a base
-  none_before : (qs : List ℕ) (least : ℕ) (b : AbsLineInfo) (z : Step) → Reached (least + 1) b z → orderedFrom leb least qs ≡ true → (i : ℕ) → i < b.pc → walkedByAny walk qs i ≡ false
+  none_before : (qs : List ℕ) (least : ℕ) (b : AbsLineInfo) (z : Step) → Reached (least + 1) b z → ordered_from leb least qs ≡ true → (i : ℕ) → i < b.pc → walked_by_any walk qs i ≡ false
   none_before [] least b z here s i h = refl
   none_before (q ∷ qs) least b z here s i h =
       let p = steady least q qs s in
       let from : least ≤ q = p.0 in
-      let later : b.pc ≤ (base q).pc = rw (here.later q (omega arith)) (base-from q (least + 1) b z.left here.rising here.low) in
+      let later : b.pc ≤ (base q).pc = rw (here.later q (omega arith)) (base_from q (least + 1) b z.left here.rising here.low) in
       let this : has (walk q) i ≡ false = has-from (part q) (base q).pc i ∙ within_low (base q).pc ((base q).pc + length (part q)) i (omega arith) in
-      ap (λ t. t || walkedByAny walk qs i) this ∙ none_before qs q (base q) (forward deltas q z) (goes_on (least + 1) b z here q (omega arith)) p.1 i (omega arith)
+      ap (λ t. t || walked_by_any walk qs i) this ∙ none_before qs q (base q) (forward deltas q z) (goes_on_lem (least + 1) b z here q (omega arith)) p.1 i (omega arith)
 
-  pub reads-are : (qs : List ℕ) (least above : ℕ) (b : AbsLineInfo) (z : Step) → Reached above b z → above ≤ least + 1 → orderedFrom leb least qs ≡ true
-      → (end_of deltas z qs).read ≡ z.read + countBelow (length deltas) (λ i. cond (leb z.at i) (walkedByAny walk qs i) false)
-  reads-are [] least above b z here h s = omega (arith, count_none (length deltas) (λ i. cond (leb z.at i) false false) (λ i. never (leb z.at i)))
+  pub reads_are : (qs : List ℕ) (least above : ℕ) (b : AbsLineInfo) (z : Step) → Reached above b z → above ≤ least + 1 → ordered_from leb least qs ≡ true
+      → (end_of deltas z qs).read ≡ z.read + count_below (length deltas) (λ i. cond (leb z.at i) (walked_by_any walk qs i) false)
+  reads_are [] least above b z here h s = omega (arith, count_none (length deltas) (λ i. cond (leb z.at i) false false) (λ i. never (leb z.at i)))
     where
       never : (t : Bool) → cond t false false ≡ false
       never true = refl
       never false = refl
-  reads-are (q ∷ qs) least above b z here h s =
+  reads_are (q ∷ qs) least above b z here h s =
       let p = steady least q qs s in
       let on : above ≤ q + 1 = let k = p.0 in omega arith in
-      let next = goes_on above b z here q on in
-      let rest = reads-are qs q (q + 1) (base q) (forward deltas q z) next (omega arith) p.1 in
-      let new = count-here above b z here q on (walkedByAny walk qs) (none_before qs q (base q) (forward deltas q z) next p.1) in
+      let next = goes_on_lem above b z here q on in
+      let rest = reads_are qs q (q + 1) (base q) (forward deltas q z) next (omega arith) p.1 in
+      let new = count-here above b z here q on (walked_by_any walk qs) (none_before qs q (base q) (forward deltas q z) next p.1) in
       omega (arith, rest, new, read_here above b z here q on)
 
   -- from the start: all the lookups of rule 3
-  pub sweep-lines : (pcs : List ℕ) → orderedFrom leb 0 pcs ≡ true → (d : ℕ) (ds : Bytes) → deltas ≡ d ∷ ds → lines_from deltas first pcs ≡ map (λ pc. byDeltas (base pc) deltas anchors pc) pcs
-  sweep-lines pcs s = lines_are pcs 0 0 _ first at_first (omega arith) s
+  pub sweep_lines : (pcs : List ℕ) → ordered_from leb 0 pcs ≡ true → (d : ℕ) (ds : Bytes) → deltas ≡ d ∷ ds → lines_from deltas first pcs ≡ map (λ pc. by_deltas (base pc) deltas anchors pc) pcs
+  sweep_lines pcs s = lines_are pcs 0 0 _ first at_first (omega arith) s
 
-  pub sweep-reads : (pcs : List ℕ) → orderedFrom leb 0 pcs ≡ true → (end_of deltas first pcs).read ≡ countBelow (length deltas) (walkedByAny walk pcs)
-  sweep-reads pcs s =
-      reads-are pcs 0 0 _ first at_first (omega arith) s
-      ∙ zero-add (countBelow (length deltas) (λ i. cond (leb 0 i) (walkedByAny walk pcs i) false))
-      ∙ count_same (length deltas) _ _ (λ i h. ap (λ t. cond t (walkedByAny walk pcs i) false) (le-leb 0 i (omega arith)))
+  pub sweep_reads : (pcs : List ℕ) → ordered_from leb 0 pcs ≡ true → (end_of deltas first pcs).read ≡ count_below (length deltas) (walked_by_any walk pcs)
+  sweep_reads pcs s =
+      reads_are pcs 0 0 _ first at_first (omega arith) s
+      ∙ zero-add (count_below (length deltas) (λ i. cond (leb 0 i) (walked_by_any walk pcs i) false))
+      ∙ count_same (length deltas) _ _ (λ i h. ap (λ t. cond t (walked_by_any walk pcs i) false) (le-leb 0 i (omega arith)))

@@ -1,6 +1,6 @@
 // A function's anchors, one after the other.
 ghost use Rattle.std.specs.Prelude.{◌≡◌};
-ghost use Rattle.line_batch.specs.Inner.Anchors.{anchorsOf, nextList};
+ghost use Rattle.line_batch.specs.Inner.Anchors.{anchors_of, next_list};
 
 use format::entry::AbsLineInfo;
 use read_entry::debug::{AnchorResult, read_anchor};
@@ -21,7 +21,7 @@ pub enum NextAnchor {
 
 // The first of them, with the rest. None where one cannot be read: in a chunk that was judged that is not met.
 pub fn next_anchor(s: &[u8], from: Anchors) -> NextAnchor
-    ensures { anchorsOf s.now from ≡ nextList s.now result }
+    ensures { anchors_of s.now from ≡ next_list s.now result }
 {
     if from.left == 0 {
         return NextAnchor::None;

@@ -1,8 +1,8 @@
 // Every decision, before anything is written: 25, 29, 30 and 26, in this order.
 ghost use Rattle.std.specs.Prelude.{◌≡◌};
-ghost use Rattle.line_batch.specs.Batch.{neverFalls, refusalOf};
-ghost use Rattle.line_batch.specs.Inner.Anchors.{anchorsOf};
-ghost use Rattle.line_batch.specs.Inner.Judged.{stillRising, seeBy, seenOf, startSeen, judgedBy};
+ghost use Rattle.line_batch.specs.Batch.{never_falls, refusal_of};
+ghost use Rattle.line_batch.specs.Inner.Anchors.{anchors_of};
+ghost use Rattle.line_batch.specs.Inner.Judged.{still_rising, see_by, seen_of, start_seen, judged_by};
 
 use crate::anchors::{Anchors, NextAnchor, next_anchor};
 use format::entry::AbsLineInfo;
@@ -28,7 +28,7 @@ pub enum Judged {
 }
 
 fn is_rising(seen: Seen, pc: usize) -> bool
-    ensures { result ≡ stillRising seen pc }
+    ensures { result ≡ still_rising seen pc }
 {
     if seen.rising {
         if seen.any {
@@ -40,7 +40,7 @@ fn is_rising(seen: Seen, pc: usize) -> bool
 }
 
 fn see(seen: Seen, anchor: AbsLineInfo) -> Seen
-    ensures { result ≡ seeBy seen anchor }
+    ensures { result ≡ see_by seen anchor }
 {
     Seen {
         large: or_large(seen.large, anchor.line),
@@ -51,7 +51,7 @@ fn see(seen: Seen, anchor: AbsLineInfo) -> Seen
 }
 
 fn see_anchors(s: &[u8], all: Anchors, line_defined: usize) -> Seen
-    ensures { result ≡ seenOf (startSeen line_defined) (anchorsOf s.now all) }
+    ensures { result ≡ seen_of (start_seen line_defined) (anchors_of s.now all) }
 {
     let mut seen = Seen {
         large: or_large(false, line_defined),
@@ -76,7 +76,7 @@ fn see_anchors(s: &[u8], all: Anchors, line_defined: usize) -> Seen
 }
 
 fn never_falls(pcs: &[u64]) -> bool
-    ensures { result ≡ neverFalls pcs.now }
+    ensures { result ≡ never_falls pcs.now }
 {
     let mut last = 0;
     let mut k = 0;
@@ -93,7 +93,7 @@ fn never_falls(pcs: &[u64]) -> bool
 
 // Of a function's anchors and first line, the pcs, and how many lines have room.
 pub fn judge(s: &[u8], all: Anchors, line_defined: usize, pcs: &[u64], space: usize) -> Judged
-    ensures { result ≡ judgedBy (refusalOf line_defined (anchorsOf s.now all) space pcs.now) }
+    ensures { result ≡ judged_by (refusal_of line_defined (anchors_of s.now all) space pcs.now) }
 {
     let seen = see_anchors(s, all, line_defined);
     if seen.large {

@@ -4,9 +4,9 @@ ghost use Rattle.std.proofs.Math.Option.{none};
 ghost use Rattle.format.specs.Limits.{MOST};
 ghost use Rattle.format.specs.ReadChunk.{read};
 ghost use Rattle.slice.specs.Inner.Splice.{splice};
-ghost use Rattle.show_row.specs.Asked.{functionOf};
-ghost use Rattle.line_batch.specs.Batch.{answered, overIf, shownLines, linesWritten};
-ghost use Rattle.line_batch.specs.Inner.Rows.{anchorsIn, allIn, rowRefusal, rowNumbered, row_lines, rowDeltasRead};
+ghost use Rattle.show_row.specs.Asked.{function_of};
+ghost use Rattle.line_batch.specs.Batch.{answered, over_if, shown_lines, lines_written};
+ghost use Rattle.line_batch.specs.Inner.Rows.{anchors_in, all_in, row_refusal, row_numbered, row_lines, row_deltas_read};
 
 use crate::anchors::Anchors;
 use crate::judge::{Judged, judge};
@@ -27,7 +27,7 @@ pub enum LinesAnswer {
 }
 
 fn all_in(row: FunctionRow) -> Anchors
-    ensures { result ≡ allIn row }
+    ensures { result ≡ all_in row }
 {
     let lists = row.lists;
     let anchors = lists.abs_line_info;
@@ -40,8 +40,8 @@ fn all_in(row: FunctionRow) -> Anchors
 // The lines of the pcs at the front that rule 2 answers; how many these are.
 fn write_front(s: &[u8], row: FunctionRow, pcs: &[u64], lines: &mut [u64]) -> usize
     requires { length pcs.now ≤ length lines.old }
-    ensures lines_after { lines.new ≡ splice 0 (rowNumbered s.now row pcs.now) lines.old }
-    ensures value { result ≡ length (rowNumbered s.now row pcs.now) }
+    ensures lines_after { lines.new ≡ splice 0 (row_numbered s.now row pcs.now) lines.old }
+    ensures value { result ≡ length (row_numbered s.now row pcs.now) }
 {
     let all = all_in(row);
     let lists = row.lists;
@@ -54,9 +54,9 @@ fn write_front(s: &[u8], row: FunctionRow, pcs: &[u64], lines: &mut [u64]) -> us
 
 // All lines; how many deltas were read.
 fn write_row(s: &[u8], row: FunctionRow, pcs: &[u64], lines: &mut [u64]) -> usize
-    requires { (length s.now ≤ MOST) × (length (anchorsIn s.now row) ≡ (allIn row).left) × (rowRefusal s.now row (length lines.old) pcs.now ≡ none) }
+    requires { (length s.now ≤ MOST) × (length (anchors_in s.now row) ≡ (all_in row).left) × (row_refusal s.now row (length lines.old) pcs.now ≡ none) }
     ensures lines_after { lines.new ≡ splice 0 (row_lines s.now row pcs.now) lines.old }
-    ensures value { result ≡ rowDeltasRead s.now row pcs.now }
+    ensures value { result ≡ row_deltas_read s.now row pcs.now }
 {
     let start = write_front(s, row, pcs, lines);
     let all = all_in(row);
@@ -76,9 +76,9 @@ fn write_row(s: &[u8], row: FunctionRow, pcs: &[u64], lines: &mut [u64]) -> usiz
 
 // Of a function's row.
 fn lines_in_row(s: &[u8], row: FunctionRow, pcs: &[u64], lines: &mut [u64]) -> LinesAnswer
-    requires { (length s.now ≤ MOST) × (length (anchorsIn s.now row) ≡ (allIn row).left) }
-    ensures value { result ≡ answered (rowRefusal s.now row (length lines.old) pcs.now) (rowDeltasRead s.now row pcs.now) }
-    ensures lines_after { lines.new ≡ overIf (rowRefusal s.now row (length lines.old) pcs.now) (row_lines s.now row pcs.now) lines.old }
+    requires { (length s.now ≤ MOST) × (length (anchors_in s.now row) ≡ (all_in row).left) }
+    ensures value { result ≡ answered (row_refusal s.now row (length lines.old) pcs.now) (row_deltas_read s.now row pcs.now) }
+    ensures lines_after { lines.new ≡ over_if (row_refusal s.now row (length lines.old) pcs.now) (row_lines s.now row pcs.now) lines.old }
 {
     let all = all_in(row);
     let firsts = row.lines;
@@ -98,8 +98,8 @@ pub fn get_lines_for_pcs(
     pcs: &[u64],
     lines: &mut [u64],
 ) -> LinesAnswer
-    ensures value { result ≡ shownLines (length lines.old) pcs.now (functionOf function (read limits s.now)) }
-    ensures lines_after { lines.new ≡ linesWritten lines.old pcs.now (functionOf function (read limits s.now)) }
+    ensures value { result ≡ shown_lines (length lines.old) pcs.now (function_of function (read limits s.now)) }
+    ensures lines_after { lines.new ≡ lines_written lines.old pcs.now (function_of function (read limits s.now)) }
 {
     let found = function_row(s, limits, function);
     match found {

@@ -1,8 +1,8 @@
 // As many anchors as instructions: the lines of the pcs that are below their number, each that of the anchor of its number.
 ghost use Rattle.std.specs.Prelude.{◌≡◌, ◌+◌, ◌^◌, ◌≤◌, ◌<◌, length};
 ghost use Rattle.slice.specs.Inner.Splice.{splice};
-ghost use Rattle.line_batch.specs.Inner.Anchors.{anchorsOf};
-ghost use Rattle.line_batch.specs.Inner.Numbered.{passed_by, passTo, numberedFrom, nonePassed};
+ghost use Rattle.line_batch.specs.Inner.Anchors.{anchors_of};
+ghost use Rattle.line_batch.specs.Inner.Numbered.{passed_by, pass_to, numbered_from, none_passed};
 
 use crate::anchors::{Anchors, NextAnchor, next_anchor};
 
@@ -17,7 +17,7 @@ pub struct Numbered {
 // Passes anchors up to the one whose number is the pc, which may be passed already.
 fn pass_to(s: &[u8], first: Numbered, pc: usize) -> Numbered
     requires { pc + 1 < 2 ^ 64 }
-    ensures { passed_by s.now result ≡ passTo pc (passed_by s.now first) }
+    ensures { passed_by s.now result ≡ pass_to pc (passed_by s.now first) }
 {
     let mut z = first;
     while z.number <= pc {
@@ -43,8 +43,8 @@ fn pass_to(s: &[u8], first: Numbered, pc: usize) -> Numbered
 // Writes their lines at the front; how many there are.
 pub fn write_numbered(s: &[u8], all: Anchors, pcs: &[u64], lines: &mut [u64]) -> usize
     requires { length pcs.now ≤ length lines.old }
-    ensures lines_after { lines.new ≡ splice 0 (numberedFrom all.left (nonePassed (anchorsOf s.now all)) pcs.now) lines.old }
-    ensures value { result ≡ length (numberedFrom all.left (nonePassed (anchorsOf s.now all)) pcs.now) }
+    ensures lines_after { lines.new ≡ splice 0 (numbered_from all.left (none_passed (anchors_of s.now all)) pcs.now) lines.old }
+    ensures value { result ≡ length (numbered_from all.left (none_passed (anchors_of s.now all)) pcs.now) }
 {
     let mut z = Numbered {
         rest: all,

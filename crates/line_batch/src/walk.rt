@@ -3,7 +3,7 @@ ghost use Rattle.std.specs.Prelude.{◌≡◌, ◌+◌, ◌-◌, ◌*◌, ◌^�
 ghost use Rattle.std.specs.Int.Signed.{mag};
 ghost use Rattle.format.specs.Limits.{MOST};
 ghost use Rattle.slice.specs.Inner.Splice.{splice};
-ghost use Rattle.line_batch.specs.Inner.Walk.{takeStep, forward, lineBy, lines_from, end_of};
+ghost use Rattle.line_batch.specs.Inner.Walk.{take_step, forward, line_by, lines_from, end_of};
 ghost use Rattle.line_batch.specs.Inner.Steps.{step_of, Writable};
 
 use crate::anchors::{Anchors, NextAnchor, next_anchor};
@@ -25,7 +25,7 @@ pub struct Walk {
 
 // Takes anchors while their pc is not above the one sought: the last is the base.
 fn take_up(s: &[u8], first: Walk, pc: usize) -> Walk
-    ensures { (step_of s.now result ≡ takeStep pc (step_of s.now first)) × (mag first.sum ≤ 128 * first.read → mag result.sum ≤ 128 * result.read) }
+    ensures { (step_of s.now result ≡ take_step pc (step_of s.now first)) × (mag first.sum ≤ 128 * first.read → mag result.sum ≤ 128 * result.read) }
 {
     let mut walk = first;
     loop {
@@ -85,7 +85,7 @@ fn go_on(s: &[u8], deltas: &[u8], first: Walk, pc: usize) -> Walk
 // The line where the walk is, 0 without deltas.
 fn line_of(deltas: &[u8], walk: Walk) -> usize
     requires { (walk.from ≤ 2 ^ 62) × (mag walk.sum ≤ 2 ^ 32) }
-    ensures { result ≡ lineBy deltas.now walk.from walk.sum }
+    ensures { result ≡ line_by deltas.now walk.from walk.sum }
 {
     if deltas.len() == 0 {
         return 0;

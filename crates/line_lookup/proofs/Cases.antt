@@ -67,10 +67,10 @@ more =
 abbrev line : Case → LineAnswer
 line c = answer_of c.instructions c.line_defined c.deltas c.anchors c.pc
 
-marked-hold : map line marked ≡ map (λ c. c.result) marked
+marked_hold : map line marked ≡ map (λ c. c.result) marked
 unfolding marked
-marked-hold = refl
+marked_hold = refl
 
-more-hold : map line more ≡ map (λ c. c.result) more
+more_hold : map line more ≡ map (λ c. c.result) more
 unfolding more
-more-hold = refl
+more_hold = refl

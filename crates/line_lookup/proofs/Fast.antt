@@ -18,13 +18,13 @@ use Rattle.format.specs.declared.entry.AbsLineInfo.{AbsLineInfo}
 use Rattle.format.specs.Form.{Bytes}
 use Rattle.line_anchors.specs.declared.Scan.{Scan}
 use Rattle.line_lookup.specs.Lines.{line_at, stepped, walked}
-use Rattle.line_anchors.specs.Inner.Scan.{resetBy, passed, scanned}
+use Rattle.line_anchors.specs.Inner.Scan.{reset_by, passed, scanned}
 use Rattle.line_lookup.specs.Inner.Scan.{added, summed}
 
 -- ## The first anchor at a pc
-lineAt-append : (j : ℕ) (xs ys : List AbsLineInfo) (z : ℤ) → line_at j (xs ++ ys) z ≡ line_at j xs (line_at j ys z)
-lineAt-append j [] ys z = refl
-lineAt-append j (x ∷ xs) ys z = ap (cond (eqb x.pc j) (pos x.line)) (lineAt-append j xs ys z)
+line_at-append : (j : ℕ) (xs ys : List AbsLineInfo) (z : ℤ) → line_at j (xs ++ ys) z ≡ line_at j xs (line_at j ys z)
+line_at-append j [] ys z = refl
+line_at-append j (x ∷ xs) ys z = ap (cond (eqb x.pc j) (pos x.line)) (line_at-append j xs ys z)
 
 -- an anchor at another pc
 elsewhere : (j : ℕ) (a : AbsLineInfo) (z : ℤ) → (a.pc ≡ j → ⊥) → line_at j (a ∷ []) z ≡ z
@@ -56,11 +56,11 @@ module _ (ds : Bytes) where
   -- no delta of −128 from `reset` on has an anchor; the one just before it has, and the first gives the line
   pub record Settled (anchors : List AbsLineInfo) (r : AbsLineInfo) : Type 0 where
     pub later : (j : ℕ) → r.pc ≤ j → get_or ds j 0 ≡ 128 → (z : ℤ) → line_at j anchors z ≡ z
-    pub minus-128 : (i : ℕ) → r.pc ≡ suc i → get_or ds i 0 ≡ 128
+    pub minus_128 : (i : ℕ) → r.pc ≡ suc i → get_or ds i 0 ≡ 128
     pub line-is : (i : ℕ) → r.pc ≡ suc i → (z : ℤ) → line_at i anchors z ≡ pos r.line
 
-  pub none-settled : Settled [] (record { pc = 0; line = 0 })
-  none-settled = record { later = λ j h e z. refl; minus-128 = λ i e. absurd (omega arith); line-is = λ i e z. absurd (omega arith) }
+  pub none_settled : Settled [] (record { pc = 0; line = 0 })
+  none_settled = record { later = λ j h e z. refl; minus_128 = λ i e. absurd (omega arith); line-is = λ i e z. absurd (omega arith) }
 
   -- ## One anchor more
   module _ (anchors : List AbsLineInfo) (r a : AbsLineInfo) (so : Settled anchors r) where
@@ -68,27 +68,27 @@ module _ (ds : Bytes) where
     one_more = anchors ++ a ∷ []
 
     unmoved : (j : ℕ) (z : ℤ) → (a.pc ≡ j → ⊥) → line_at j one_more z ≡ line_at j anchors z
-    unmoved j z h = lineAt-append j anchors (a ∷ []) z ∙ ap (line_at j anchors) (elsewhere j a z h)
+    unmoved j z h = line_at-append j anchors (a ∷ []) z ∙ ap (line_at j anchors) (elsewhere j a z h)
 
     stays : ((j : ℕ) → r.pc ≤ j → get_or ds j 0 ≡ 128 → a.pc ≡ j → ⊥) → Settled one_more r
     stays other = record {
       later = λ j h e z. unmoved j z (other j h e) ∙ so.later j h e z;
-      minus-128 = so.minus-128;
-      line-is = λ i e z. lineAt-append i anchors (a ∷ []) z ∙ so.line-is i e (line_at i (a ∷ []) z);
+      minus_128 = so.minus_128;
+      line-is = λ i e z. line_at-append i anchors (a ∷ []) z ∙ so.line-is i e (line_at i (a ∷ []) z);
     }
 
     moves : get_or ds a.pc 0 ≡ 128 → r.pc ≤ a.pc → Settled one_more (record { pc = a.pc + 1; line = a.line })
     moves e h = record {
       later = λ j k f z. unmoved j z (λ p. omega arith) ∙ so.later j (omega arith) f z;
-      minus-128 = λ i p. let same : i ≡ a.pc = omega arith in rw same e;
+      minus_128 = λ i p. let same : i ≡ a.pc = omega arith in rw same e;
       line-is = λ i p z.
           let same : a.pc ≡ i = omega arith in
-          lineAt-append i anchors (a ∷ []) z
+          line_at-append i anchors (a ∷ []) z
           ∙ ap (λ b. line_at i anchors (cond b (pos a.line) z)) (eq-eqb a.pc i same)
           ∙ so.later i (omega arith) (rw same at e) (pos a.line);
     }
 
-    step : Settled one_more (resetBy ds r a)
+    step : Settled one_more (reset_by ds r a)
     step = by (eqb (get_or ds a.pc 0) 128) refl
       where
         order : get_or ds a.pc 0 ≡ 128 → (u : Bool) → ltb a.pc r.pc ≡ u → Settled one_more (cond u r (record { pc = a.pc + 1; line = a.line }))
@@ -123,7 +123,7 @@ module _ (ds : Bytes) where
 
     -- up to it
     before : (i : ℕ) → r.pc ≡ suc i → (xs : Bytes) (k : ℕ) (z : ℤ) → drop k ds ≡ xs → k ≤ i → walked anchors k z xs ≡ walked anchors (i + 1) (pos r.line) (drop (i + 1) ds)
-    before i p [] k z e h = absurd (omega (arith, from-none k i ds e h, so.minus-128 i p))
+    before i p [] k z e h = absurd (omega (arith, from-none k i ds e h, so.minus_128 i p))
     before i p (d ∷ xs) k z e h = by (eqb k i) refl (λ less. before i p xs (k + 1) (stepped anchors k z d) (next-is k ds e) less)
       where
         less : (k i : ℕ) → k ≤ i → (k ≡ i → ⊥) → k + 1 ≤ i
@@ -135,7 +135,7 @@ module _ (ds : Bytes) where
         by : (t : Bool) → eqb k i ≡ t → (k + 1 ≤ i → Whole) → Whole
         by true t go =
             let same = eqb-true k i t in
-            let is : d ≡ 128 = sym (from-head k ds e) ∙ ap (λ n. get_or ds n 0) same ∙ so.minus-128 i p in
+            let is : d ≡ 128 = sym (from-head k ds e) ∙ ap (λ n. get_or ds n 0) same ∙ so.minus_128 i p in
             ap (λ b. walked anchors (k + 1) (cond b (line_at k anchors z) (z +ℤ to_z w8 d)) xs) (eq-eqb d 128 is)
             ∙ ap (λ y. walked anchors (k + 1) y xs) (ap (λ n. line_at n anchors z) same ∙ so.line-is i p z)
             ∙ ap (walked anchors (k + 1) (pos r.line)) (sym (next-is k ds e))

@@ -18,11 +18,11 @@ use mir.Syntax.{w8}
 use mir.Val.{to_z}
 use Rattle.format.specs.declared.entry.AbsLineInfo.{AbsLineInfo}
 use Rattle.format.specs.Form.{Bytes, All}
-use Rattle.line_lookup.specs.Ldebug.{MAXIWTHABS, getbaseline, increments, luaG_getfuncline}
-use Rattle.line_lookup.specs.Lines.{base_of, line_at, walked, raised, byDeltas, line_of}
+use Rattle.line_lookup.specs.Ldebug.{MAXIWTHABS, getbaseline, increments, lua_g_getfuncline}
+use Rattle.line_lookup.specs.Lines.{base_of, line_at, walked, raised, by_deltas, line_of}
 use Rattle.line_lookup.proofs.Fast.{from-head, from-none, next-is}
-use Rattle.line_lookup.proofs.Rising.{RisingFrom, Rising, At, from_on, base-last, base-within, base-all, base-line, from-estimate, Numbered, numbered}
-use Rattle.line_anchors.proofs.Tests.{picked, other, beyond, drop-beyond}
+use Rattle.line_lookup.proofs.Rising.{RisingFrom, Rising, At, from_on, base_last, base_within, base_all, base_line, from_estimate, Numbered, numbered}
+use Rattle.line_anchors.proofs.Tests.{picked, other, beyond, drop_beyond}
 
 -- ## The sum
 -- the deltas up to the pc
@@ -98,11 +98,11 @@ module _ (line_defined instructions : ℕ) (deltas : Bytes) (anchors : List AbsL
     behind : a.pc ≤ pc → ours base ≡ theirs (record { pc = base.pc + 1; line = base.line })
     behind h =
         let marked = rw e at c.marked in
-        let here : get_or deltas base.pc 0 ≡ 128 = base-all pc (λ x. get_or deltas x.pc 0 ≡ 128) a more marked.0 marked.1 in
-        let within = base-within pc a more h in
-        let line : line_at base.pc anchors (pos base.line) ≡ pos base.line = ap (λ xs. line_at base.pc xs (pos base.line)) e ∙ base-line pc a more rising.1 (pos base.line) in
+        let here : get_or deltas base.pc 0 ≡ 128 = base_all pc (λ x. get_or deltas x.pc 0 ≡ 128) a more marked.0 marked.1 in
+        let within = base_within pc a more h in
+        let line : line_at base.pc anchors (pos base.line) ≡ pos base.line = ap (λ xs. line_at base.pc xs (pos base.line)) e ∙ base_line pc a more rising.1 (pos base.line) in
         at-anchor anchors cut base.pc (pos base.line) (get_or-take (pc + 1) deltas base.pc 0 (omega arith) ∙ here) line
-        ∙ plain anchors cut (drop (base.pc + 1) cut) (base.pc + 1) (pos base.line) refl (quiet (base.pc + 1) (λ j l k m. omega (arith, base-last pc a more rising.1 j (rw e at m) k)))
+        ∙ plain anchors cut (drop (base.pc + 1) cut) (base.pc + 1) (pos base.line) refl (quiet (base.pc + 1) (λ j l k m. omega (arith, base_last pc a more rising.1 j (rw e at m) k)))
 
     -- the estimate does not matter
     found : a.pc ≤ pc → (k : ℕ) → pc / MAXIWTHABS ≡ k → base_of pc (get_or (a ∷ more) (k - 1) a) (drop k (a ∷ more)) ≡ base
@@ -111,7 +111,7 @@ module _ (line_defined instructions : ℕ) (deltas : Bytes) (anchors : List AbsL
         let asserted = rw e at (c.estimate i a is) in
         let size = asserted.0 in
         let same : suc i - 1 ≡ i = omega arith in
-        ap (λ n. base_of pc (get_or (a ∷ more) n a) (drop i more)) same ∙ sym (from-estimate pc a i a more rising.1 (omega arith) asserted.1)
+        ap (λ n. base_of pc (get_or (a ∷ more) n a) (drop i more)) same ∙ sym (from_estimate pc a i a more rising.1 (omega arith) asserted.1)
 
     both : ours (base_of pc start (a ∷ more)) ≡ theirs (getbaseline line_defined pc (a ∷ more))
     both = by (leb a.pc pc) refl
@@ -124,9 +124,9 @@ module _ (line_defined instructions : ℕ) (deltas : Bytes) (anchors : List AbsL
             ∙ ap theirs (other start _ (le-ltb pc a.pc h))
         by false t = let h = leb-false a.pc pc t in before h ∙ ap theirs (picked start _ (lt-ltb pc a.pc h))
 
-  by-base : (xs : List AbsLineInfo) → anchors ≡ xs → ours (base_of pc start xs) ≡ theirs (getbaseline line_defined pc xs)
-  by-base [] e = plain anchors cut cut 0 (pos line_defined) refl (quiet 0 (λ j _ _ m. rw e at m))
-  by-base (a ∷ more) e = both a more e
+  by_base : (xs : List AbsLineInfo) → anchors ≡ xs → ours (base_of pc start xs) ≡ theirs (getbaseline line_defined pc xs)
+  by_base [] e = plain anchors cut cut 0 (pos line_defined) refl (quiet 0 (λ j _ _ m. rw e at m))
+  by_base (a ∷ more) e = both a more e
 
   -- ## As many anchors as instructions
   below_all : (xs : List AbsLineInfo) → All (λ a. get_or deltas a.pc 0 ≡ 128) xs → All (λ a. a.pc < instructions) xs
@@ -141,38 +141,38 @@ module _ (line_defined instructions : ℕ) (deltas : Bytes) (anchors : List AbsL
     number : (z : ℤ) → Numbered (0 + pc) pc anchors z
     number z = let inside = c.there in numbered 0 instructions anchors c.rising (below_all anchors c.marked) (omega arith) pc (omega arith) z
 
-    all-numbered : (xs : List AbsLineInfo) → anchors ≡ xs → map (λ (a : AbsLineInfo). a.line) (get_elem? anchors pc) ≡ some (raised (theirs (getbaseline line_defined pc xs)))
-    all-numbered [] e = absurd (let size = ap length e in let inside = c.there in omega arith)
-    all-numbered (a ∷ more) e =
+    all_numbered : (xs : List AbsLineInfo) → anchors ≡ xs → map (λ (a : AbsLineInfo). a.line) (get_elem? anchors pc) ≡ some (raised (theirs (getbaseline line_defined pc xs)))
+    all_numbered [] e = absurd (let size = ap length e in let inside = c.there in omega arith)
+    all_numbered (a ∷ more) e =
         let b = base a more e in
         let x = number (pos b.line) in
         let zero-plus : 0 + pc ≡ pc = omega arith in
         let there : At pc (a ∷ more) = rw (e, zero-plus) at x.there in
         let up = (rising a more e).1 in
         let begun : a.pc ≤ pc = from_on a.pc pc (a ∷ more) (omega arith, up) there in
-        let least = base-last pc a more up pc there (omega arith) in
-        let most = base-within pc a more begun in
+        let least = base_last pc a more up pc there (omega arith) in
+        let most = base_within pc a more begun in
         let at-pc : b.pc ≡ pc = omega arith in
-        let line : pos x.line ≡ pos b.line = sym x.first ∙ ap (λ n. line_at n anchors (pos b.line)) (zero-plus ∙ sym at-pc) ∙ ap (λ xs. line_at b.pc xs (pos b.line)) e ∙ base-line pc a more up (pos b.line) in
+        let line : pos x.line ≡ pos b.line = sym x.first ∙ ap (λ n. line_at n anchors (pos b.line)) (zero-plus ∙ sym at-pc) ∙ ap (λ xs. line_at b.pc xs (pos b.line)) e ∙ base_line pc a more up (pos b.line) in
         let short : length cut ≤ b.pc + 1 = simp length-take (omega arith) in
         let sum : theirs (getbaseline line_defined pc (a ∷ more)) ≡ pos b.line =
         sym (both a more e)
         ∙ ap (λ t. ours (cond t b start)) (le-leb a.pc pc begun)
         ∙ behind a more e begun
-        ∙ ap (increments (pos b.line)) (drop-beyond cut (b.pc + 1) short) in
+        ∙ ap (increments (pos b.line)) (drop_beyond cut (b.pc + 1) short) in
         x.is ∙ ap (λ y. some (raised y)) (line ∙ sym sum)
 
   -- ## The theorem
-  pub same_line : line_of instructions line_defined deltas anchors pc ≡ raised (luaG_getfuncline line_defined deltas anchors pc)
+  pub same_line : line_of instructions line_defined deltas anchors pc ≡ raised (lua_g_getfuncline line_defined deltas anchors pc)
   same_line = by deltas refl (eqb (length anchors) instructions) refl
     where
-      by : (ds : Bytes) → deltas ≡ ds → (t : Bool) → eqb (length anchors) instructions ≡ t → line_of instructions line_defined ds anchors pc ≡ raised (luaG_getfuncline line_defined ds anchors pc)
+      by : (ds : Bytes) → deltas ≡ ds → (t : Bool) → eqb (length anchors) instructions ≡ t → line_of instructions line_defined ds anchors pc ≡ raised (lua_g_getfuncline line_defined ds anchors pc)
       by [] e t is = absurd (let size = ap length e in let one = c.one_each in let some = c.there in omega arith)
       by (d ∷ ds) e true is =
-          ap (λ o. Option.get_or o (byDeltas (base_of pc start anchors) (d ∷ ds) anchors pc)) (sym (picked (map (λ (a : AbsLineInfo). a.line) (get_elem? anchors pc)) none is) ∙ all-numbered (eqb-true (length anchors) instructions is) anchors refl)
+          ap (λ o. Option.get_or o (by_deltas (base_of pc start anchors) (d ∷ ds) anchors pc)) (sym (picked (map (λ (a : AbsLineInfo). a.line) (get_elem? anchors pc)) none is) ∙ all_numbered (eqb-true (length anchors) instructions is) anchors refl)
           ∙ ap (λ ds. raised (increments (pos (getbaseline line_defined pc anchors).line) (drop (getbaseline line_defined pc anchors).pc (take (pc + 1) ds)))) e
       by (d ∷ ds) e false is =
-          ap (λ o. Option.get_or o (byDeltas (base_of pc start anchors) (d ∷ ds) anchors pc)) (sym (other (map (λ (a : AbsLineInfo). a.line) (get_elem? anchors pc)) none is))
+          ap (λ o. Option.get_or o (by_deltas (base_of pc start anchors) (d ∷ ds) anchors pc)) (sym (other (map (λ (a : AbsLineInfo). a.line) (get_elem? anchors pc)) none is))
           ∙ ap (λ ds. raised (walked anchors (base_of pc start anchors).pc (pos (base_of pc start anchors).line) (drop (base_of pc start anchors).pc (take (pc + 1) ds)))) (sym e)
-          ∙ ap raised (by-base anchors refl)
+          ∙ ap raised (by_base anchors refl)
           ∙ ap (λ ds. raised (increments (pos (getbaseline line_defined pc anchors).line) (drop (getbaseline line_defined pc anchors).pc (take (pc + 1) ds)))) e

@@ -10,7 +10,7 @@ use lib.IntN.{ℤ, pos, negsuc}
 use lib.ListN.{replicate, get_or}
 use Rattle.format.specs.declared.entry.AbsLineInfo.{AbsLineInfo}
 use Rattle.format.specs.Form.{Bytes}
-use Rattle.line_lookup.specs.Ldebug.{luaG_getfuncline}
+use Rattle.line_lookup.specs.Ldebug.{lua_g_getfuncline}
 use Rattle.line_lookup.specs.Lines.{raised, line_of}
 use Rattle.line_lookup.proofs.Cases.{at}
 use Rattle.line_lookup.proofs.Ldebug.{Compiled, same_line}
@@ -46,26 +46,26 @@ parted =
     ∷ record { line_defined = 7; instructions = 258; deltas = 0x80 ∷ replicate 256 0x00 ++ 0x80 ∷ []; anchors = at 0 9 ∷ at 257 30 ∷ []; pc = 256; ours = 9; theirs = pos 30 }
     ∷ []
 
-parted-ours : map (λ (c : Case). line_of c.instructions c.line_defined c.deltas c.anchors c.pc) parted ≡ map (λ (c : Case). c.ours) parted
+parted_ours : map (λ (c : Case). line_of c.instructions c.line_defined c.deltas c.anchors c.pc) parted ≡ map (λ (c : Case). c.ours) parted
 unfolding parted
-parted-ours = refl
+parted_ours = refl
 
-parted-theirs : map (λ (c : Case). luaG_getfuncline c.line_defined c.deltas c.anchors c.pc) parted ≡ map (λ (c : Case). c.theirs) parted
+parted_theirs : map (λ (c : Case). lua_g_getfuncline c.line_defined c.deltas c.anchors c.pc) parted ≡ map (λ (c : Case). c.theirs) parted
 unfolding parted
-parted-theirs = refl
+parted_theirs = refl
 
 -- ## The estimate: anchor pc / MAXIWTHABS − 1 is where the search begins, though it may stand above the pc
 -- a first anchor at 0 and another one at a pc, which is sought; ldebug.c's line at the pc asked for
 abbrev estimated : ℕ → ℕ → ℤ
-estimated anchor pc = luaG_getfuncline 7 (replicate 512 0x00) (at 0 9 ∷ at anchor 30 ∷ []) pc
+estimated anchor pc = lua_g_getfuncline 7 (replicate 512 0x00) (at 0 9 ∷ at anchor 30 ∷ []) pc
 
 -- At 255 it is the first anchor, at 256 the second: with 127 for MAXIWTHABS both would be the second, with 129 or more both the first. At 127 and 128 the first (64 or less would give the second).
-estimated-hold : estimated 257 127 ∷ estimated 257 128 ∷ estimated 257 255 ∷ estimated 257 256 ∷ [] ≡ pos 9 ∷ pos 9 ∷ pos 9 ∷ pos 30 ∷ []
-estimated-hold = refl
+estimated_hold : estimated 257 127 ∷ estimated 257 128 ∷ estimated 257 255 ∷ estimated 257 256 ∷ [] ≡ pos 9 ∷ pos 9 ∷ pos 9 ∷ pos 30 ∷ []
+estimated_hold = refl
 
 -- Where the second stands at the pc asked for or just behind it, the search goes on to it or not.
-searched-hold : estimated 128 127 ∷ estimated 128 128 ∷ estimated 255 254 ∷ estimated 255 255 ∷ [] ≡ pos 9 ∷ pos 30 ∷ pos 9 ∷ pos 30 ∷ []
-searched-hold = refl
+searched_hold : estimated 128 127 ∷ estimated 128 128 ∷ estimated 255 254 ∷ estimated 255 255 ∷ [] ≡ pos 9 ∷ pos 30 ∷ pos 9 ∷ pos 30 ∷ []
+searched_hold = refl
 
 -- ## A function that meets the premises: 01's, at each pc that has an instruction
 five : Bytes
@@ -91,5 +91,5 @@ compiled pc h = record {
   estimate = λ i d e. absurd (omega arith);
 }
 
-five-same : (pc : ℕ) → pc < 5 → line_of 5 10 five (at 3 200 ∷ []) pc ≡ raised (luaG_getfuncline 10 five (at 3 200 ∷ []) pc)
-five-same pc h = same_line 10 5 five (at 3 200 ∷ []) pc (compiled pc h)
+five_same : (pc : ℕ) → pc < 5 → line_of 5 10 five (at 3 200 ∷ []) pc ≡ raised (lua_g_getfuncline 10 five (at 3 200 ∷ []) pc)
+five_same pc h = same_line 10 5 five (at 3 200 ∷ []) pc (compiled pc h)

@@ -2,7 +2,7 @@
 --     RisingFrom n     .. from n on
 --     At               an anchor stands at a pc
 --     base-..          the base of rule 3 among them
---     from-estimate    that base, from an anchor that is not above the pc
+--     from_estimate    that base, from an anchor that is not above the pc
 --     numbered         as many anchors as there is room for: each has its number for pc
 -- Assumes nothing.
 use mathlib.Core.Path.{◌≡◌, refl, ◌∙◌, ap}
@@ -19,7 +19,7 @@ use lib.ListN.{length, drop, get_or, get_elem?}
 use Rattle.format.specs.Form.{All}
 use Rattle.format.specs.declared.entry.AbsLineInfo.{AbsLineInfo}
 use Rattle.line_lookup.specs.Lines.{base_of, line_at}
-use Rattle.line_lookup.proofs.Scans.{pick-both}
+use Rattle.line_lookup.proofs.Scans.{pick_both}
 
 -- from n on
 abbrev pub RisingFrom : ℕ → List AbsLineInfo → Type 0
@@ -41,9 +41,9 @@ from_on n i (a ∷ more) r m = let h = r.0 in ⊎_elim (λ (e : a.pc ≡ i). ome
 -- the base: the last anchor that is not above the pc
 module _ (pc : ℕ) where
   -- no anchor stands behind it up to the pc
-  pub base-last : (a : AbsLineInfo) (more : List AbsLineInfo) → RisingFrom (a.pc + 1) more → (j : ℕ) → At j (a ∷ more) → j ≤ pc → j ≤ (base_of pc a more).pc
-  base-last a [] r j m h = ⊎_elim (λ (e : a.pc ≡ j). omega arith) (λ (n : ⊥). absurd n) m
-  base-last a (x ∷ more) r j m h = by (leb x.pc pc) refl (base-last x more r.1)
+  pub base_last : (a : AbsLineInfo) (more : List AbsLineInfo) → RisingFrom (a.pc + 1) more → (j : ℕ) → At j (a ∷ more) → j ≤ pc → j ≤ (base_of pc a more).pc
+  base_last a [] r j m h = ⊎_elim (λ (e : a.pc ≡ j). omega arith) (λ (n : ⊥). absurd n) m
+  base_last a (x ∷ more) r j m h = by (leb x.pc pc) refl (base_last x more r.1)
     where
       by : (t : Bool) → leb x.pc pc ≡ t → ((j : ℕ) → At j (x ∷ more) → j ≤ pc → j ≤ (base_of pc x more).pc) → j ≤ (cond t (base_of pc x more) a).pc
       by true t go =
@@ -54,39 +54,39 @@ module _ (pc : ℕ) where
           let above = leb-false x.pc pc t in
           ⊎_elim (λ (e : a.pc ≡ j). omega arith) (λ (k : At j (x ∷ more)). absurd (omega (arith, from_on x.pc j (x ∷ more) (omega arith, r.1) k))) m
 
-  pub base-within : (a : AbsLineInfo) (more : List AbsLineInfo) → a.pc ≤ pc → (base_of pc a more).pc ≤ pc
-  base-within a [] h = h
-  base-within a (x ∷ more) h = by (leb x.pc pc) refl (base-within x more)
+  pub base_within : (a : AbsLineInfo) (more : List AbsLineInfo) → a.pc ≤ pc → (base_of pc a more).pc ≤ pc
+  base_within a [] h = h
+  base_within a (x ∷ more) h = by (leb x.pc pc) refl (base_within x more)
     where
       by : (t : Bool) → leb x.pc pc ≡ t → (x.pc ≤ pc → (base_of pc x more).pc ≤ pc) → (cond t (base_of pc x more) a).pc ≤ pc
       by true t go = go (leb-true x.pc pc t)
       by false t go = h
 
-  pub base-all : (P : AbsLineInfo → Type 0) (a : AbsLineInfo) (more : List AbsLineInfo) → P a → All P more → P (base_of pc a more)
-  base-all P a [] h all = h
-  base-all P a (x ∷ more) h all = pick-both P (leb x.pc pc) (base-all P x more all.0 all.1) h
+  pub base_all : (P : AbsLineInfo → Type 0) (a : AbsLineInfo) (more : List AbsLineInfo) → P a → All P more → P (base_of pc a more)
+  base_all P a [] h all = h
+  base_all P a (x ∷ more) h all = pick_both P (leb x.pc pc) (base_all P x more all.0 all.1) h
 
   -- it is the first anchor at its pc
-  pub base-line : (a : AbsLineInfo) (more : List AbsLineInfo) → RisingFrom (a.pc + 1) more → (z : ℤ) → line_at (base_of pc a more).pc (a ∷ more) z ≡ pos (base_of pc a more).line
-  base-line a [] r z = ap (λ t. cond t (pos a.line) z) (eq-eqb a.pc a.pc refl)
-  base-line a (x ∷ more) r z = by (leb x.pc pc) refl (base-line x more r.1 z)
+  pub base_line : (a : AbsLineInfo) (more : List AbsLineInfo) → RisingFrom (a.pc + 1) more → (z : ℤ) → line_at (base_of pc a more).pc (a ∷ more) z ≡ pos (base_of pc a more).line
+  base_line a [] r z = ap (λ t. cond t (pos a.line) z) (eq-eqb a.pc a.pc refl)
+  base_line a (x ∷ more) r z = by (leb x.pc pc) refl (base_line x more r.1 z)
     where
       by : (t : Bool) → leb x.pc pc ≡ t → line_at (base_of pc x more).pc (x ∷ more) z ≡ pos (base_of pc x more).line
           → line_at (cond t (base_of pc x more) a).pc (a ∷ x ∷ more) z ≡ pos (cond t (base_of pc x more) a).line
       by true t go =
           let over = r.0 in
           let b = (base_of pc x more).pc in
-          let reached : x.pc ≤ b = base-last x more r.1 x.pc (inl refl) (leb-true x.pc pc t) in
+          let reached : x.pc ≤ b = base_last x more r.1 x.pc (inl refl) (leb-true x.pc pc t) in
           ap (λ u. cond u (pos a.line) (line_at b (x ∷ more) z)) (ne_eqb a.pc b (λ e. omega arith)) ∙ go
       by false t go = ap (λ u. cond u (pos a.line) (line_at a.pc (x ∷ more) z)) (eq-eqb a.pc a.pc refl)
 
   -- starting at an anchor that is not above the pc finds the same base
-  pub from-estimate : (d : AbsLineInfo) (k : ℕ) (a : AbsLineInfo) (more : List AbsLineInfo) → RisingFrom (a.pc + 1) more → k ≤ length more → (get_or (a ∷ more) k d).pc ≤ pc
+  pub from_estimate : (d : AbsLineInfo) (k : ℕ) (a : AbsLineInfo) (more : List AbsLineInfo) → RisingFrom (a.pc + 1) more → k ≤ length more → (get_or (a ∷ more) k d).pc ≤ pc
       → base_of pc a more ≡ base_of pc (get_or (a ∷ more) k d) (drop k more)
-  from-estimate d zero a more r h low = refl
-  from-estimate d (suc k) a [] r h low = absurd (omega arith)
-  from-estimate d (suc k) a (x ∷ more) r h low =
-      ap (λ t. cond t (base_of pc x more) a) (le-leb x.pc pc (omega (arith, head-low k x more r.1 (omega arith)))) ∙ from-estimate d k x more r.1 (omega arith) low
+  from_estimate d zero a more r h low = refl
+  from_estimate d (suc k) a [] r h low = absurd (omega arith)
+  from_estimate d (suc k) a (x ∷ more) r h low =
+      ap (λ t. cond t (base_of pc x more) a) (le-leb x.pc pc (omega (arith, head-low k x more r.1 (omega arith)))) ∙ from_estimate d k x more r.1 (omega arith) low
     where
       head-low : (k : ℕ) (x : AbsLineInfo) (more : List AbsLineInfo) → RisingFrom (x.pc + 1) more → k ≤ length more → x.pc ≤ (get_or (x ∷ more) k d).pc
       head-low zero x more r h = omega arith

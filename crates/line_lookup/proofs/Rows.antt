@@ -13,9 +13,9 @@ use Rattle.format.specs.declared.refusal.Refusal.TheVariants.{LineTooLarge}
 use Rattle.format.specs.Form.{Bytes}
 use Rattle.format.specs.Read.{Read, ok, refused, many}
 use Rattle.format.specs.ReadChunk.{anchor}
-use Rattle.format.proofs.Exact.{exact-many}
-use Rattle.format.proofs.ExactChunk.{exact-anchor}
-use Rattle.format.proofs.Every.{every-many}
+use Rattle.format.proofs.Exact.{exact_many}
+use Rattle.format.proofs.ExactChunk.{exact_anchor}
+use Rattle.format.proofs.Every.{every_many}
 use Rattle.format.proofs.Every as every
 use Rattle.format.proofs.Located.{Found}
 use Rattle.read_prototype.specs.declared.row.FunctionRow.{FunctionRow}
@@ -24,11 +24,11 @@ use Rattle.line_anchors.specs.declared.ScanResult.TheVariants as scan
 use Rattle.line_lookup.specs.declared.line.LineAnswer.{LineAnswer}
 use Rattle.line_lookup.specs.declared.line.LineAnswer.TheVariants as answer
 use Rattle.line_lookup.specs.Lines.{answer_of}
-use Rattle.line_anchors.specs.Inner.Scan.{scanned, start_of, scanResult}
-use Rattle.line_lookup.specs.Inner.Scan.{start_in, lineFrom, numberedOf, answered, shownRowLine}
+use Rattle.line_anchors.specs.Inner.Scan.{scanned, start_of, scan_result}
+use Rattle.line_lookup.specs.Inner.Scan.{start_in, line_from, numbered_of, answered, shown_row_line}
 use Rattle.line_anchors.specs.declared.Sought.{Sought}
 use Rattle.line_anchors.specs.declared.Sought.TheVariants.{Ahead, At}
-use Rattle.line_lookup.proofs.Rules.{large-refused, small-shown, by_number, by-deltas}
+use Rattle.line_lookup.proofs.Rules.{large-refused, small-shown, by_number, by_deltas_lem}
 use Rattle.line_lookup.proofs.Scans.{scanned-small}
 
 module _ (row : FunctionRow) (pc : ℕ) (s : Bytes) where
@@ -47,15 +47,15 @@ module _ (row : FunctionRow) (pc : ℕ) (s : Bytes) where
   abbrev deltas : Bytes
   deltas = take row.lists.line_info.count (drop row.lists.line_info.place s)
 
-  abbrev anchorsRead : Read (List AbsLineInfo)
-  anchorsRead = many count anchor place (drop place s)
+  abbrev anchors_read : Read (List AbsLineInfo)
+  anchors_read = many count anchor place (drop place s)
 
   module _ {cut : Bytes} (is : cut ≡ take (pc + 1) deltas) where
     -- an anchor is refused
-    pub scan-refused : (q : Refusal) → scan.Err q ≡ scanResult cut pc (start_of pc line) anchorsRead → answer.Err q ≡ shownRowLine row pc s
-    scan-refused q e = by anchorsRead e
+    pub scan_refused : (q : Refusal) → scan.Err q ≡ scan_result cut pc (start_of pc line) anchors_read → answer.Err q ≡ shown_row_line row pc s
+    scan_refused q e = by anchors_read e
       where
-        by : (o : Read (List AbsLineInfo)) → scan.Err q ≡ scanResult cut pc (start_of pc line) o → answer.Err q ≡ answered row pc s o
+        by : (o : Read (List AbsLineInfo)) → scan.Err q ≡ scan_result cut pc (start_of pc line) o → answer.Err q ≡ answered row pc s o
         by (ok xs to rest) e = absurd (let z : ◌≡◌ {A = ℕ} 0 1 = cc in omega arith)
         by (refused p) e = cc
 
@@ -65,26 +65,26 @@ module _ (row : FunctionRow) (pc : ℕ) (s : Bytes) where
       found : Found s (many count anchor) place anchors
       gives : z ≡ scanned (take (pc + 1) deltas) pc (start_of pc line) anchors
 
-    passed : {z : Scan} → scan.Ok z ≡ scanResult cut pc (start_of pc line) anchorsRead → Passed z
-    passed {z} e = by anchorsRead refl e
+    passed : {z : Scan} → scan.Ok z ≡ scan_result cut pc (start_of pc line) anchors_read → Passed z
+    passed {z} e = by anchors_read refl e
       where
-        by : (o : Read (List AbsLineInfo)) → anchorsRead ≡ o → scan.Ok z ≡ scanResult cut pc (start_of pc line) o → Passed z
+        by : (o : Read (List AbsLineInfo)) → anchors_read ≡ o → scan.Ok z ≡ scan_result cut pc (start_of pc line) o → Passed z
         by (ok xs to rest) p e =
             let same : z ≡ scanned cut pc (start_of pc line) xs = cc in
             record { anchors = xs; found = record { to = to; rest = rest; is = p }; gives = same ∙ ap (λ c. scanned c pc (start_of pc line) xs) is }
         by (refused q) p e = absurd (let z : ◌≡◌ {A = ℕ} 0 1 = cc in omega arith)
 
-    module _ {z : Scan} (e : scan.Ok z ≡ scanResult cut pc (start_of pc line) anchorsRead) where
+    module _ {z : Scan} (e : scan.Ok z ≡ scan_result cut pc (start_of pc line) anchors_read) where
       p : Passed z
       p = passed e
 
-      shows : {r : LineAnswer} → r ≡ answer_of instructions line deltas p.anchors pc → r ≡ shownRowLine row pc s
+      shows : {r : LineAnswer} → r ≡ answer_of instructions line deltas p.anchors pc → r ≡ shown_row_line row pc s
       shows f = f ∙ sym (ap (answered row pc s) p.found.is)
 
       as_many : length p.anchors ≡ count
-      as_many = ((every-many count every.any).holds _ _ _ ((exact-many count exact-anchor).sound {at = place} {s = drop place s} p.found.is).spelt).0
+      as_many = ((every_many count every.any).holds _ _ _ ((exact_many count exact_anchor).sound {at = place} {s = drop place s} p.found.is).spelt).0
 
-      pub too_large : z.large ≡ true → answer.Err LineTooLarge ≡ shownRowLine row pc s
+      pub too_large : z.large ≡ true → answer.Err LineTooLarge ≡ shown_row_line row pc s
       too_large h = shows (large-refused instructions line deltas p.anchors pc (ap (λ z. z.large) (sym p.gives) ∙ h))
 
       module _ (small : z.large ≡ false) where
@@ -94,18 +94,18 @@ module _ (row : FunctionRow) (pc : ℕ) (s : Bytes) where
         pub start-low : (start_in z).line ≤ 2 ^ 62
         start-low = rw p.gives (scanned-small (take (pc + 1) deltas) pc line p.anchors low)
 
-        same_number : (x : Sought) → x ≡ numberedOf count instructions z.sought → x ≡ numberedOf (length p.anchors) instructions (scanned (take (pc + 1) deltas) pc (start_of pc line) p.anchors).sought
-        same_number x f = f ∙ ap (λ n. numberedOf n instructions z.sought) (sym as_many) ∙ ap (λ z. numberedOf (length p.anchors) instructions z.sought) p.gives
+        same_number : (x : Sought) → x ≡ numbered_of count instructions z.sought → x ≡ numbered_of (length p.anchors) instructions (scanned (take (pc + 1) deltas) pc (start_of pc line) p.anchors).sought
+        same_number x f = f ∙ ap (λ n. numbered_of n instructions z.sought) (sym as_many) ∙ ap (λ z. numbered_of (length p.anchors) instructions z.sought) p.gives
 
         -- rule 2
-        pub numbered-line : (l : ℕ) → At l ≡ numberedOf count instructions z.sought → answer.Ok l ≡ shownRowLine row pc s
-        numbered-line l f = shows (small-shown instructions line deltas p.anchors pc low (by_number instructions line deltas p.anchors pc (same_number (At l) f)))
+        pub numbered_line : (l : ℕ) → At l ≡ numbered_of count instructions z.sought → answer.Ok l ≡ shown_row_line row pc s
+        numbered_line l f = shows (small-shown instructions line deltas p.anchors pc low (by_number instructions line deltas p.anchors pc (same_number (At l) f)))
 
         -- rules 3 and 4
-        pub deltas-line : (n : ℕ) → Ahead n ≡ numberedOf count instructions z.sought → {l : ℕ} → l ≡ lineFrom z cut → answer.Ok l ≡ shownRowLine row pc s
-        deltas-line n f is-line =
+        pub deltas_line : (n : ℕ) → Ahead n ≡ numbered_of count instructions z.sought → {l : ℕ} → l ≡ line_from z cut → answer.Ok l ≡ shown_row_line row pc s
+        deltas_line n f is-line =
             shows (small-shown instructions line deltas p.anchors pc low
-            (is-line ∙ ap (lineFrom z) is ∙ ap (λ z. lineFrom z (take (pc + 1) deltas)) p.gives ∙ by-deltas instructions line deltas p.anchors pc (same_number (Ahead n) f)))
+            (is-line ∙ ap (line_from z) is ∙ ap (λ z. line_from z (take (pc + 1) deltas)) p.gives ∙ by_deltas_lem instructions line deltas p.anchors pc (same_number (Ahead n) f)))
 
     pub few : length s ≤ MOST → length cut ≤ MOST
     few h = rw is (simp (length-take, length-drop) (omega arith))

@@ -14,12 +14,12 @@ use Rattle.format.specs.declared.refusal.Refusal.TheVariants.{LineTooLarge}
 use Rattle.format.specs.Form.{Bytes}
 use Rattle.line_anchors.specs.declared.Scan.{Scan}
 use Rattle.line_lookup.specs.declared.line.LineAnswer.TheVariants as answer
-use Rattle.line_lookup.specs.Lines.{rule1, rule2, rule3, base_of, raised, byDeltas, line_of, large, answer_of}
+use Rattle.line_lookup.specs.Lines.{rule1, rule2, rule3, base_of, raised, by_deltas, line_of, large, answer_of}
 use Rattle.line_anchors.specs.Inner.Scan.{scanned, start_of}
-use Rattle.line_lookup.specs.Inner.Scan.{start_in, summed, lineFrom, numberedOf}
+use Rattle.line_lookup.specs.Inner.Scan.{start_in, summed, line_from, numbered_of}
 use Rattle.line_anchors.specs.declared.Sought.TheVariants.{Ahead, At}
-use Rattle.line_lookup.proofs.Fast.{settled, fast, none-settled}
-use Rattle.line_lookup.proofs.Scans.{lineSought, scanned-base, scanned-large, scanned-sought}
+use Rattle.line_lookup.proofs.Fast.{settled, fast, none_settled}
+use Rattle.line_lookup.proofs.Scans.{line_sought, scanned_base, scanned-large, scanned_sought}
 use Rattle.line_anchors.proofs.Tests.{picked, other}
 
 module _ (instructions line : ℕ) (deltas : Bytes) (anchors : List AbsLineInfo) (pc : ℕ) where
@@ -29,22 +29,22 @@ module _ (instructions line : ℕ) (deltas : Bytes) (anchors : List AbsLineInfo)
   abbrev scan : Scan
   scan = scanned cut pc (start_of pc line) anchors
 
-  abbrev theLine : ℕ
-  theLine = line_of instructions line deltas anchors pc
+  abbrev the_line : ℕ
+  the_line = line_of instructions line deltas anchors pc
 
   -- ## Refusal 25
   pub large-refused : scan.large ≡ true → answer.Err LineTooLarge ≡ answer_of instructions line deltas anchors pc
-  large-refused e = picked (answer.Err LineTooLarge) (answer.Ok theLine) (sym (scanned-large cut pc line anchors) ∙ e)
+  large-refused e = picked (answer.Err LineTooLarge) (answer.Ok the_line) (sym (scanned-large cut pc line anchors) ∙ e)
 
-  pub small-shown : scan.large ≡ false → {l : ℕ} → l ≡ theLine → answer.Ok l ≡ answer_of instructions line deltas anchors pc
-  small-shown e is = ap answer.Ok is ∙ other (answer.Err LineTooLarge) (answer.Ok theLine) (sym (scanned-large cut pc line anchors) ∙ e)
+  pub small-shown : scan.large ≡ false → {l : ℕ} → l ≡ the_line → answer.Ok l ≡ answer_of instructions line deltas anchors pc
+  small-shown e is = ap answer.Ok is ∙ other (answer.Err LineTooLarge) (answer.Ok the_line) (sym (scanned-large cut pc line anchors) ∙ e)
 
   -- ## Rule 2
-  second : lineSought (numberedOf (length anchors) instructions scan.sought) ≡ rule2 instructions anchors pc
+  second : line_sought (numbered_of (length anchors) instructions scan.sought) ≡ rule2 instructions anchors pc
   second = by (eqb (length anchors) instructions)
     where
-      by : (t : Bool) → lineSought (cond t scan.sought (Ahead 0)) ≡ cond t (map (λ (a : AbsLineInfo). a.line) (get_elem? anchors pc)) none
-      by true = scanned-sought cut pc line anchors
+      by : (t : Bool) → line_sought (cond t scan.sought (Ahead 0)) ≡ cond t (map (λ (a : AbsLineInfo). a.line) (get_elem? anchors pc)) none
+      by true = scanned_sought cut pc line anchors
       by false = refl
 
   not_first : (ds : Bytes) (xs : List AbsLineInfo) {l : ℕ} → rule2 instructions xs pc ≡ some l → rule1 ds xs ≡ none
@@ -56,42 +56,42 @@ module _ (instructions line : ℕ) (deltas : Bytes) (anchors : List AbsLineInfo)
   not_first [] (x ∷ xs) e = refl
   not_first (d ∷ ds) xs e = refl
 
-  pub by_number : {l : ℕ} → At l ≡ numberedOf (length anchors) instructions scan.sought → l ≡ theLine
+  pub by_number : {l : ℕ} → At l ≡ numbered_of (length anchors) instructions scan.sought → l ≡ the_line
   by_number {l} e =
-      let is : rule2 instructions anchors pc ≡ some l = sym second ∙ ap lineSought (sym e) in
+      let is : rule2 instructions anchors pc ≡ some l = sym second ∙ ap line_sought (sym e) in
       sym (ap (λ o. get_or o (get_or (rule2 instructions anchors pc) (get_or (rule3 line deltas anchors pc) 0))) (not_first deltas anchors is) ∙ ap (λ o. get_or o (get_or (rule3 line deltas anchors pc) 0)) is)
 
   -- ## Rules 3 and 4
-  module _ {n : ℕ} (e : Ahead n ≡ numberedOf (length anchors) instructions scan.sought) where
-    not-second : rule2 instructions anchors pc ≡ none
-    not-second = sym second ∙ ap lineSought (sym e)
+  module _ {n : ℕ} (e : Ahead n ≡ numbered_of (length anchors) instructions scan.sought) where
+    not_second : rule2 instructions anchors pc ≡ none
+    not_second = sym second ∙ ap line_sought (sym e)
 
     without : (xs : List AbsLineInfo) → rule2 instructions xs pc ≡ none → 0 ≡ line_of instructions line [] xs pc
     without [] e = refl
     without (x ∷ xs) e = sym (ap (λ o. get_or o 0) e)
 
-    no-deltas : cut ≡ [] → 0 ≡ theLine
-    no-deltas e = by deltas e
+    no_deltas : cut ≡ [] → 0 ≡ the_line
+    no_deltas e = by deltas e
       where
         by : (ds : Bytes) → take (pc + 1) ds ≡ [] → 0 ≡ line_of instructions line ds anchors pc
-        by [] e = without anchors not-second
+        by [] e = without anchors not_second
         by (d ∷ ds) e = absurd (let one : pc + 1 ≡ suc pc = omega arith in let size : suc (length (take pc ds)) ≡ 0 = ap length (rw one at e) in omega arith)
 
-    by-sum : byDeltas (base_of pc (record { pc = 0; line = line }) anchors) deltas anchors pc ≡ raised (summed (pos (start_in scan).line) (drop (start_in scan).pc cut))
-    by-sum =
-        ap (λ b. byDeltas b deltas anchors pc) (sym (scanned-base cut pc line anchors))
-        ∙ ap raised (fast cut anchors scan.reset (settled cut pc (start_of pc line) [] anchors (none-settled cut)) scan.base)
+    by_sum : by_deltas (base_of pc (record { pc = 0; line = line }) anchors) deltas anchors pc ≡ raised (summed (pos (start_in scan).line) (drop (start_in scan).pc cut))
+    by_sum =
+        ap (λ b. by_deltas b deltas anchors pc) (sym (scanned_base cut pc line anchors))
+        ∙ ap raised (fast cut anchors scan.reset (settled cut pc (start_of pc line) [] anchors (none_settled cut)) scan.base)
 
-    with-deltas : {d : ℕ} {xs : Bytes} → cut ≡ d ∷ xs → raised (summed (pos (start_in scan).line) (drop (start_in scan).pc cut)) ≡ theLine
-    with-deltas {d} {xs} e = sym by-sum ∙ by deltas e
+    with_deltas : {d : ℕ} {xs : Bytes} → cut ≡ d ∷ xs → raised (summed (pos (start_in scan).line) (drop (start_in scan).pc cut)) ≡ the_line
+    with_deltas {d} {xs} e = sym by_sum ∙ by deltas e
       where
-        by : (ds : Bytes) → take (pc + 1) ds ≡ d ∷ xs → byDeltas (base_of pc (record { pc = 0; line = line }) anchors) ds anchors pc ≡ line_of instructions line ds anchors pc
+        by : (ds : Bytes) → take (pc + 1) ds ≡ d ∷ xs → by_deltas (base_of pc (record { pc = 0; line = line }) anchors) ds anchors pc ≡ line_of instructions line ds anchors pc
         by [] e = absurd (let one : pc + 1 ≡ suc pc = omega arith in let size : 0 ≡ suc (length xs) = ap length (rw one at e) in omega arith)
-        by (y ∷ ds) e = sym (ap (λ o. get_or o (get_or (rule3 line (y ∷ ds) anchors pc) 0)) not-second)
+        by (y ∷ ds) e = sym (ap (λ o. get_or o (get_or (rule3 line (y ∷ ds) anchors pc) 0)) not_second)
 
-    pub by-deltas : lineFrom scan cut ≡ theLine
-    by-deltas = by cut refl
+    pub by_deltas_lem : line_from scan cut ≡ the_line
+    by_deltas_lem = by cut refl
       where
-        by : (xs : Bytes) → cut ≡ xs → lineFrom scan xs ≡ theLine
-        by [] e = no-deltas e
-        by (d ∷ xs) e = ap (λ ds. raised (summed (pos (start_in scan).line) (drop (start_in scan).pc ds))) (sym e) ∙ with-deltas e
+        by : (xs : Bytes) → cut ≡ xs → line_from scan xs ≡ the_line
+        by [] e = no_deltas e
+        by (d ∷ xs) e = ap (λ ds. raised (summed (pos (start_in scan).line) (drop (start_in scan).pc ds))) (sym e) ∙ with_deltas e

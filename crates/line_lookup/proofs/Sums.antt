@@ -19,9 +19,9 @@ use Rattle.format.specs.Limits.{MOST}
 use Rattle.format.specs.Form.{Bytes}
 use Rattle.line_anchors.specs.declared.Scan.{Scan}
 use Rattle.line_lookup.specs.Lines.{raised}
-use Rattle.line_lookup.specs.Inner.Scan.{added, summed, start_in, lineFrom}
-use Rattle.line_lookup.proofs.Range.{plus-delta, mag-added}
-use Rattle.line_anchors.proofs.Tests.{picked, other, drop-beyond}
+use Rattle.line_lookup.specs.Inner.Scan.{added, summed, start_in, line_from}
+use Rattle.line_lookup.proofs.Range.{plus_delta, mag_added}
+use Rattle.line_anchors.proofs.Tests.{picked, other, drop_beyond}
 
 -- ## add_delta
 module _ (line : ℤ) (fits : SFits w64 line) (d : ℕ) where
@@ -43,7 +43,7 @@ module _ (line : ℤ) (fits : SFits w64 line) (d : ℕ) where
   -- a sum y that was made either way
   module _ (low : mag line ≤ 2 ^ 62 + 2 ^ 32) {y : ℤ} (is : y ≡ line +ℤ to_z w8 d) where
     pub sum_fits : SFits w64 y
-    sum_fits = rw is (record { sfits = omega (arith, plus-delta line d) })
+    sum_fits = rw is (record { sfits = omega (arith, plus_delta line d) })
 
     pub sum_added : (d ≡ 128 → ⊥) → to_z w64 (of_z w64 y) ≡ added line d
     sum_added n = to_z-of_z {w = w64} sum_fits ∙ is ∙ other line (line +ℤ to_z w8 d) (ne_eqb d 128 n)
@@ -54,26 +54,26 @@ module _ (ds : Bytes) (i : ℕ) (line : ℤ) where
   one-added h = rw (add-one, drop-cons ds i 0 h)
 
   pub none_left : length ds ≤ i → summed line (drop i ds) ≡ line
-  none_left h = ap (summed line) (drop-beyond ds i h)
+  none_left h = ap (summed line) (drop_beyond ds i h)
 
 -- one turn: the line r behind the delta at i
 pub turn : {whole : ℤ} (ds : Bytes) (i : ℕ) (line : ℤ) → whole ≡ summed line (drop i ds) → mag line ≤ 2 ^ 62 + 128 * i → {r : ℤ} → r ≡ added line (get_or ds i 0) → i < length ds → length ds ≤ MOST
     → (whole ≡ summed (to_z w64 (of_z w64 r)) (drop (i + 1) ds)) × (mag (to_z w64 (of_z w64 r)) ≤ 2 ^ 62 + 128 * (i + 1))
 turn ds i line all low {r} is h few =
-    let most : mag r ≤ mag line + 128 = rw is (mag-added line (get_or ds i 0)) in
-    rw (to_z-of_z {w = w64} {z = r} (record { sfits = in-range (mag line) i (mag r) low most (omega arith) })) (all ∙ one-added ds i line h ∙ ap (λ z. summed z (drop (i + 1) ds)) (sym is), omega arith)
+    let most : mag r ≤ mag line + 128 = rw is (mag_added line (get_or ds i 0)) in
+    rw (to_z-of_z {w = w64} {z = r} (record { sfits = in_range_lem (mag line) i (mag r) low most (omega arith) })) (all ∙ one-added ds i line h ∙ ap (λ z. summed z (drop (i + 1) ds)) (sym is), omega arith)
   where
-    in-range : (m i n : ℕ) → m ≤ 2 ^ 62 + 128 * i → n ≤ m + 128 → i < MOST → n < 2 ^ 63
-    in-range m i n h k l = omega arith
+    in_range_lem : (m i n : ℕ) → m ≤ 2 ^ 62 + 128 * i → n ≤ m + 128 → i < MOST → n < 2 ^ 63
+    in_range_lem m i n h k l = omega arith
 
 -- ## line_from
-pub none_from : (z : Scan) (ds : Bytes) → length ds ≡ 0 → 0 ≡ lineFrom z ds
+pub none_from : (z : Scan) (ds : Bytes) → length ds ≡ 0 → 0 ≡ line_from z ds
 none_from z [] e = refl
 none_from z (d ∷ ds) e = absurd (omega arith)
 
-pub some-from : (z : Scan) (ds : Bytes) → (length ds ≡ 0 → ⊥) → raised (summed (pos (start_in z).line) (drop (start_in z).pc ds)) ≡ lineFrom z ds
-some-from z [] e = absurd (e refl)
-some-from z (d ∷ ds) e = refl
+pub some_from : (z : Scan) (ds : Bytes) → (length ds ≡ 0 → ⊥) → raised (summed (pos (start_in z).line) (drop (start_in z).pc ds)) ≡ line_from z ds
+some_from z [] e = absurd (e refl)
+some_from z (d ∷ ds) e = refl
 
 -- ## raise
 module _ (line : ℤ) (fits : SFits w64 line) where
@@ -83,8 +83,8 @@ module _ (line : ℤ) (fits : SFits w64 line) where
   same : held ≡ line
   same = to_z-of_z {w = w64} fits
 
-  pub raised-up : lt_z held (pos 0) ≡ true → 0 ≡ raised line
-  raised-up e = go line (rw same at e)
+  pub raised_up : lt_z held (pos 0) ≡ true → 0 ≡ raised line
+  raised_up e = go line (rw same at e)
     where
       go : (z : ℤ) → lt_z z (pos 0) ≡ true → 0 ≡ raised z
       go (pos n) e = absurd (omega (arith, ltb-true n 0 e))

@@ -24,8 +24,8 @@ increments baseline [] = baseline
 increments baseline (d ∷ ds) = increments (baseline +ℤ to_z w8 d) ds
 
 -- −1 without line information
-abbrev pub luaG_getfuncline : ℕ → Bytes → List AbsLineInfo → ℕ → ℤ
-luaG_getfuncline linedefined [] anchors pc = negsuc 0
-luaG_getfuncline linedefined (d ∷ ds) anchors pc =
+abbrev pub lua_g_getfuncline : ℕ → Bytes → List AbsLineInfo → ℕ → ℤ
+lua_g_getfuncline linedefined [] anchors pc = negsuc 0
+lua_g_getfuncline linedefined (d ∷ ds) anchors pc =
     let base = getbaseline linedefined pc anchors in
     increments (pos base.line) (drop base.pc (take (pc + 1) (d ∷ ds)))

@@ -55,12 +55,12 @@ raised (pos n) = n
 raised (negsuc n) = 0
 
 -- the deltas from the base itself up to the pc or the last
-abbrev pub byDeltas : AbsLineInfo → Bytes → List AbsLineInfo → ℕ → ℕ
-byDeltas base deltas anchors pc = raised (walked anchors base.pc (pos base.line) (drop base.pc (take (pc + 1) deltas)))
+abbrev pub by_deltas : AbsLineInfo → Bytes → List AbsLineInfo → ℕ → ℕ
+by_deltas base deltas anchors pc = raised (walked anchors base.pc (pos base.line) (drop base.pc (take (pc + 1) deltas)))
 
 abbrev pub rule3 : ℕ → Bytes → List AbsLineInfo → ℕ → Option ℕ
 rule3 line_defined [] anchors pc = none
-rule3 line_defined (d ∷ ds) anchors pc = some (byDeltas (base_of pc (record { pc = 0; line = line_defined }) anchors) (d ∷ ds) anchors pc)
+rule3 line_defined (d ∷ ds) anchors pc = some (by_deltas (base_of pc (record { pc = 0; line = line_defined }) anchors) (d ∷ ds) anchors pc)
 
 -- ## The rules in their order; 4. otherwise 0
 abbrev pub line_of : ℕ → ℕ → Bytes → List AbsLineInfo → ℕ → ℕ
@@ -75,6 +75,6 @@ abbrev pub answer_of : ℕ → ℕ → Bytes → List AbsLineInfo → ℕ → Li
 answer_of instructions line_defined deltas anchors pc = cond (large line_defined anchors) (answer.Err LineTooLarge) (answer.Ok (line_of instructions line_defined deltas anchors pc))
 
 -- 21, 22, 1 to 20 and 23 come first
-abbrev pub shownLine : ℕ → Asked Prototype → LineAnswer
-shownLine pc (found p) = answer_of (length p.instructions) p.line_defined p.line-info p.abs-line-info pc
-shownLine pc (refused q) = answer.Err q
+abbrev pub shown_line : ℕ → Asked Prototype → LineAnswer
+shown_line pc (found p) = answer_of (length p.instructions) p.line_defined p.line_info_lem p.abs_line_info pc
+shown_line pc (refused q) = answer.Err q

@@ -3,7 +3,7 @@ ghost use Rattle.std.specs.Prelude.{◌≡◌, ◌+◌, ◌^◌, ◌≤◌, leng
 ghost use Rattle.std.specs.Int.Signed.{mag};
 ghost use Rattle.format.specs.Limits.{MOST};
 ghost use Rattle.line_lookup.specs.Lines.{raised};
-ghost use Rattle.line_lookup.specs.Inner.Scan.{added, summed, start_in, lineFrom};
+ghost use Rattle.line_lookup.specs.Inner.Scan.{added, summed, start_in, line_from};
 
 use format::entry::AbsLineInfo;
 use line_anchors::Scan;
@@ -71,7 +71,7 @@ pub fn raise(line: i64) -> usize
 // The line that the deltas give, 0 without any.
 pub fn line_from(deltas: &[u8], scan: Scan) -> usize
     requires { (length deltas.now ≤ MOST) × ((start_in scan).line ≤ 2 ^ 62) }
-    ensures { result ≡ lineFrom scan deltas.now }
+    ensures { result ≡ line_from scan deltas.now }
 {
     if deltas.len() == 0 {
         return 0;

@@ -2,9 +2,9 @@
 ghost use Rattle.std.specs.Prelude.{◌≡◌, ◌≤◌, length};
 ghost use Rattle.format.specs.Limits.{MOST};
 ghost use Rattle.format.specs.ReadChunk.{read};
-ghost use Rattle.show_row.specs.Asked.{functionOf};
-ghost use Rattle.line_lookup.specs.Lines.{shownLine};
-ghost use Rattle.line_lookup.specs.Inner.Scan.{numberedOf, shownRowLine};
+ghost use Rattle.show_row.specs.Asked.{function_of};
+ghost use Rattle.line_lookup.specs.Lines.{shown_line};
+ghost use Rattle.line_lookup.specs.Inner.Scan.{numbered_of, shown_row_line};
 
 use crate::deltas::{line_from, up_to};
 use format::limits::ResourceLimits;
@@ -23,7 +23,7 @@ pub enum LineAnswer {
 
 // An anchor counts by its number only where there are as many as instructions.
 fn numbered(anchors: usize, instructions: usize, sought: Sought) -> Sought
-    ensures { result ≡ numberedOf anchors instructions sought }
+    ensures { result ≡ numbered_of anchors instructions sought }
 {
     if anchors == instructions {
         return sought;
@@ -34,7 +34,7 @@ fn numbered(anchors: usize, instructions: usize, sought: Sought) -> Sought
 // Of a function's row. Rule 1 gives what rule 4 gives, so it has no test of its own.
 fn line_in_row(s: &[u8], row: FunctionRow, pc: usize) -> LineAnswer
     requires { length s.now ≤ MOST }
-    ensures { result ≡ shownRowLine row pc s.now }
+    ensures { result ≡ shown_row_line row pc s.now }
 {
     let lists = row.lists;
     let lines = row.lines;
@@ -62,7 +62,7 @@ fn line_in_row(s: &[u8], row: FunctionRow, pc: usize) -> LineAnswer
 
 // The line of an instruction of a function, as the Rust's `Prototype::get_line_for_pc` finds it. Ruled out: the delta at the anchor skipped, lines always 0.
 pub fn get_line_for_pc(s: &[u8], limits: ResourceLimits, function: usize, pc: usize) -> LineAnswer
-    ensures { result ≡ shownLine pc (functionOf function (read limits s.now)) }
+    ensures { result ≡ shown_line pc (function_of function (read limits s.now)) }
 {
     let found = function_row(s, limits, function);
     match found {

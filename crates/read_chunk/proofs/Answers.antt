@@ -11,22 +11,22 @@ use Rattle.format.specs.GrammarHeader.{Headed}
 use Rattle.format.specs.Read.{Read, ok, refused}
 use Rattle.format.specs.ReadFields.{byte}
 use Rattle.format.specs.ReadHeader.{header}
-use Rattle.format.proofs.ExactFields.{exact-field}
-use Rattle.format.proofs.ExactHeader.{exact-header}
+use Rattle.format.proofs.ExactFields.{exact_field}
+use Rattle.format.proofs.ExactHeader.{exact_header}
 use Rattle.slice.specs.declared.cursor.Cursor.{Cursor}
 use Rattle.read_field.specs.declared.field.U8Result.TheVariants as u8
-use Rattle.slice.specs.Shown.{cursorAt}
-use Rattle.read_field.specs.Shown.{u8Result}
-use Rattle.read_field.proofs.Shows.{Was, onward, u8-err, u8-ok}
+use Rattle.slice.specs.Shown.{cursor_at}
+use Rattle.read_field.specs.Shown.{u8_result}
+use Rattle.read_field.proofs.Shows.{Was, onward, u8_err, u8_ok}
 use Rattle.read_header.specs.declared.OptionWarning.{OptionWarning}
 use Rattle.read_header.specs.declared.HeaderResult.TheVariants as header-answer
-use Rattle.read_header.specs.Shown.{firstWarning}
-use Rattle.read_header.specs.Inner.Results.{headerResult}
+use Rattle.read_header.specs.Shown.{first_warning}
+use Rattle.read_header.specs.Inner.Results.{header_result}
 use Rattle.read_prototype.proofs.On.{taken, stopped}
 use Rattle.read_chunk.specs.declared.OpeningResult.TheVariants as answer
-use Rattle.read_chunk.specs.Inner.Opening.{beforeMain, openingResult}
+use Rattle.read_chunk.specs.Inner.Opening.{before_main, opening_result}
 
-header-err : (o : Read Headed) (q : Refusal) → header-answer.Err q ≡ headerResult o → o ≡ refused q
+header-err : (o : Read Headed) (q : Refusal) → header-answer.Err q ≡ header_result o → o ≡ refused q
 header-err (ok x to rest) q e = absurd (let z : ◌≡◌ {A = ℕ} 0 1 = cc in omega arith)
 header-err (refused p) q e = cc
 
@@ -34,29 +34,29 @@ record WasHeader (o : Read Headed) (h : declared.Header) (w : OptionWarning) (to
   value : Headed
   was : Was o value to
   header : h ≡ value.header
-  warning : w ≡ firstWarning value.warnings
+  warning : w ≡ first_warning value.warnings
 
-header_ok : (o : Read Headed) (h : declared.Header) (w : OptionWarning) (c : Cursor) → header-answer.Ok h w c ≡ headerResult o → WasHeader o h w c.at
+header_ok : (o : Read Headed) (h : declared.Header) (w : OptionWarning) (c : Cursor) → header-answer.Ok h w c ≡ header_result o → WasHeader o h w c.at
 header_ok (ok x to rest) h w c e =
-    let next : c ≡ cursorAt to = cc in
+    let next : c ≡ cursor_at to = cc in
     record { value = x; was = record { rest = rest; is = rw next }; header = cc; warning = cc }
 header_ok (refused p) h w c e = absurd (let z : ◌≡◌ {A = ℕ} 0 1 = cc in omega arith)
 
 module _ (s : Bytes) where
-  pub header_refused : (q : Refusal) → header-answer.Err q ≡ headerResult (header 0 (drop 0 s)) → answer.Err q ≡ openingResult (beforeMain 0 s)
-  header_refused q e = sym (ap openingResult (stopped _ (header-err (header 0 s) q e)))
+  pub header_refused : (q : Refusal) → header-answer.Err q ≡ header_result (header 0 (drop 0 s)) → answer.Err q ≡ opening_result (before_main 0 s)
+  header_refused q e = sym (ap opening_result (stopped _ (header-err (header 0 s) q e)))
 
-  module _ (h : declared.Header) (w : OptionWarning) (c₁ : Cursor) (e₁ : header-answer.Ok h w c₁ ≡ headerResult (header 0 (drop 0 s))) where
+  module _ (h : declared.Header) (w : OptionWarning) (c₁ : Cursor) (e₁ : header-answer.Ok h w c₁ ≡ header_result (header 0 (drop 0 s))) where
     headed : WasHeader (header 0 (drop 0 s)) h w c₁.at
     headed = header_ok (header 0 (drop 0 s)) h w c₁ e₁
 
     header-on : header 0 (drop 0 s) ≡ ok headed.value c₁.at (drop c₁.at s)
-    header-on = onward exact-header s 0 headed.was
+    header-on = onward exact_header s 0 headed.was
 
-    pub byte-refused : (q : Refusal) → u8.Err q ≡ u8Result (byte c₁.at (drop c₁.at s)) → answer.Err q ≡ openingResult (beforeMain 0 s)
-    byte-refused q e = sym (ap openingResult (taken _ header-on ∙ stopped _ (u8-err (byte c₁.at (drop c₁.at s)) q e)))
+    pub byte-refused : (q : Refusal) → u8.Err q ≡ u8_result (byte c₁.at (drop c₁.at s)) → answer.Err q ≡ opening_result (before_main 0 s)
+    byte-refused q e = sym (ap opening_result (taken _ header-on ∙ stopped _ (u8_err (byte c₁.at (drop c₁.at s)) q e)))
 
-    pub before-read : (v : ℕ) (c₂ : Cursor) → u8.Ok v c₂ ≡ u8Result (byte c₁.at (drop c₁.at s)) → answer.Ok (record { header = h; warning = w; next = c₂ }) ≡ openingResult (beforeMain 0 s)
+    pub before-read : (v : ℕ) (c₂ : Cursor) → u8.Ok v c₂ ≡ u8_result (byte c₁.at (drop c₁.at s)) → answer.Ok (record { header = h; warning = w; next = c₂ }) ≡ opening_result (before_main 0 s)
     before-read v c₂ e₂ =
         (λ i. answer.Ok (record { header = headed.header i; warning = headed.warning i; next = c₂ }))
-        ∙ sym (ap openingResult (taken _ header-on ∙ taken _ (onward (exact-field 1) s c₁.at (u8-ok (byte c₁.at (drop c₁.at s)) v c₂ e₂))))
+        ∙ sym (ap opening_result (taken _ header-on ∙ taken _ (onward (exact_field 1) s c₁.at (u8_ok (byte c₁.at (drop c₁.at s)) v c₂ e₂))))

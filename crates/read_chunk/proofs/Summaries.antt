@@ -12,14 +12,14 @@ use Rattle.format.specs.declared.limits.ResourceLimits.{ResourceLimits}
 use Rattle.format.specs.declared.header.Warning.{Warning}
 use Rattle.format.specs.declared.header.Warning.TheVariants as code
 use Rattle.format.specs.Form.{Bytes}
-use Rattle.format.specs.Limits.{withinCeilings, DEEPEST, MOST, Walkable}
-use Rattle.format.specs.GrammarHeader.{Headed, Header, formatWarnings}
-use Rattle.format.specs.GrammarChunk.{Main, trailingWarnings}
-use Rattle.format.proofs.Every.{Every, any, every-then, every-is}
+use Rattle.format.specs.Limits.{within_ceilings, DEEPEST, MOST, Walkable}
+use Rattle.format.specs.GrammarHeader.{Headed, Header, format_warnings}
+use Rattle.format.specs.GrammarChunk.{Main, trailing_warnings}
+use Rattle.format.proofs.Every.{Every, any, every_then, every_is}
 use Rattle.read_header.specs.declared.OptionWarning.{OptionWarning}
 use Rattle.read_header.specs.declared.OptionWarning.TheVariants as option
-use Rattle.read_header.specs.Shown.{firstWarning}
-use Rattle.read_chunk.specs.Decoded.{shownWarnings}
+use Rattle.read_header.specs.Shown.{first_warning}
+use Rattle.read_chunk.specs.Decoded.{shown_warnings}
 use Rattle.read_chunk.specs.Inner.Decoded.{list_of}
 
 -- ## Warnings
@@ -27,38 +27,38 @@ take_none : (n : ℕ) → take {A = Warning} n [] ≡ []
 take_none zero = refl
 take_none (suc n) = refl
 
-pub none_first : (limit : ℕ) (b : OptionWarning) → shownWarnings (take limit (list_of option.None ++ list_of b)) ≡ record { first = cond (ltb 0 limit) b option.None; second = option.None }
+pub none_first : (limit : ℕ) (b : OptionWarning) → shown_warnings (take limit (list_of option.None ++ list_of b)) ≡ record { first = cond (ltb 0 limit) b option.None; second = option.None }
 none_first zero option.None = refl
 none_first zero (option.Some w) = refl
 none_first (suc n) option.None = rw (lt-ltb 0 (suc n) (omega arith))
 none_first (suc n) (option.Some w) = rw (lt-ltb 0 (suc n) (omega arith), take_none n)
 
-pub some_first : (limit : ℕ) (w : Warning) (b : OptionWarning) → shownWarnings (take limit (list_of (option.Some w) ++ list_of b)) ≡ record { first = cond (ltb 0 limit) (option.Some w) option.None; second = cond (ltb 1 limit) b option.None }
+pub some_first : (limit : ℕ) (w : Warning) (b : OptionWarning) → shown_warnings (take limit (list_of (option.Some w) ++ list_of b)) ≡ record { first = cond (ltb 0 limit) (option.Some w) option.None; second = cond (ltb 1 limit) b option.None }
 some_first zero w b = refl
 some_first (suc zero) w b = refl
 some_first (suc (suc n)) w option.None = rw (lt-ltb 0 (suc (suc n)) (omega arith), lt-ltb 1 (suc (suc n)) (omega arith))
 some_first (suc (suc n)) w (option.Some v) = rw (lt-ltb 0 (suc (suc n)) (omega arith), lt-ltb 1 (suc (suc n)) (omega arith))
 
-pub trailing-list : (at : ℕ) (rest : Bytes) → list_of (cond (eqb (length rest) 0) option.None (option.Some (code.TrailingBytes at))) ≡ trailingWarnings at rest
-trailing-list at [] = refl
-trailing-list at (x ∷ xs) = rw (ne_eqb (length (x ∷ xs)) 0 (λ e. omega arith))
+pub trailing_list : (at : ℕ) (rest : Bytes) → list_of (cond (eqb (length rest) 0) option.None (option.Some (code.TrailingBytes at))) ≡ trailing_warnings at rest
+trailing_list at [] = refl
+trailing_list at (x ∷ xs) = rw (ne_eqb (length (x ∷ xs)) 0 (λ e. omega arith))
 
 -- the header has at most one warning
-one-warning : (place format : ℕ) → formatWarnings place format ≡ list_of (firstWarning (formatWarnings place format))
-one-warning place format = by (eqb format 0)
+one_warning_lem : (place format : ℕ) → format_warnings place format ≡ list_of (first_warning (format_warnings place format))
+one_warning_lem place format = by (eqb format 0)
   where
-    by : (b : Bool) → cond b [] (code.NonStandardFormat place ∷ []) ≡ list_of (firstWarning (cond b [] (code.NonStandardFormat place ∷ [])))
+    by : (b : Bool) → cond b [] (code.NonStandardFormat place ∷ []) ≡ list_of (first_warning (cond b [] (code.NonStandardFormat place ∷ [])))
     by true = refl
     by false = refl
 
 abbrev pub AtMostOne : Headed → Type 0
-AtMostOne h = h.warnings ≡ list_of (firstWarning h.warnings)
+AtMostOne h = h.warnings ≡ list_of (first_warning h.warnings)
 
-pub every-header : Every Header AtMostOne
-every-header = every-then any λ _ _. every-then any λ place _. every-then any λ format _. every-then any λ _ _. every-is (one-warning place format)
+pub every_header : Every Header AtMostOne
+every_header = every_then any λ _ _. every_then any λ place _. every_then any λ format _. every_then any λ _ _. every_is (one_warning_lem place format)
 
-pub every-main : (L : ResourceLimits) → Every (Main L) (λ m. AtMostOne m.headed)
-every-main L = every-then every-header λ headed p. every-then any λ _ _. every-then any λ _ _. every-is p
+pub every_main : (L : ResourceLimits) → Every (Main L) (λ m. AtMostOne m.headed)
+every_main L = every_then every_header λ headed p. every_then any λ _ _. every_then any λ _ _. every_is p
 
 -- ## The ceilings
 both : (b c : Bool) → b && c ≡ true → (b ≡ true) × (c ≡ true)
@@ -66,8 +66,8 @@ both true true e = (refl, refl)
 both true false e = absurd (let z : ◌≡◌ {A = ℕ} 0 1 = cc in omega arith)
 both false c e = absurd (let z : ◌≡◌ {A = ℕ} 0 1 = cc in omega arith)
 
-pub in-ceilings : (L : ResourceLimits) → withinCeilings L ≡ true → (L.max_nesting_depth ≤ DEEPEST) × Walkable L
-in-ceilings L e =
+pub in_ceilings : (L : ResourceLimits) → within_ceilings L ≡ true → (L.max_nesting_depth ≤ DEEPEST) × Walkable L
+in_ceilings L e =
     let input = leb L.max_input_bytes MOST in
     let nesting = leb L.max_nesting_depth DEEPEST in
     let protos = leb L.max_total_prototypes MOST in
@@ -84,8 +84,8 @@ in-ceilings L e =
     let two = both input nesting three.0 in
     (leb-true _ DEEPEST two.1, (leb-true _ MOST three.1, leb-true _ MOST five.1))
 
-pub input-ceiling : (L : ResourceLimits) → withinCeilings L ≡ true → L.max_input_bytes ≤ MOST
-input-ceiling L e = by (leb L.max_input_bytes MOST) refl
+pub input_ceiling : (L : ResourceLimits) → within_ceilings L ≡ true → L.max_input_bytes ≤ MOST
+input_ceiling L e = by (leb L.max_input_bytes MOST) refl
   where
     by : (t : Bool) → leb L.max_input_bytes MOST ≡ t → L.max_input_bytes ≤ MOST
     by true h = leb-true L.max_input_bytes MOST h

@@ -2,7 +2,7 @@
 pub mod summary;
 
 ghost use Rattle.std.specs.Prelude.{◌≡◌};
-ghost use Rattle.read_chunk.specs.Inner.Opening.{beforeMain, opened, openingResult};
+ghost use Rattle.read_chunk.specs.Inner.Opening.{before_main, opened, opening_result};
 
 use format::header::Header;
 use format::limits::ResourceLimits;
@@ -30,7 +30,7 @@ pub enum OpeningResult {
 
 // The header, and the byte behind it, which is forgotten.
 fn read_before_main(s: &[u8]) -> OpeningResult
-    ensures { result ≡ openingResult (beforeMain 0 s.now) }
+    ensures { result ≡ opening_result (before_main 0 s.now) }
 {
     let begins = parse_header_lua54(s, Cursor { at: 0 });
     match begins {
@@ -58,7 +58,7 @@ fn read_before_main(s: &[u8]) -> OpeningResult
 
 // A chunk up to main, under limits. Ruled out: limits above their ceilings taken, a warning that is lost.
 pub fn open_chunk(s: &[u8], limits: ResourceLimits) -> OpeningResult
-    ensures { result ≡ openingResult (opened limits s.now) }
+    ensures { result ≡ opening_result (opened limits s.now) }
 {
     let within = limits.within_ceilings();
     if !within {

@@ -4,8 +4,8 @@ ghost use Rattle.format.specs.declared.header.Warning.TheVariants as code;
 ghost use Rattle.format.specs.ReadChunk as format;
 ghost use Rattle.format_spelling.specs.ReadSpelling.{spelling};
 ghost use Rattle.read_header.specs.declared.OptionWarning.TheVariants as option;
-ghost use Rattle.read_chunk.specs.Decoded.{shownWarnings};
-ghost use Rattle.read_chunk.specs.Inner.Decoded.{speltResult, judgedResult, decodedResult, list_of, summaryShown};
+ghost use Rattle.read_chunk.specs.Decoded.{shown_warnings};
+ghost use Rattle.read_chunk.specs.Inner.Decoded.{spelt_result, judged_result, decoded_result, list_of, summary_shown};
 
 use crate::{Opening, OpeningResult, open_chunk};
 use format::header::{Header, Warning};
@@ -77,7 +77,7 @@ fn kept(index: usize, limit: usize, warning: OptionWarning) -> OptionWarning
 
 // The warnings of the header and of the trailing bytes, as many as the limit leaves.
 fn in_order(limit: usize, of_header: OptionWarning, of_trailing: OptionWarning) -> Warnings
-    ensures { result ≡ shownWarnings (take limit (list_of of_header ++ list_of of_trailing)) }
+    ensures { result ≡ shown_warnings (take limit (list_of of_header ++ list_of of_trailing)) }
 {
     match of_header {
         OptionWarning::Some(_) => Warnings {
@@ -110,7 +110,7 @@ fn summarised(
     next: Cursor,
     functions: usize,
 ) -> Summary
-    ensures { result ≡ summaryShown s.now max_diagnostics opening next functions }
+    ensures { result ≡ summary_shown s.now max_diagnostics opening next functions }
 {
     let len = remaining(s, next);
     let trailing = trailing_warning(next.at, len);
@@ -129,7 +129,7 @@ fn summarised(
 // Judges a whole chunk under limits, in one pass, and shows how it is spelt, but no function: where it is read, main begins at byte 32 (proofs/MainAt.antt).
 // Ruled out: limits above their ceilings taken, trailing bytes that are shown and not warned of, how main alone is spelt.
 pub fn judge_spelling(s: &[u8], limits: ResourceLimits) -> SpeltResult
-    ensures { result ≡ speltResult (spelling limits s.now) (format.read limits s.now) }
+    ensures { result ≡ spelt_result (spelling limits s.now) (format.read limits s.now) }
 {
     let begins = open_chunk(s, limits);
     match begins {
@@ -167,7 +167,7 @@ pub fn judge_spelling(s: &[u8], limits: ResourceLimits) -> SpeltResult
 
 // The same, for callers that show nothing of the spelling. Ruled out: a chunk refused for how it is spelt.
 pub fn judge_chunk(s: &[u8], limits: ResourceLimits) -> JudgedResult
-    ensures { result ≡ judgedResult (format.read limits s.now) }
+    ensures { result ≡ judged_result (format.read limits s.now) }
 {
     let spelt = judge_spelling(s, limits);
     match spelt {
@@ -181,7 +181,7 @@ pub fn judge_chunk(s: &[u8], limits: ResourceLimits) -> JudgedResult
 
 // Judges a whole chunk: its summary and the row of the function that is wanted, or the refusal. Ruled out: a count of functions without main.
 pub fn decode_chunk_lua54(s: &[u8], limits: ResourceLimits, wanted: usize) -> DecodedResult
-    ensures { result ≡ decodedResult wanted (format.read limits s.now) }
+    ensures { result ≡ decoded_result wanted (format.read limits s.now) }
 {
     let begins = open_chunk(s, limits);
     match begins {

@@ -13,57 +13,57 @@ use Rattle.format.specs.Reading.{ConstantValue, integer, float, short-string, lo
 use Rattle.format.specs.Read.{Read, ok, refused, Reader, next, ◌>>=◌, give, here}
 use Rattle.format.specs.ReadFields.{field}
 use Rattle.format.specs.ReadChunk.{tagged, constant}
-use Rattle.format.proofs.ExactFields.{exact-field}
+use Rattle.format.proofs.ExactFields.{exact_field}
 use Rattle.slice.specs.declared.cursor.Cursor.{Cursor}
 use Rattle.read_field.specs.declared.field.U8Result.TheVariants as u8
-use Rattle.slice.specs.Shown.{cursorAt}
-use Rattle.read_field.specs.Shown.{u8Result, u64Result, stringResult}
-use Rattle.read_field.proofs.Shows.{Showed, onward, u8-err, u8-ok}
+use Rattle.slice.specs.Shown.{cursor_at}
+use Rattle.read_field.specs.Shown.{u8_result, u64_result, string_result}
+use Rattle.read_field.proofs.Shows.{Showed, onward, u8_err, u8_ok}
 use Rattle.read_entry.specs.declared.constant.ConstantValue as declared
 use Rattle.read_entry.specs.declared.constant.ConstantResult.{ConstantResult}
 use Rattle.read_entry.specs.declared.constant.ConstantResult.TheVariants as answer
-use Rattle.read_entry.specs.Shown.{constantValue, constantResult}
-use Rattle.read_entry.specs.Inner.Constants.{integerOf, float_of, shortStringOf, longStringOf}
+use Rattle.read_entry.specs.Shown.{constant_value, constant_result}
+use Rattle.read_entry.specs.Inner.Constants.{integer_of, float_of, short_string_of, long_string_of}
 
 -- ## Behind a tag
-pub integer-shown : (o : Read ℕ) → integerOf (u64Result o) ≡ constantResult (next o (λ n. give (integer n)))
+pub integer-shown : (o : Read ℕ) → integer_of (u64_result o) ≡ constant_result (next o (λ n. give (integer n)))
 integer-shown (ok n to rest) = refl
 integer-shown (refused q) = refl
 
-pub float-shown : (o : Read ℕ) → float_of (u64Result o) ≡ constantResult (next o (λ n. give (float n)))
+pub float-shown : (o : Read ℕ) → float_of (u64_result o) ≡ constant_result (next o (λ n. give (float n)))
 float-shown (ok n to rest) = refl
 float-shown (refused q) = refl
 
 -- an absent string is empty, at the place behind its size
-abbrev orNothing : Option LuaString → Reader LuaString
-orNothing t = here >>= λ place. give (get_or t (record { place = place; bytes = [] }))
+abbrev or_nothing : Option LuaString → Reader LuaString
+or_nothing t = here >>= λ place. give (get_or t (record { place = place; bytes = [] }))
 
-pub short-shown : (o : Read (Option LuaString)) → shortStringOf (stringResult o) ≡ constantResult (next (next o orNothing) (λ t. give (short-string t)))
+pub short-shown : (o : Read (Option LuaString)) → short_string_of (string_result o) ≡ constant_result (next (next o or_nothing) (λ t. give (short-string t)))
 short-shown (ok none to rest) = refl
 short-shown (ok (some t) to rest) = refl
 short-shown (refused q) = refl
 
-pub long-shown : (o : Read (Option LuaString)) → longStringOf (stringResult o) ≡ constantResult (next (next o orNothing) (λ t. give (long-string t)))
+pub long-shown : (o : Read (Option LuaString)) → long_string_of (string_result o) ≡ constant_result (next (next o or_nothing) (λ t. give (long-string t)))
 long-shown (ok none to rest) = refl
 long-shown (ok (some t) to rest) = refl
 long-shown (refused q) = refl
 
 -- ## The tag
 module _ (s : Bytes) (limit at : ℕ) where
-  pub tag-refused : (q : Refusal) → u8.Err q ≡ u8Result (field 1 at (drop at s)) → answer.Err q ≡ constantResult (constant limit at (drop at s))
-  tag-refused q e = rw (u8-err (field 1 at (drop at s)) q e)
+  pub tag_refused : (q : Refusal) → u8.Err q ≡ u8_result (field 1 at (drop at s)) → answer.Err q ≡ constant_result (constant limit at (drop at s))
+  tag_refused q e = rw (u8_err (field 1 at (drop at s)) q e)
 
-  pub tag_read : (v : ℕ) (c : Cursor) → u8.Ok v c ≡ u8Result (field 1 at (drop at s)) → {r : ConstantResult} → r ≡ constantResult (tagged limit at v c.at (drop c.at s))
-      → r ≡ constantResult (constant limit at (drop at s))
-  tag_read v c e f = rw (onward (exact-field 1) s at (u8-ok (field 1 at (drop at s)) v c e)) f
+  pub tag_read : (v : ℕ) (c : Cursor) → u8.Ok v c ≡ u8_result (field 1 at (drop at s)) → {r : ConstantResult} → r ≡ constant_result (tagged limit at v c.at (drop c.at s))
+      → r ≡ constant_result (constant limit at (drop at s))
+  tag_read v c e f = rw (onward (exact_field 1) s at (u8_ok (field 1 at (drop at s)) v c e)) f
 
 -- ## From what was shown back to what was read
-pub constant-err : (o : Read ConstantValue) (q : Refusal) → answer.Err q ≡ constantResult o → o ≡ refused q
-constant-err (ok k to rest) q e = absurd (let z : ◌≡◌ {A = ℕ} 0 1 = cc in omega arith)
-constant-err (refused p) q e = cc
+pub constant_err : (o : Read ConstantValue) (q : Refusal) → answer.Err q ≡ constant_result o → o ≡ refused q
+constant_err (ok k to rest) q e = absurd (let z : ◌≡◌ {A = ℕ} 0 1 = cc in omega arith)
+constant_err (refused p) q e = cc
 
-pub constant-ok : (o : Read ConstantValue) (shown : declared.ConstantValue) (c : Cursor) → answer.Ok shown c ≡ constantResult o → Showed constantValue o shown c.at
+pub constant-ok : (o : Read ConstantValue) (shown : declared.ConstantValue) (c : Cursor) → answer.Ok shown c ≡ constant_result o → Showed constant_value o shown c.at
 constant-ok (ok k to rest) shown c e =
-    let next : c ≡ cursorAt to = cc in
+    let next : c ≡ cursor_at to = cc in
     record { value = k; was = record { rest = rest; is = rw next }; shows = cc }
 constant-ok (refused p) shown c e = absurd (let z : ◌≡◌ {A = ℕ} 0 1 = cc in omega arith)

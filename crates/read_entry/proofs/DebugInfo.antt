@@ -14,64 +14,64 @@ use Rattle.format.specs.Reading.{LocalVar}
 use Rattle.format.specs.Read.{Read, ok, refused, Reader, next, ◌>>=◌, give, here}
 use Rattle.format.specs.ReadFields.{number, string}
 use Rattle.format.specs.ReadChunk.{anchor, local}
-use Rattle.format.proofs.ExactFields.{exact-number, exact-string}
+use Rattle.format.proofs.ExactFields.{exact_number, exact_string}
 use Rattle.slice.specs.declared.cursor.Cursor.{Cursor}
 use Rattle.read_field.specs.declared.field.U64Result.TheVariants as u64
 use Rattle.read_field.specs.declared.string.OptionString.{OptionString}
 use Rattle.read_field.specs.declared.string.StringResult.TheVariants as string-answer
-use Rattle.slice.specs.Shown.{cursorAt}
-use Rattle.read_field.specs.Shown.{u64Result, optionString, stringResult}
-use Rattle.read_field.proofs.Shows.{Was, Showed, Passed, onward, u64-err, u64-ok, string-err, string-ok}
+use Rattle.slice.specs.Shown.{cursor_at}
+use Rattle.read_field.specs.Shown.{u64_result, option_string, string_result}
+use Rattle.read_field.proofs.Shows.{Was, Showed, Passed, onward, u64_err, u64_ok, string_err, string-ok}
 use Rattle.read_entry.specs.declared.debug.AnchorResult.TheVariants as anchor-answer
 use Rattle.read_entry.specs.declared.debug.LocalResult.TheVariants as local-answer
-use Rattle.read_entry.specs.Readers.{RawLocal, rawLocal}
+use Rattle.read_entry.specs.Readers.{RawLocal, raw_local}
 use Rattle.read_entry.specs.Inner.Counts.{named}
-use Rattle.read_entry.specs.Shown.{anchorResult, localResult}
+use Rattle.read_entry.specs.Shown.{anchor_result, local_result}
 
 -- ## Anchors
 module _ (s : Bytes) (at : ℕ) where
-  pub pc-refused : (q : Refusal) → u64.Err q ≡ u64Result (number at (drop at s)) → anchor-answer.Err q ≡ anchorResult (anchor at (drop at s))
-  pc-refused q e = rw (u64-err (number at (drop at s)) q e)
+  pub pc_refused : (q : Refusal) → u64.Err q ≡ u64_result (number at (drop at s)) → anchor-answer.Err q ≡ anchor_result (anchor at (drop at s))
+  pc_refused q e = rw (u64_err (number at (drop at s)) q e)
 
-  module _ (pc : ℕ) (c : Cursor) (e : u64.Ok pc c ≡ u64Result (number at (drop at s))) where
+  module _ (pc : ℕ) (c : Cursor) (e : u64.Ok pc c ≡ u64_result (number at (drop at s))) where
     from-line : anchor at (drop at s) ≡ next (number c.at (drop c.at s)) (λ line. give (record { pc = pc; line = line }))
-    from-line = rw (onward exact-number s at (u64-ok (number at (drop at s)) pc c e))
+    from-line = rw (onward exact_number s at (u64_ok (number at (drop at s)) pc c e))
 
-    pub line_refused : (q : Refusal) → u64.Err q ≡ u64Result (number c.at (drop c.at s)) → anchor-answer.Err q ≡ anchorResult (anchor at (drop at s))
-    line_refused q f = rw (from-line, u64-err (number c.at (drop c.at s)) q f)
+    pub line_refused : (q : Refusal) → u64.Err q ≡ u64_result (number c.at (drop c.at s)) → anchor-answer.Err q ≡ anchor_result (anchor at (drop at s))
+    line_refused q f = rw (from-line, u64_err (number c.at (drop c.at s)) q f)
 
-    pub anchor-read : (line : ℕ) (end : Cursor) → u64.Ok line end ≡ u64Result (number c.at (drop c.at s))
-        → anchor-answer.Ok (record { pc = pc; line = line }) end ≡ anchorResult (anchor at (drop at s))
-    anchor-read line end f = rw (from-line, (u64-ok (number c.at (drop c.at s)) line end f).is)
+    pub anchor-read : (line : ℕ) (end : Cursor) → u64.Ok line end ≡ u64_result (number c.at (drop c.at s))
+        → anchor-answer.Ok (record { pc = pc; line = line }) end ≡ anchor_result (anchor at (drop at s))
+    anchor-read line end f = rw (from-line, (u64_ok (number c.at (drop c.at s)) line end f).is)
 
 -- ## Local variables
 module _ (s : Bytes) (limit at : ℕ) where
-  pub name-refused : (q : Refusal) → string-answer.Err q ≡ stringResult (string limit at (drop at s)) → local-answer.Err q ≡ localResult (rawLocal limit at (drop at s))
-  name-refused q e = rw (string-err (string limit at (drop at s)) q e)
+  pub name-refused : (q : Refusal) → string-answer.Err q ≡ string_result (string limit at (drop at s)) → local-answer.Err q ≡ local_result (raw_local limit at (drop at s))
+  name-refused q e = rw (string_err (string limit at (drop at s)) q e)
 
-  module _ (name : OptionString) (c : Cursor) (e : string-answer.Ok name c ≡ stringResult (string limit at (drop at s))) where
-    spelt : Showed optionString (string limit at (drop at s)) name c.at
+  module _ (name : OptionString) (c : Cursor) (e : string-answer.Ok name c ≡ string_result (string limit at (drop at s))) where
+    spelt : Showed option_string (string limit at (drop at s)) name c.at
     spelt = string-ok (string limit at (drop at s)) name c e
 
     abbrev numbered : ℕ → ℕ → RawLocal
     numbered startpc endpc = record { name = spelt.value; behind = c.at; startpc = startpc; endpc = endpc }
 
-    from-startpc : rawLocal limit at (drop at s) ≡ next (number c.at (drop c.at s)) (λ startpc. number >>= λ endpc. give (numbered startpc endpc))
-    from-startpc = rw (onward (exact-string limit) s at spelt.was)
+    from-startpc : raw_local limit at (drop at s) ≡ next (number c.at (drop c.at s)) (λ startpc. number >>= λ endpc. give (numbered startpc endpc))
+    from-startpc = rw (onward (exact_string limit) s at spelt.was)
 
-    pub startpc-refused : (q : Refusal) → u64.Err q ≡ u64Result (number c.at (drop c.at s)) → local-answer.Err q ≡ localResult (rawLocal limit at (drop at s))
-    startpc-refused q f = rw (from-startpc, u64-err (number c.at (drop c.at s)) q f)
+    pub startpc-refused : (q : Refusal) → u64.Err q ≡ u64_result (number c.at (drop c.at s)) → local-answer.Err q ≡ local_result (raw_local limit at (drop at s))
+    startpc-refused q f = rw (from-startpc, u64_err (number c.at (drop c.at s)) q f)
 
-    module _ (startpc : ℕ) (d : Cursor) (f : u64.Ok startpc d ≡ u64Result (number c.at (drop c.at s))) where
-      from-endpc : rawLocal limit at (drop at s) ≡ next (number d.at (drop d.at s)) (λ endpc. give (numbered startpc endpc))
-      from-endpc = rw (from-startpc, onward exact-number s c.at (u64-ok (number c.at (drop c.at s)) startpc d f))
+    module _ (startpc : ℕ) (d : Cursor) (f : u64.Ok startpc d ≡ u64_result (number c.at (drop c.at s))) where
+      from-endpc : raw_local limit at (drop at s) ≡ next (number d.at (drop d.at s)) (λ endpc. give (numbered startpc endpc))
+      from-endpc = rw (from-startpc, onward exact_number s c.at (u64_ok (number c.at (drop c.at s)) startpc d f))
 
-      pub endpc-refused : (q : Refusal) → u64.Err q ≡ u64Result (number d.at (drop d.at s)) → local-answer.Err q ≡ localResult (rawLocal limit at (drop at s))
-      endpc-refused q g = rw (from-endpc, u64-err (number d.at (drop d.at s)) q g)
+      pub endpc-refused : (q : Refusal) → u64.Err q ≡ u64_result (number d.at (drop d.at s)) → local-answer.Err q ≡ local_result (raw_local limit at (drop at s))
+      endpc-refused q g = rw (from-endpc, u64_err (number d.at (drop d.at s)) q g)
 
-      pub local-read : (endpc : ℕ) (end : Cursor) → u64.Ok endpc end ≡ u64Result (number d.at (drop d.at s))
-          → local-answer.Ok name startpc endpc end ≡ localResult (rawLocal limit at (drop at s))
-      local-read endpc end g = rw (from-endpc, (u64-ok (number d.at (drop d.at s)) endpc end g).is) (ap (λ n. local-answer.Ok n startpc endpc end) spelt.shows)
+      pub local-read : (endpc : ℕ) (end : Cursor) → u64.Ok endpc end ≡ u64_result (number d.at (drop d.at s))
+          → local-answer.Ok name startpc endpc end ≡ local_result (raw_local limit at (drop at s))
+      local-read endpc end g = rw (from-endpc, (u64_ok (number d.at (drop d.at s)) endpc end g).is) (ap (λ n. local-answer.Ok n startpc endpc end) spelt.shows)
 
 -- a local variable is one with its name as it is spelt, and `?` where it has none: behind the name, and behind each number
 module _ (name : Option LuaString) (behind : ℕ) where
@@ -87,48 +87,48 @@ module _ (name : Option LuaString) (behind : ℕ) where
   named-startpc (refused q) = refl
 
 -- what `local` and `rawLocal` read behind the spelt name
-abbrev orUnknown : Option LuaString → Reader LuaString
-orUnknown name = here >>= λ place. give (get_or name (record { place = place; bytes = 63 ∷ [] }))
+abbrev or_unknown : Option LuaString → Reader LuaString
+or_unknown name = here >>= λ place. give (get_or name (record { place = place; bytes = 63 ∷ [] }))
 
 abbrev pub numbers : LuaString → Reader LocalVar
 numbers name = number >>= λ startpc. number >>= λ endpc. give (record { name = name; startpc = startpc; endpc = endpc })
 
-abbrev rawNumbers : Option LuaString → Reader RawLocal
-rawNumbers name = here >>= λ behind. number >>= λ startpc. number >>= λ endpc. give (raw name behind startpc endpc)
+abbrev raw_numbers : Option LuaString → Reader RawLocal
+raw_numbers name = here >>= λ behind. number >>= λ startpc. number >>= λ endpc. give (raw name behind startpc endpc)
 
-pub local-named : (limit at : ℕ) (s : Bytes) → local limit at s ≡ next (rawLocal limit at s) (λ l. give (named l))
+pub local-named : (limit at : ℕ) (s : Bytes) → local limit at s ≡ next (raw_local limit at s) (λ l. give (named l))
 local-named limit at s = go (string limit at s)
   where
-    go : (o : Read (Option LuaString)) → next (next o orUnknown) numbers ≡ next (next o rawNumbers) (λ l. give (named l))
+    go : (o : Read (Option LuaString)) → next (next o or_unknown) numbers ≡ next (next o raw_numbers) (λ l. give (named l))
     go (ok name to rest) = named-startpc name to (number to rest)
     go (refused q) = refl
 
 -- ## From what was shown back to what was read
-pub anchor-err : (o : Read AbsLineInfo) (q : Refusal) → anchor-answer.Err q ≡ anchorResult o → o ≡ refused q
-anchor-err (ok a to rest) q e = absurd (let z : ◌≡◌ {A = ℕ} 0 1 = cc in omega arith)
-anchor-err (refused p) q e = cc
+pub anchor_err : (o : Read AbsLineInfo) (q : Refusal) → anchor-answer.Err q ≡ anchor_result o → o ≡ refused q
+anchor_err (ok a to rest) q e = absurd (let z : ◌≡◌ {A = ℕ} 0 1 = cc in omega arith)
+anchor_err (refused p) q e = cc
 
-pub anchor-ok : (o : Read AbsLineInfo) (a : AbsLineInfo) (c : Cursor) → anchor-answer.Ok a c ≡ anchorResult o → Was o a c.at
+pub anchor-ok : (o : Read AbsLineInfo) (a : AbsLineInfo) (c : Cursor) → anchor-answer.Ok a c ≡ anchor_result o → Was o a c.at
 anchor-ok (ok b to rest) a c e =
     let value : a ≡ b = cc in
-    let next : c ≡ cursorAt to = cc in
+    let next : c ≡ cursor_at to = cc in
     record { rest = rest; is = rw (value, next) }
 anchor-ok (refused p) a c e = absurd (let z : ◌≡◌ {A = ℕ} 0 1 = cc in omega arith)
 
 -- of a local variable, with its name
 module _ (limit at : ℕ) (s : Bytes) where
-  local-err : (o : Read RawLocal) (q : Refusal) → local-answer.Err q ≡ localResult o → o ≡ refused q
-  local-err (ok l to rest) q e = absurd (let z : ◌≡◌ {A = ℕ} 0 1 = cc in omega arith)
-  local-err (refused p) q e = cc
+  local_err : (o : Read RawLocal) (q : Refusal) → local-answer.Err q ≡ local_result o → o ≡ refused q
+  local_err (ok l to rest) q e = absurd (let z : ◌≡◌ {A = ℕ} 0 1 = cc in omega arith)
+  local_err (refused p) q e = cc
 
-  pub local-refused : (q : Refusal) → local-answer.Err q ≡ localResult (rawLocal limit at s) → local limit at s ≡ refused q
-  local-refused q e = local-named limit at s ∙ rw (local-err (rawLocal limit at s) q e)
+  pub local-refused : (q : Refusal) → local-answer.Err q ≡ local_result (raw_local limit at s) → local limit at s ≡ refused q
+  local-refused q e = local-named limit at s ∙ rw (local_err (raw_local limit at s) q e)
 
-  pub local-passed : (name : OptionString) (startpc endpc : ℕ) (c : Cursor) → local-answer.Ok name startpc endpc c ≡ localResult (rawLocal limit at s) → Passed (local limit at s) c.at
-  local-passed name startpc endpc c e = go (rawLocal limit at s) refl e
+  pub local-passed : (name : OptionString) (startpc endpc : ℕ) (c : Cursor) → local-answer.Ok name startpc endpc c ≡ local_result (raw_local limit at s) → Passed (local limit at s) c.at
+  local-passed name startpc endpc c e = go (raw_local limit at s) refl e
     where
-      go : (o : Read RawLocal) → rawLocal limit at s ≡ o → local-answer.Ok name startpc endpc c ≡ localResult o → Passed (local limit at s) c.at
+      go : (o : Read RawLocal) → raw_local limit at s ≡ o → local-answer.Ok name startpc endpc c ≡ local_result o → Passed (local limit at s) c.at
       go (ok l to rest) is e =
-          let next : c ≡ cursorAt to = cc in
+          let next : c ≡ cursor_at to = cc in
           record { value = named l; was = record { rest = rest; is = local-named limit at s ∙ rw (is, next) } }
       go (refused p) is e = absurd (let z : ◌≡◌ {A = ℕ} 0 1 = cc in omega arith)

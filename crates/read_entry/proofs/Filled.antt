@@ -13,25 +13,25 @@ use Rattle.format.specs.declared.spelling.Spelling.{Spelling}
 use Rattle.format.specs.Read.{ok, Reader, next}
 use Rattle.format.specs.ReadFields.{number, string}
 use Rattle.format.specs.ReadChunk.{always, local}
-use Rattle.format.proofs.ExactChunk.{exact-always}
+use Rattle.format.proofs.ExactChunk.{exact_always}
 use Rattle.format_spelling.specs.Spelling.{◌⊕◌, filling}
 use Rattle.format_spelling.specs.ReadSpelling as count
 use Rattle.format_spelling.specs.Inner.Tally.{counts, Between, Room, Fits, Adds}
-use Rattle.format_spelling.proofs.Sums.{join-assoc}
-use Rattle.format_spelling.proofs.SpellingLaws.{tells-always}
-use Rattle.format_spelling.proofs.Few.{few-always}
-use Rattle.format_spelling.proofs.Covers.{Covers, covers-few, between_join}
+use Rattle.format_spelling.proofs.Sums.{join_assoc}
+use Rattle.format_spelling.proofs.SpellingLaws.{tells_always}
+use Rattle.format_spelling.proofs.Few.{few_always}
+use Rattle.format_spelling.proofs.Covers.{Covers, covers_few, between_join}
 use Rattle.format_spelling.proofs.Passing.{stepped}
 use Rattle.format_spelling.proofs.Tallies.{adds-all}
 use Rattle.slice.specs.declared.cursor.Cursor.{Cursor}
 use Rattle.slice.specs.declared.cursor.CursorResult.{CursorResult}
 use Rattle.slice.specs.declared.cursor.CursorResult.TheVariants as cursor
-use Rattle.slice.specs.Inner.Results.{cursorResult}
+use Rattle.slice.specs.Inner.Results.{cursor_result}
 use Rattle.read_field.specs.declared.string.OptionString.{OptionString}
-use Rattle.read_field.specs.Shown.{optionString}
-use Rattle.read_field.proofs.Shows.{Showed, cursor-err}
-use Rattle.read_entry.specs.Inner.Absent.{ofString}
-use Rattle.read_entry.proofs.Passes.{Passes, passes-value, passes-stop, passes_on}
+use Rattle.read_field.specs.Shown.{option_string}
+use Rattle.read_field.proofs.Shows.{Showed, cursor_err}
+use Rattle.read_entry.specs.Inner.Absent.{of_string}
+use Rattle.read_entry.proofs.Passes.{Passes, passes_value, passes_stop, passes_on}
 use Rattle.read_entry.proofs.DebugInfo.{numbers}
 
 -- an absent one reads as what is given instead
@@ -41,38 +41,38 @@ or_else instead t place = get_or t (record { place = place; bytes = instead })
 abbrev filled : Bytes → Option LuaString → Reader LuaString
 filled instead t at s = ok (or_else instead t at) at s
 
-pub passes-filled : (limit : ℕ) (instead : Bytes) (at : ℕ) (s : Bytes) {n : Spelling} {a : CursorResult} {t t' : List ℕ} → Passes (string limit at s) n a t t' → Passes (always limit instead at s) n a t t'
-passes-filled limit instead at s p = passes-value (or_else instead) (string limit at s) p
+pub passes_filled : (limit : ℕ) (instead : Bytes) (at : ℕ) (s : Bytes) {n : Spelling} {a : CursorResult} {t t' : List ℕ} → Passes (string limit at s) n a t t' → Passes (always limit instead at s) n a t t'
+passes_filled limit instead at s p = passes_value (or_else instead) (string limit at s) p
 
-pub covers-filled : (limit : ℕ) → Covers (string limit) (count.always limit)
-covers-filled limit = record { covers = λ at s e. (covers-few (exact-always limit []) (tells-always limit []) (few-always limit [])).covers at s (ap (λ o. next o (filled [])) e) }
+pub covers_filled : (limit : ℕ) → Covers (string limit) (count.always limit)
+covers_filled limit = record { covers = λ at s e. (covers_few (exact_always limit []) (tells_always limit []) (few_always limit [])).covers at s (ap (λ o. next o (filled [])) e) }
 
 -- ## Its count
-filling-is : (t : Option LuaString) → ofString (optionString t) ≡ filling t
+filling-is : (t : Option LuaString) → of_string (option_string t) ≡ filling t
 filling-is none = refl
 filling-is (some t) = refl
 
-module _ (limit at : ℕ) (s : Bytes) {shown : OptionString} {to : ℕ} (w : Showed optionString (string limit at s) shown to) {t t₁ : List ℕ} (adds : Adds (string limit at s) (count.string at s) t t₁) where
-  both : counts t₁ ⊕ ofString shown ≡ counts t ⊕ count.always limit at s
+module _ (limit at : ℕ) (s : Bytes) {shown : OptionString} {to : ℕ} (w : Showed option_string (string limit at s) shown to) {t t₁ : List ℕ} (adds : Adds (string limit at s) (count.string at s) t t₁) where
+  both : counts t₁ ⊕ of_string shown ≡ counts t ⊕ count.always limit at s
   both =
-      ap (λ a. counts t₁ ⊕ a) (ap ofString w.shows ∙ filling-is w.value)
+      ap (λ a. counts t₁ ⊕ a) (ap of_string w.shows ∙ filling-is w.value)
       ∙ ap (λ a. a ⊕ filling w.value) (adds.adds w.was.is)
-      ∙ join-assoc (counts t) (count.string at s) (filling w.value)
+      ∙ join_assoc (counts t) (count.string at s) (filling w.value)
       ∙ ap (λ a. counts t ⊕ a) (sym (stepped (string limit) count.string (λ t _ _. filling t) at s w.was.is))
 
-  pub filled-fits : Room t at → to < 2 ^ 64 → Fits (counts t₁) (ofString shown)
+  pub filled-fits : Room t at → to < 2 ^ 64 → Fits (counts t₁) (of_string shown)
   filled-fits room small =
-      let b = subst (λ a. Between a 0 to) (sym both) (between_join room.room ((covers-filled limit).covers at s w.was.is)) in
+      let b = subst (λ a. Between a 0 to) (sym both) (between_join room.room ((covers_filled limit).covers at s w.was.is)) in
       record { padded = omega (arith, b.padded); filled = omega (arith, b.filled); sources = omega (arith, b.sources); repeated = omega (arith, b.repeated) }
 
-  pub filled-adds : {t₂ : List ℕ} → counts t₂ ≡ counts t₁ ⊕ ofString shown → Adds (string limit at s) (count.always limit at s) t t₂
+  pub filled-adds : {t₂ : List ℕ} → counts t₂ ≡ counts t₁ ⊕ of_string shown → Adds (string limit at s) (count.always limit at s) t t₂
   filled-adds e = adds-all (e ∙ both)
 
 -- ## A local variable: its name, and what is behind it
 module _ (limit : ℕ) (s : Bytes) (at : ℕ) where
-  pub name-stop : {n : Spelling} {q : Refusal} {t t' : List ℕ} → cursor.Err q ≡ cursorResult (string limit at (drop at s)) → Passes (local limit at (drop at s)) n (cursor.Err q) t t'
-  name-stop {q = q} e = passes-stop (always limit (63 ∷ [])) numbers at (drop at s) (ap (λ o. next o (filled (63 ∷ []))) (cursor-err (string limit at (drop at s)) q e))
+  pub name_stop : {n : Spelling} {q : Refusal} {t t' : List ℕ} → cursor.Err q ≡ cursor_result (string limit at (drop at s)) → Passes (local limit at (drop at s)) n (cursor.Err q) t t'
+  name_stop {q = q} e = passes_stop (always limit (63 ∷ [])) numbers at (drop at s) (ap (λ o. next o (filled (63 ∷ []))) (cursor_err (string limit at (drop at s)) q e))
 
   pub name-on : {k : Cursor} {a : CursorResult} {t t₁ t₂ : List ℕ} → Passes (string limit at (drop at s)) (count.always limit at (drop at s)) (cursor.Ok k) t t₁
       → ((name : LuaString) → Passes (numbers name k.at (drop k.at s)) (count.plus number count.number (λ startpc. count.number) k.at (drop k.at s)) a t₁ t₂) → Passes (local limit at (drop at s)) (count.local limit at (drop at s)) a t t₂
-  name-on one two = passes_on (exact-always limit (63 ∷ [])) (count.always limit) numbers (λ name. count.plus number count.number λ startpc. count.number) s at (passes-filled limit (63 ∷ []) at (drop at s) one) two
+  name-on one two = passes_on (exact_always limit (63 ∷ [])) (count.always limit) numbers (λ name. count.plus number count.number λ startpc. count.number) s at (passes_filled limit (63 ∷ []) at (drop at s) one) two

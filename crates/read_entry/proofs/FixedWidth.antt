@@ -10,43 +10,43 @@ use Rattle.format.specs.Form.{Bytes}
 use Rattle.format.specs.Read.{Read, ok, refused, Reader, next, ◌>>=◌, give, short, many}
 use Rattle.format.specs.ReadFields.{field}
 use Rattle.format.specs.ReadChunk.{upvalue}
-use Rattle.format.proofs.Steps.{field-short, field-enough}
+use Rattle.format.proofs.Steps.{field-short, field_enough}
 use Rattle.slice.specs.declared.cursor.CursorResult.TheVariants as cursor
-use Rattle.slice.specs.Shown.{cursorAt}
-use Rattle.slice.specs.Inner.Results.{cursorResult}
+use Rattle.slice.specs.Shown.{cursor_at}
+use Rattle.slice.specs.Inner.Results.{cursor_result}
 use Rattle.read_entry.proofs.Turns.{same_end}
 
 module _ (w : ℕ) where
   -- n fields are there
-  pub fields-enough : (n at : ℕ) (s : Bytes) → n * w ≤ length s → cursor.Ok (cursorAt (at + n * w)) ≡ cursorResult (many n (field w) at s)
-  fields-enough zero at s h = let e : at + zero * w ≡ at = omega (arith, zero-mul w) in rw e
-  fields-enough (suc n) at s h =
+  pub fields_enough : (n at : ℕ) (s : Bytes) → n * w ≤ length s → cursor.Ok (cursor_at (at + n * w)) ≡ cursor_result (many n (field w) at s)
+  fields_enough zero at s h = let e : at + zero * w ≡ at = omega (arith, zero-mul w) in rw e
+  fields_enough (suc n) at s h =
       let more = suc-mul n w in
       let e : at + suc n * w ≡ at + w + n * w = omega arith in
-      rw (field-enough w at s (omega arith), e)
-      (fields-enough n (at + w) (drop w s) (rw length-drop (omega arith)) ∙ sym (same_end _ (many n (field w) (at + w) (drop w s))))
+      rw (field_enough w at s (omega arith), e)
+      (fields_enough n (at + w) (drop w s) (rw length-drop (omega arith)) ∙ sym (same_end _ (many n (field w) (at + w) (drop w s))))
 
   -- k are there, and not one more, of n that are wanted: the refusal is where the next would begin
-  pub fields-short : (k n at : ℕ) (s : Bytes) → k < n → k * w ≤ length s → length s < k * w + w → cursor.Err (short w (at + k * w)) ≡ cursorResult (many n (field w) at s)
-  fields-short k zero at s l h m = absurd (omega arith)
-  fields-short zero (suc n) at s l h m =
+  pub fields_short : (k n at : ℕ) (s : Bytes) → k < n → k * w ≤ length s → length s < k * w + w → cursor.Err (short w (at + k * w)) ≡ cursor_result (many n (field w) at s)
+  fields_short k zero at s l h m = absurd (omega arith)
+  fields_short zero (suc n) at s l h m =
       let none = zero-mul w in
       let e : at + zero * w ≡ at = omega arith in
       rw (field-short w at s (omega arith), e)
-  fields-short (suc k) (suc n) at s l h m =
+  fields_short (suc k) (suc n) at s l h m =
       let more = suc-mul k w in
       let e : at + suc k * w ≡ at + w + k * w = omega arith in
-      rw (field-enough w at s (omega arith), e)
-      (fields-short k n (at + w) (drop w s) (omega arith) (rw length-drop (omega arith)) (rw length-drop (omega arith)) ∙ sym (same_end _ (many n (field w) (at + w) (drop w s))))
+      rw (field_enough w at s (omega arith), e)
+      (fields_short k n (at + w) (drop w s) (omega arith) (rw length-drop (omega arith)) (rw length-drop (omega arith)) ∙ sym (same_end _ (many n (field w) (at + w) (drop w s))))
 
 -- ## An upvalue is three single bytes
 -- one byte in front of what shows the same
-byte_more : {A B : Type 0} (o : Read ℕ) (f : ℕ → Reader A) (k : A → Reader B) (m : Reader (List ℕ)) → ((x at : ℕ) (s : Bytes) → cursorResult (next (f x at s) k) ≡ cursorResult (m at s))
-    → cursorResult (next (next o f) k) ≡ cursorResult (next o (λ x. m >>= λ xs. give (x ∷ xs)))
+byte_more : {A B : Type 0} (o : Read ℕ) (f : ℕ → Reader A) (k : A → Reader B) (m : Reader (List ℕ)) → ((x at : ℕ) (s : Bytes) → cursor_result (next (f x at s) k) ≡ cursor_result (m at s))
+    → cursor_result (next (next o f) k) ≡ cursor_result (next o (λ x. m >>= λ xs. give (x ∷ xs)))
 byte_more (ok x to rest) f k m same = same x to rest ∙ sym (same_end _ (m to rest))
 byte_more (refused q) f k m same = refl
 
-upvalues-bytes : (n at : ℕ) (s : Bytes) → cursorResult (many n upvalue at s) ≡ cursorResult (many (n * 3) (field 1) at s)
+upvalues-bytes : (n at : ℕ) (s : Bytes) → cursor_result (many n upvalue at s) ≡ cursor_result (many (n * 3) (field 1) at s)
 upvalues-bytes zero at s = refl
 upvalues-bytes (suc n) at s =
     let e : suc n * 3 ≡ suc (suc (suc (n * 3))) = omega arith in
@@ -57,12 +57,12 @@ upvalues-bytes (suc n) at s =
     same_end _ (many n upvalue at s) ∙ upvalues-bytes n at s)
 
 module _ (n at : ℕ) (s : Bytes) where
-  pub upvalues-enough : n * 3 ≤ length s → cursor.Ok (cursorAt (at + n * 3)) ≡ cursorResult (many n upvalue at s)
-  upvalues-enough h =
+  pub upvalues_enough : n * 3 ≤ length s → cursor.Ok (cursor_at (at + n * 3)) ≡ cursor_result (many n upvalue at s)
+  upvalues_enough h =
       let e : n * 3 * 1 ≡ n * 3 = omega arith in
-      rw (upvalues-bytes n at s) (rw e at (fields-enough 1 (n * 3) at s (omega arith)))
+      rw (upvalues-bytes n at s) (rw e at (fields_enough 1 (n * 3) at s (omega arith)))
 
-  pub upvalues-short : length s < n * 3 → cursor.Err (short 1 (at + length s)) ≡ cursorResult (many n upvalue at s)
+  pub upvalues-short : length s < n * 3 → cursor.Err (short 1 (at + length s)) ≡ cursor_result (many n upvalue at s)
   upvalues-short h =
       let e : length s * 1 ≡ length s = omega arith in
-      rw (upvalues-bytes n at s) (rw e at (fields-short 1 (length s) (n * 3) at s h (omega arith) (omega arith)))
+      rw (upvalues-bytes n at s) (rw e at (fields_short 1 (length s) (n * 3) at s h (omega arith) (omega arith)))

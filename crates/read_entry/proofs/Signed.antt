@@ -21,5 +21,5 @@ module _ (w : Width) (ones n : ℕ) (high : 2 ^ hbits w ≤ n) (missing : ones -
   pub negative_fits : SFits w (negsuc 0 -ℤ to_z w (ones - n))
   negative_fits = rw is (record { sfits = missing })
 
-  pub negative-is : to_z w (of_z w (negsuc 0 -ℤ to_z w (ones - n))) ≡ to_z w n
-  negative-is = to_z-of_z {w = w} negative_fits ∙ is ∙ rw (le-ltb n (2 ^ hbits w) high) (ap negsuc e)
+  pub negative_is : to_z w (of_z w (negsuc 0 -ℤ to_z w (ones - n))) ≡ to_z w n
+  negative_is = to_z-of_z {w = w} negative_fits ∙ is ∙ rw (le-ltb n (2 ^ hbits w) high) (ap negsuc e)

@@ -10,36 +10,36 @@ use Rattle.format.specs.Form.{Bytes, Form}
 use Rattle.format.specs.Read.{Read, ok, refused, Reader, next, ◌>>=◌, give, many}
 use Rattle.format.proofs.Exact.{Exact}
 use Rattle.slice.specs.declared.cursor.CursorResult.TheVariants as cursor
-use Rattle.slice.specs.Shown.{cursorAt}
-use Rattle.slice.specs.Inner.Results.{cursorResult}
+use Rattle.slice.specs.Shown.{cursor_at}
+use Rattle.slice.specs.Inner.Results.{cursor_result}
 use Rattle.read_field.proofs.Shows.{Was, onward}
 
 -- what is made of the value, as of a list with one item more in front, does not show
-pub same_end : {A B : Type 0} (g : A → ℕ → B) (o : Read A) → cursorResult (next o (λ x at s. ok (g x at) at s)) ≡ cursorResult o
+pub same_end : {A B : Type 0} (g : A → ℕ → B) (o : Read A) → cursor_result (next o (λ x at s. ok (g x at) at s)) ≡ cursor_result o
 same_end g (ok x to rest) = refl
 same_end g (refused q) = refl
 
 -- what n items from a place on show, those left show, from another on: the invariant of a loop over items
 abbrev pub Rest : {A : Type 0} → Reader A → Bytes → ℕ → ℕ → ℕ → ℕ → Type 0
-Rest r s n from left at = cursorResult (many n r from (drop from s)) ≡ cursorResult (many left r at (drop at s))
+Rest r s n from left at = cursor_result (many n r from (drop from s)) ≡ cursor_result (many left r at (drop at s))
 
 pub one_more : (left : ℕ) → 0 < left → left ≡ suc (left - 1)
 one_more left more = omega arith
 
 module _ {A : Type 0} (r : Reader A) (s : Bytes) (n from left at : ℕ) (inv : Rest r s n from left at) where
   -- none is left
-  pub ends : left ≤ 0 → cursor.Ok (cursorAt at) ≡ cursorResult (many n r from (drop from s))
+  pub ends : left ≤ 0 → cursor.Ok (cursor_at at) ≡ cursor_result (many n r from (drop from s))
   ends h = let e : left ≡ 0 = omega arith in rw (inv, e)
 
   module _ (more : 0 < left) where
     -- an item is refused: so is the list
-    pub stops : (q : Refusal) → r at (drop at s) ≡ refused q → cursor.Err q ≡ cursorResult (many n r from (drop from s))
+    pub stops : (q : Refusal) → r at (drop at s) ≡ refused q → cursor.Err q ≡ cursor_result (many n r from (drop from s))
     stops q e = rw (inv, one_more left more, e)
 
     -- an item is read: the rest is what is behind it
-    pub goes_on : {F : Form A} → Exact r F → {x : A} {to : ℕ} → Was (r at (drop at s)) x to → Rest r s n from (left - 1) to
-    goes_on exact {x} {to} w =
+    pub goes_on_lem : {F : Form A} → Exact r F → {x : A} {to : ℕ} → Was (r at (drop at s)) x to → Rest r s n from (left - 1) to
+    goes_on_lem exact {x} {to} w =
         inv
-        ∙ ap (λ n. cursorResult (many n r at (drop at s))) (one_more left more)
-        ∙ ap (λ o. cursorResult (next o (λ x. many (left - 1) r >>= λ xs. give (x ∷ xs)))) (onward exact s at w)
+        ∙ ap (λ n. cursor_result (many n r at (drop at s))) (one_more left more)
+        ∙ ap (λ o. cursor_result (next o (λ x. many (left - 1) r >>= λ xs. give (x ∷ xs)))) (onward exact s at w)
         ∙ same_end _ (many (left - 1) r to (drop to s))

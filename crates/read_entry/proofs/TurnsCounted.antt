@@ -17,8 +17,8 @@ use Rattle.format_spelling.proofs.Tallies.{room-on, adds_none, adds-not, adds-va
 use Rattle.slice.specs.declared.cursor.Cursor.{Cursor}
 use Rattle.slice.specs.declared.cursor.CursorResult.{CursorResult}
 use Rattle.slice.specs.declared.cursor.CursorResult.TheVariants as cursor
-use Rattle.slice.specs.Inner.Results.{cursorResult}
-use Rattle.read_field.proofs.Shows.{cursor-err, cursor-ok, onward}
+use Rattle.slice.specs.Inner.Results.{cursor_result}
+use Rattle.read_field.proofs.Shows.{cursor_err, cursor_ok, onward}
 use Rattle.read_entry.proofs.Passes.{Passes}
 use Rattle.read_entry.proofs.Turns.{Rest}
 use Rattle.read_entry.proofs.Turns as turn
@@ -49,16 +49,16 @@ module _ {A : Type 0} {r : Reader A} {c : Count} {s : Bytes} {n from left at : �
 
   module _ (more : 0 < left) where
     -- an item is refused: so is the list
-    pub stops : {q : Refusal} {t' : List ℕ} → cursor.Err q ≡ cursorResult (r at (drop at s)) → All (cursor.Err q) t'
+    pub stops : {q : Refusal} {t' : List ℕ} → cursor.Err q ≡ cursor_result (r at (drop at s)) → All (cursor.Err q) t'
     stops {q} {t'} e =
-        let is = cursor-err (r at (drop at s)) q e in
+        let is = cursor_err (r at (drop at s)) q e in
         let all = turn.stops r s n from left at inv.rest more q is in
-        (all, adds-not (cursor-err (many n r from (drop from s)) q all))
+        (all, adds-not (cursor_err (many n r from (drop from s)) q all))
 
     -- an item is read: the rest is what is behind it
-    pub goes_on : {F : Form A} → Exact r F → Covers r c → {k : Cursor} {t' : List ℕ} → cursor.Ok k ≡ cursorResult (r at (drop at s)) → Adds (r at (drop at s)) (c at (drop at s)) t t' → Left r c s n from (left - 1) k.at t₀ t'
-    goes_on exact covers {k} e adds =
-        let w = (cursor-ok (r at (drop at s)) k e).was in
+    pub goes_on_lem : {F : Form A} → Exact r F → Covers r c → {k : Cursor} {t' : List ℕ} → cursor.Ok k ≡ cursor_result (r at (drop at s)) → Adds (r at (drop at s)) (c at (drop at s)) t t' → Left r c s n from (left - 1) k.at t₀ t'
+    goes_on_lem exact covers {k} e adds =
+        let w = (cursor_ok (r at (drop at s)) k e).was in
         record {
           rest = turn.goes_on r s n from left at inv.rest more exact w;
           room = room-on covers at (drop at s) inv.room w.is adds;

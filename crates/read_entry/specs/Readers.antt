@@ -15,8 +15,8 @@ pub record RawLocal : Type 0 where
   pub startpc : ℕ
   pub endpc : ℕ
 
-abbrev pub rawLocal : ℕ → Reader RawLocal
-rawLocal limit = do
+abbrev pub raw_local : ℕ → Reader RawLocal
+raw_local limit = do
   name ← string limit
   behind ← here
   startpc ← number
@@ -28,8 +28,8 @@ pub record Count : Type 0 where
   pub count : ℕ
   pub place : ℕ
 
-abbrev pub protosCount : ℕ → Reader Count
-protosCount limit = do
+abbrev pub protos_count : ℕ → Reader Count
+protos_count limit = do
   first ← here
   protos ← number
   at_most protos limit (Prototypes first)
@@ -47,8 +47,8 @@ code per-proto before total = do
   words ← many size (field 4)
   give (record { place = place; items = words })
 
-abbrev pub lineInfo : Reader (Listed ℕ)
-lineInfo = do
+abbrev pub line_info : Reader (Listed ℕ)
+line_info = do
   size ← number
   place ← here
   deltas ← run size

@@ -3,8 +3,8 @@ ghost use Rattle.std.specs.Prelude.{◌≡◌, drop};
 ghost use Rattle.std.specs.Int.{w64};
 ghost use Rattle.std.proofs.Common.{to_z};
 ghost use Rattle.format.specs.ReadChunk as spec;
-ghost use Rattle.read_entry.specs.Shown.{constantResult};
-ghost use Rattle.read_entry.specs.Inner.Constants.{orEmpty, integerOf, float_of, shortStringOf, longStringOf};
+ghost use Rattle.read_entry.specs.Shown.{constant_result};
+ghost use Rattle.read_entry.specs.Inner.Constants.{or_empty, integer_of, float_of, short_string_of, long_string_of};
 
 use format::refusal::Refusal;
 use read_field::field::{U8Result, U64Result, read_u8, read_u64_le};
@@ -40,7 +40,7 @@ fn signed(bits: u64) -> i64
 
 // A string, or where it is absent an empty one at the place behind its size.
 fn or_empty(string: OptionString, place: usize) -> StringAt
-    ensures { result ≡ orEmpty string place }
+    ensures { result ≡ or_empty string place }
 {
     match string {
         OptionString::Some(present) => present,
@@ -53,7 +53,7 @@ fn or_empty(string: OptionString, place: usize) -> StringAt
 
 // The constant of a tag and what was read behind it.
 fn integer(bits: U64Result) -> ConstantResult
-    ensures { result ≡ integerOf bits }
+    ensures { result ≡ integer_of bits }
 {
     match bits {
         U64Result::Err(refusal) => ConstantResult::Err(refusal),
@@ -77,7 +77,7 @@ fn float(bits: U64Result) -> ConstantResult
 }
 
 fn short_string(read: StringResult) -> ConstantResult
-    ensures { result ≡ shortStringOf read }
+    ensures { result ≡ short_string_of read }
 {
     match read {
         StringResult::Err(refusal) => ConstantResult::Err(refusal),
@@ -89,7 +89,7 @@ fn short_string(read: StringResult) -> ConstantResult
 }
 
 fn long_string(read: StringResult) -> ConstantResult
-    ensures { result ≡ longStringOf read }
+    ensures { result ≡ long_string_of read }
 {
     match read {
         StringResult::Err(refusal) => ConstantResult::Err(refusal),
@@ -108,7 +108,7 @@ fn read_tagged(
     place: usize,
     tag: u8,
 ) -> ConstantResult
-    ensures { result ≡ constantResult (spec.tagged max_string_bytes place tag cursor.at (drop cursor.at s.now)) }
+    ensures { result ≡ constant_result (spec.tagged max_string_bytes place tag cursor.at (drop cursor.at s.now)) }
 {
     match tag {
         0 => ConstantResult::Ok {
@@ -133,7 +133,7 @@ fn read_tagged(
 
 // Reads a constant: its tag, and the value that the tag says. Ruled out: the tags of false and true exchanged, a string of size 0 refused.
 pub fn read_constant(s: &[u8], cursor: Cursor, max_string_bytes: usize) -> ConstantResult
-    ensures { result ≡ constantResult (spec.constant max_string_bytes cursor.at (drop cursor.at s.now)) }
+    ensures { result ≡ constant_result (spec.constant max_string_bytes cursor.at (drop cursor.at s.now)) }
 {
     let read = read_u8(s, cursor);
     match read {

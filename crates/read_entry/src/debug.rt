@@ -1,8 +1,8 @@
 // A function's debug information: anchors and local variables.
 ghost use Rattle.std.specs.Prelude.{◌≡◌, drop};
 ghost use Rattle.format.specs.ReadChunk.{anchor};
-ghost use Rattle.read_entry.specs.Readers.{rawLocal};
-ghost use Rattle.read_entry.specs.Shown.{anchorResult, localResult};
+ghost use Rattle.read_entry.specs.Readers.{raw_local};
+ghost use Rattle.read_entry.specs.Shown.{anchor_result, local_result};
 
 use format::entry::AbsLineInfo;
 use format::refusal::Refusal;
@@ -31,7 +31,7 @@ pub enum LocalResult {
 
 // Reads an anchor: its pc and its line. Ruled out: pc and line exchanged, the place behind pc given as the next.
 pub fn read_anchor(s: &[u8], cursor: Cursor) -> AnchorResult
-    ensures { result ≡ anchorResult (anchor cursor.at (drop cursor.at s.now)) }
+    ensures { result ≡ anchor_result (anchor cursor.at (drop cursor.at s.now)) }
 {
     let pc = read_value(s, cursor);
     match pc {
@@ -54,7 +54,7 @@ pub fn read_anchor(s: &[u8], cursor: Cursor) -> AnchorResult
 
 // Reads a local variable: its name and the two numbers between which it is live. Ruled out: an absent name given as an empty one, startpc and endpc exchanged.
 pub fn read_local(s: &[u8], cursor: Cursor, max_string_bytes: usize) -> LocalResult
-    ensures { result ≡ localResult (rawLocal max_string_bytes cursor.at (drop cursor.at s.now)) }
+    ensures { result ≡ local_result (raw_local max_string_bytes cursor.at (drop cursor.at s.now)) }
 {
     let name = read_string_lua54(s, cursor, max_string_bytes);
     match name {

@@ -7,8 +7,8 @@ ghost use Rattle.format.specs.ReadChunk as spec;
 ghost use Rattle.format_spelling.specs.Spelling.{◌⊕◌};
 ghost use Rattle.format_spelling.specs.ReadSpelling as count;
 ghost use Rattle.format_spelling.specs.Inner.Tally.{counts, Fits, Room, Adds};
-ghost use Rattle.slice.specs.Inner.Results.{cursorResult};
-ghost use Rattle.read_entry.specs.Inner.Absent.{ofString};
+ghost use Rattle.slice.specs.Inner.Results.{cursor_result};
+ghost use Rattle.read_entry.specs.Inner.Absent.{of_string};
 
 use format::refusal::Refusal;
 use format::spelling::Spelling;
@@ -20,7 +20,7 @@ use slice::cursor::{Cursor, CursorResult};
 
 // Eight bytes.
 fn pass_eight(s: &[u8], cursor: Cursor) -> CursorResult
-    ensures { result ≡ cursorResult (field 8 cursor.at (drop cursor.at s.now)) }
+    ensures { result ≡ cursor_result (field 8 cursor.at (drop cursor.at s.now)) }
 {
     let read = read_u64_le(s, cursor);
     match read {
@@ -32,7 +32,7 @@ fn pass_eight(s: &[u8], cursor: Cursor) -> CursorResult
 // A number.
 fn pass_number(s: &[u8], cursor: Cursor, tally: &mut Tally) -> CursorResult
     requires { Room tally.old cursor.at }
-    ensures value { result ≡ cursorResult (number cursor.at (drop cursor.at s.now)) }
+    ensures value { result ≡ cursor_result (number cursor.at (drop cursor.at s.now)) }
     ensures adds { Adds (number cursor.at (drop cursor.at s.now)) (count.number cursor.at (drop cursor.at s.now)) tally.old tally.new }
 {
     let read = tally_varint(s, cursor, tally);
@@ -45,7 +45,7 @@ fn pass_number(s: &[u8], cursor: Cursor, tally: &mut Tally) -> CursorResult
 // A string that may be absent, as the name of an upvalue.
 fn pass_string(s: &[u8], cursor: Cursor, max_string_bytes: usize, tally: &mut Tally) -> CursorResult
     requires { Room tally.old cursor.at }
-    ensures value { result ≡ cursorResult (string max_string_bytes cursor.at (drop cursor.at s.now)) }
+    ensures value { result ≡ cursor_result (string max_string_bytes cursor.at (drop cursor.at s.now)) }
     ensures adds { Adds (string max_string_bytes cursor.at (drop cursor.at s.now)) (count.string cursor.at (drop cursor.at s.now)) tally.old tally.new }
 {
     let read = tally_string(s, cursor, max_string_bytes, tally);
@@ -57,8 +57,8 @@ fn pass_string(s: &[u8], cursor: Cursor, max_string_bytes: usize, tally: &mut Ta
 
 // Counts an absent string, which the copy fills. Ruled out: an empty string counted.
 fn add_absent(tally: &mut Tally, string: OptionString)
-    requires { Fits (counts tally.old) (ofString string) }
-    ensures { counts tally.new ≡ counts tally.old ⊕ ofString string }
+    requires { Fits (counts tally.old) (of_string string) }
+    ensures { counts tally.new ≡ counts tally.old ⊕ of_string string }
 {
     match string {
         OptionString::Some(_) => {}
@@ -79,7 +79,7 @@ fn add_absent(tally: &mut Tally, string: OptionString)
 // A string that the copy fills where it is absent: a constant, or the name of a local variable. Ruled out: an absent one not counted.
 fn pass_filled(s: &[u8], cursor: Cursor, max_string_bytes: usize, tally: &mut Tally) -> CursorResult
     requires { Room tally.old cursor.at }
-    ensures value { result ≡ cursorResult (string max_string_bytes cursor.at (drop cursor.at s.now)) }
+    ensures value { result ≡ cursor_result (string max_string_bytes cursor.at (drop cursor.at s.now)) }
     ensures adds { Adds (string max_string_bytes cursor.at (drop cursor.at s.now)) (count.always max_string_bytes cursor.at (drop cursor.at s.now)) tally.old tally.new }
 {
     let read = tally_string(s, cursor, max_string_bytes, tally);
@@ -102,7 +102,7 @@ fn pass_tagged(
     tally: &mut Tally,
 ) -> CursorResult
     requires { Room tally.old cursor.at }
-    ensures value { result ≡ cursorResult (spec.tagged max_string_bytes place tag cursor.at (drop cursor.at s.now)) }
+    ensures value { result ≡ cursor_result (spec.tagged max_string_bytes place tag cursor.at (drop cursor.at s.now)) }
     ensures adds { Adds (spec.tagged max_string_bytes place tag cursor.at (drop cursor.at s.now)) (count.tagged max_string_bytes tag cursor.at (drop cursor.at s.now)) tally.old tally.new }
 {
     match tag {
@@ -123,7 +123,7 @@ fn pass_constant(
     tally: &mut Tally,
 ) -> CursorResult
     requires { Room tally.old cursor.at }
-    ensures value { result ≡ cursorResult (spec.constant max_string_bytes cursor.at (drop cursor.at s.now)) }
+    ensures value { result ≡ cursor_result (spec.constant max_string_bytes cursor.at (drop cursor.at s.now)) }
     ensures adds { Adds (spec.constant max_string_bytes cursor.at (drop cursor.at s.now)) (count.constant max_string_bytes cursor.at (drop cursor.at s.now)) tally.old tally.new }
 {
     let read = read_u8(s, cursor);
@@ -138,7 +138,7 @@ fn pass_constant(
 // An anchor: its pc and its line.
 fn pass_anchor(s: &[u8], cursor: Cursor, tally: &mut Tally) -> CursorResult
     requires { Room tally.old cursor.at }
-    ensures value { result ≡ cursorResult (spec.anchor cursor.at (drop cursor.at s.now)) }
+    ensures value { result ≡ cursor_result (spec.anchor cursor.at (drop cursor.at s.now)) }
     ensures adds { Adds (spec.anchor cursor.at (drop cursor.at s.now)) (count.anchor cursor.at (drop cursor.at s.now)) tally.old tally.new }
 {
     let pc = pass_number(s, cursor, tally);
@@ -151,7 +151,7 @@ fn pass_anchor(s: &[u8], cursor: Cursor, tally: &mut Tally) -> CursorResult
 // A local variable: its name, and the two numbers between which it is live.
 fn pass_local(s: &[u8], cursor: Cursor, max_string_bytes: usize, tally: &mut Tally) -> CursorResult
     requires { Room tally.old cursor.at }
-    ensures value { result ≡ cursorResult (spec.local max_string_bytes cursor.at (drop cursor.at s.now)) }
+    ensures value { result ≡ cursor_result (spec.local max_string_bytes cursor.at (drop cursor.at s.now)) }
     ensures adds { Adds (spec.local max_string_bytes cursor.at (drop cursor.at s.now)) (count.local max_string_bytes cursor.at (drop cursor.at s.now)) tally.old tally.new }
 {
     let name = pass_filled(s, cursor, max_string_bytes, tally);
@@ -176,7 +176,7 @@ pub fn pass_constants(
     tally: &mut Tally,
 ) -> CursorResult
     requires { Room tally.old cursor.at }
-    ensures value { result ≡ cursorResult (many n (spec.constant max_string_bytes) cursor.at (drop cursor.at s.now)) }
+    ensures value { result ≡ cursor_result (many n (spec.constant max_string_bytes) cursor.at (drop cursor.at s.now)) }
     ensures adds { Adds (many n (spec.constant max_string_bytes) cursor.at (drop cursor.at s.now)) (count.many n (spec.constant max_string_bytes) (count.constant max_string_bytes) cursor.at (drop cursor.at s.now)) tally.old tally.new }
 {
     let mut next = cursor;
@@ -197,7 +197,7 @@ pub fn pass_constants(
 // Passes over n anchors. Ruled out: one number an anchor, the last anchor left out.
 pub fn pass_anchors(s: &[u8], cursor: Cursor, n: usize, tally: &mut Tally) -> CursorResult
     requires { Room tally.old cursor.at }
-    ensures value { result ≡ cursorResult (many n spec.anchor cursor.at (drop cursor.at s.now)) }
+    ensures value { result ≡ cursor_result (many n spec.anchor cursor.at (drop cursor.at s.now)) }
     ensures adds { Adds (many n spec.anchor cursor.at (drop cursor.at s.now)) (count.many n spec.anchor count.anchor cursor.at (drop cursor.at s.now)) tally.old tally.new }
 {
     let mut next = cursor;
@@ -224,7 +224,7 @@ pub fn pass_locals(
     tally: &mut Tally,
 ) -> CursorResult
     requires { Room tally.old cursor.at }
-    ensures value { result ≡ cursorResult (many n (spec.local max_string_bytes) cursor.at (drop cursor.at s.now)) }
+    ensures value { result ≡ cursor_result (many n (spec.local max_string_bytes) cursor.at (drop cursor.at s.now)) }
     ensures adds { Adds (many n (spec.local max_string_bytes) cursor.at (drop cursor.at s.now)) (count.many n (spec.local max_string_bytes) (count.local max_string_bytes) cursor.at (drop cursor.at s.now)) tally.old tally.new }
 {
     let mut next = cursor;
@@ -251,7 +251,7 @@ pub fn pass_strings(
     tally: &mut Tally,
 ) -> CursorResult
     requires { Room tally.old cursor.at }
-    ensures value { result ≡ cursorResult (many n (string max_string_bytes) cursor.at (drop cursor.at s.now)) }
+    ensures value { result ≡ cursor_result (many n (string max_string_bytes) cursor.at (drop cursor.at s.now)) }
     ensures adds { Adds (many n (string max_string_bytes) cursor.at (drop cursor.at s.now)) (count.many n (string max_string_bytes) count.string cursor.at (drop cursor.at s.now)) tally.old tally.new }
 {
     let mut next = cursor;

@@ -3,13 +3,13 @@ ghost use Rattle.std.specs.Prelude.{◌≡◌, drop};
 ghost use Rattle.format.specs.Read.{many};
 ghost use Rattle.format.specs.ReadFields.{field};
 ghost use Rattle.format.specs.ReadChunk.{upvalue};
-ghost use Rattle.slice.specs.Inner.Results.{cursorResult};
+ghost use Rattle.slice.specs.Inner.Results.{cursor_result};
 
 use slice::cursor::{Cursor, CursorResult, remaining, short};
 
 // Passes over n instruction words. Ruled out: one word too few, the place of a missing byte instead of that of its word.
 pub fn skip_words(s: &[u8], cursor: Cursor, n: usize) -> CursorResult
-    ensures { result ≡ cursorResult (many n (field 4) cursor.at (drop cursor.at s.now)) }
+    ensures { result ≡ cursor_result (many n (field 4) cursor.at (drop cursor.at s.now)) }
 {
     let at = cursor.at;
     let there = remaining(s, cursor) / 4;
@@ -21,7 +21,7 @@ pub fn skip_words(s: &[u8], cursor: Cursor, n: usize) -> CursorResult
 
 // Passes over n upvalues of three bytes. Ruled out: two bytes accepted for the last one, its place instead of that of its missing byte.
 pub fn skip_upvalues(s: &[u8], cursor: Cursor, n: usize) -> CursorResult
-    ensures { result ≡ cursorResult (many n upvalue cursor.at (drop cursor.at s.now)) }
+    ensures { result ≡ cursor_result (many n upvalue cursor.at (drop cursor.at s.now)) }
 {
     let at = cursor.at;
     let there = remaining(s, cursor);

@@ -24,9 +24,9 @@ use Rattle.read_field.specs.declared.field.U64Result.TheVariants as u64
 use Rattle.read_field.specs.declared.varint.NumberResult.TheVariants as number
 use Rattle.read_field.specs.declared.string.OptionString.{OptionString}
 use Rattle.read_field.specs.declared.string.StringResult.TheVariants as string
-use Rattle.slice.specs.Shown.{cursorAt}
-use Rattle.slice.specs.Inner.Results.{cursorResult, and_then}
-use Rattle.read_field.specs.Shown.{u8Result, u32Result, u64Result, numberResult, optionString, stringResult}
+use Rattle.slice.specs.Shown.{cursor_at}
+use Rattle.slice.specs.Inner.Results.{cursor_result, and_then}
+use Rattle.read_field.specs.Shown.{u8_result, u32_result, u64_result, number_result, option_string, string_result}
 
 -- what a reader gave, with the rest left open
 pub record Was {A : Type 0} (o : Read A) (x : A) (to : ℕ) : Type 0 where
@@ -44,90 +44,90 @@ pub onward : {A : Type 0} {r : Reader A} {F : Form A} → Exact r F → (s : Byt
 onward exact s at {x} {to} w = w.is ∙ ap (λ rest. ok x to rest) (left exact s at w.is)
 
 -- ## Each kind of answer
-pub u64-err : (o : Read ℕ) (q : Refusal) → u64.Err q ≡ u64Result o → o ≡ refused q
-u64-err (ok v to rest) q e = absurd (let z : ◌≡◌ {A = ℕ} 0 1 = cc in omega arith)
-u64-err (refused p) q e = cc
+pub u64_err : (o : Read ℕ) (q : Refusal) → u64.Err q ≡ u64_result o → o ≡ refused q
+u64_err (ok v to rest) q e = absurd (let z : ◌≡◌ {A = ℕ} 0 1 = cc in omega arith)
+u64_err (refused p) q e = cc
 
-pub u64-ok : (o : Read ℕ) (v : ℕ) (c : Cursor) → u64.Ok v c ≡ u64Result o → Was o v c.at
-u64-ok (ok w to rest) v c e =
+pub u64_ok : (o : Read ℕ) (v : ℕ) (c : Cursor) → u64.Ok v c ≡ u64_result o → Was o v c.at
+u64_ok (ok w to rest) v c e =
     let value : v ≡ w = cc in
-    let next : c ≡ cursorAt to = cc in
+    let next : c ≡ cursor_at to = cc in
     record { rest = rest; is = rw (value, next) }
-u64-ok (refused p) v c e = absurd (let z : ◌≡◌ {A = ℕ} 0 1 = cc in omega arith)
+u64_ok (refused p) v c e = absurd (let z : ◌≡◌ {A = ℕ} 0 1 = cc in omega arith)
 
 -- of a number, whether it is padded too
-pub number-err : (padded : Bool) (o : Read ℕ) (q : Refusal) → number.Err q ≡ numberResult padded o → o ≡ refused q
-number-err padded (ok v to rest) q e = absurd (let z : ◌≡◌ {A = ℕ} 0 1 = cc in omega arith)
-number-err padded (refused p) q e = cc
+pub number_err : (padded : Bool) (o : Read ℕ) (q : Refusal) → number.Err q ≡ number_result padded o → o ≡ refused q
+number_err padded (ok v to rest) q e = absurd (let z : ◌≡◌ {A = ℕ} 0 1 = cc in omega arith)
+number_err padded (refused p) q e = cc
 
-pub number_ok : (padded : Bool) (o : Read ℕ) (v : ℕ) (c : Cursor) (p : Bool) → number.Ok v c p ≡ numberResult padded o → Was o v c.at × (p ≡ padded)
+pub number_ok : (padded : Bool) (o : Read ℕ) (v : ℕ) (c : Cursor) (p : Bool) → number.Ok v c p ≡ number_result padded o → Was o v c.at × (p ≡ padded)
 number_ok padded (ok w to rest) v c p e =
     let value : v ≡ w = cc in
-    let next : c ≡ cursorAt to = cc in
+    let next : c ≡ cursor_at to = cc in
     (record { rest = rest; is = rw (value, next) }, cc)
 number_ok padded (refused q) v c p e = absurd (let z : ◌≡◌ {A = ℕ} 0 1 = cc in omega arith)
 
-pub u8-err : (o : Read ℕ) (q : Refusal) → u8.Err q ≡ u8Result o → o ≡ refused q
-u8-err (ok v to rest) q e = absurd (let z : ◌≡◌ {A = ℕ} 0 1 = cc in omega arith)
-u8-err (refused p) q e = cc
+pub u8_err : (o : Read ℕ) (q : Refusal) → u8.Err q ≡ u8_result o → o ≡ refused q
+u8_err (ok v to rest) q e = absurd (let z : ◌≡◌ {A = ℕ} 0 1 = cc in omega arith)
+u8_err (refused p) q e = cc
 
-pub u8-ok : (o : Read ℕ) (v : ℕ) (c : Cursor) → u8.Ok v c ≡ u8Result o → Was o v c.at
-u8-ok (ok w to rest) v c e =
+pub u8_ok : (o : Read ℕ) (v : ℕ) (c : Cursor) → u8.Ok v c ≡ u8_result o → Was o v c.at
+u8_ok (ok w to rest) v c e =
     let value : v ≡ w = cc in
-    let next : c ≡ cursorAt to = cc in
+    let next : c ≡ cursor_at to = cc in
     record { rest = rest; is = rw (value, next) }
-u8-ok (refused p) v c e = absurd (let z : ◌≡◌ {A = ℕ} 0 1 = cc in omega arith)
+u8_ok (refused p) v c e = absurd (let z : ◌≡◌ {A = ℕ} 0 1 = cc in omega arith)
 
-pub u32-err : (o : Read ℕ) (q : Refusal) → u32.Err q ≡ u32Result o → o ≡ refused q
-u32-err (ok v to rest) q e = absurd (let z : ◌≡◌ {A = ℕ} 0 1 = cc in omega arith)
-u32-err (refused p) q e = cc
+pub u32_err : (o : Read ℕ) (q : Refusal) → u32.Err q ≡ u32_result o → o ≡ refused q
+u32_err (ok v to rest) q e = absurd (let z : ◌≡◌ {A = ℕ} 0 1 = cc in omega arith)
+u32_err (refused p) q e = cc
 
-pub u32-ok : (o : Read ℕ) (v : ℕ) (c : Cursor) → u32.Ok v c ≡ u32Result o → Was o v c.at
-u32-ok (ok w to rest) v c e =
+pub u32_ok : (o : Read ℕ) (v : ℕ) (c : Cursor) → u32.Ok v c ≡ u32_result o → Was o v c.at
+u32_ok (ok w to rest) v c e =
     let value : v ≡ w = cc in
-    let next : c ≡ cursorAt to = cc in
+    let next : c ≡ cursor_at to = cc in
     record { rest = rest; is = rw (value, next) }
-u32-ok (refused p) v c e = absurd (let z : ◌≡◌ {A = ℕ} 0 1 = cc in omega arith)
+u32_ok (refused p) v c e = absurd (let z : ◌≡◌ {A = ℕ} 0 1 = cc in omega arith)
 
-pub string-err : (o : Read (Option LuaString)) (q : Refusal) → string.Err q ≡ stringResult o → o ≡ refused q
-string-err (ok t to rest) q e = absurd (let z : ◌≡◌ {A = ℕ} 0 1 = cc in omega arith)
-string-err (refused p) q e = cc
+pub string_err : (o : Read (Option LuaString)) (q : Refusal) → string.Err q ≡ string_result o → o ≡ refused q
+string_err (ok t to rest) q e = absurd (let z : ◌≡◌ {A = ℕ} 0 1 = cc in omega arith)
+string_err (refused p) q e = cc
 
-pub string-ok : (o : Read (Option LuaString)) (shown : OptionString) (c : Cursor) → string.Ok shown c ≡ stringResult o → Showed optionString o shown c.at
+pub string-ok : (o : Read (Option LuaString)) (shown : OptionString) (c : Cursor) → string.Ok shown c ≡ string_result o → Showed option_string o shown c.at
 string-ok (ok t to rest) shown c e =
-    let next : c ≡ cursorAt to = cc in
+    let next : c ≡ cursor_at to = cc in
     record { value = t; was = record { rest = rest; is = rw next }; shows = cc }
 string-ok (refused p) shown c e = absurd (let z : ◌≡◌ {A = ℕ} 0 1 = cc in omega arith)
 
-pub cursor-err : {A : Type 0} (o : Read A) (q : Refusal) → cursor.Err q ≡ cursorResult o → o ≡ refused q
-cursor-err (ok v to rest) q e = absurd (let z : ◌≡◌ {A = ℕ} 0 1 = cc in omega arith)
-cursor-err (refused p) q e = cc
+pub cursor_err : {A : Type 0} (o : Read A) (q : Refusal) → cursor.Err q ≡ cursor_result o → o ≡ refused q
+cursor_err (ok v to rest) q e = absurd (let z : ◌≡◌ {A = ℕ} 0 1 = cc in omega arith)
+cursor_err (refused p) q e = cc
 
 -- of what was passed over only the end is known
 pub record Passed {A : Type 0} (o : Read A) (to : ℕ) : Type 0 where
   pub value : A
   pub was : Was o value to
 
-pub cursor-ok : {A : Type 0} (o : Read A) (c : Cursor) → cursor.Ok c ≡ cursorResult o → Passed o c.at
-cursor-ok (ok w to rest) c e =
-    let next : c ≡ cursorAt to = cc in
+pub cursor_ok : {A : Type 0} (o : Read A) (c : Cursor) → cursor.Ok c ≡ cursor_result o → Passed o c.at
+cursor_ok (ok w to rest) c e =
+    let next : c ≡ cursor_at to = cc in
     record { value = w; was = record { rest = rest; is = rw next } }
-cursor-ok (refused p) c e = absurd (let z : ◌≡◌ {A = ℕ} 0 1 = cc in omega arith)
+cursor_ok (refused p) c e = absurd (let z : ◌≡◌ {A = ℕ} 0 1 = cc in omega arith)
 
 -- one reader behind another, of which only the ends are shown
-pub then-shown : {A B : Type 0} {r : Reader A} {F : Form A} → Exact r F → (f : Reader B) (s : Bytes) (at : ℕ)
-    → cursorResult ((r >> f) at (drop at s)) ≡ and_then (cursorResult (r at (drop at s))) (λ to. cursorResult (f to (drop to s)))
-then-shown {r} exact f s at = go (r at (drop at s)) refl
+pub then_shown : {A B : Type 0} {r : Reader A} {F : Form A} → Exact r F → (f : Reader B) (s : Bytes) (at : ℕ)
+    → cursor_result ((r >> f) at (drop at s)) ≡ and_then (cursor_result (r at (drop at s))) (λ to. cursor_result (f to (drop to s)))
+then_shown {r} exact f s at = go (r at (drop at s)) refl
   where
-    go : (o : Read _) → r at (drop at s) ≡ o → cursorResult (next o (λ _. f)) ≡ and_then (cursorResult o) (λ to. cursorResult (f to (drop to s)))
+    go : (o : Read _) → r at (drop at s) ≡ o → cursor_result (next o (λ _. f)) ≡ and_then (cursor_result o) (λ to. cursor_result (f to (drop to s)))
     go (ok x to rest) e = rw (left exact s at e)
     go (refused q) e = refl
 
 -- a chain of calls, each behind the one before: what they show is what the chain of readers gives
 module _ (s : Bytes) (at : ℕ) where
-  pub on : {A B : Type 0} {r : Reader A} {F : Form A} → Exact r F → (f : Reader B) {x y : CursorResult} → x ≡ cursorResult (r at (drop at s))
-      → y ≡ and_then x (λ to. cursorResult (f to (drop to s))) → y ≡ cursorResult ((r >> f) at (drop at s))
-  on exact f e d = d ∙ ap (λ z. and_then z (λ to. cursorResult (f to (drop to s)))) e ∙ sym (then-shown exact f s at)
+  pub on : {A B : Type 0} {r : Reader A} {F : Form A} → Exact r F → (f : Reader B) {x y : CursorResult} → x ≡ cursor_result (r at (drop at s))
+      → y ≡ and_then x (λ to. cursor_result (f to (drop to s))) → y ≡ cursor_result ((r >> f) at (drop at s))
+  on exact f e d = d ∙ ap (λ z. and_then z (λ to. cursor_result (f to (drop to s)))) e ∙ sym (then_shown exact f s at)
 
 -- and how the readers are grouped does not matter
 grouped : {A B C : Type 0} (o : Read A) (f : Reader B) (g : Reader C) → next (next o (λ _. f)) (λ _. g) ≡ next o (λ _. f >> g)

@@ -1,7 +1,7 @@
 // Fields of 1, 4 and 8 bytes, low byte first.
 ghost use Rattle.std.specs.Prelude.{◌≡◌, drop};
 ghost use Rattle.format.specs.ReadFields.{field};
-ghost use Rattle.read_field.specs.Shown.{u8Result, u32Result, u64Result};
+ghost use Rattle.read_field.specs.Shown.{u8_result, u32_result, u64_result};
 
 use format::refusal::Refusal;
 use slice::cursor::{Cursor, remaining, short};
@@ -27,7 +27,7 @@ pub enum U64Result {
 
 // Reads a byte. Ruled out: the byte before the cursor, a refusal where the last byte stands at the cursor.
 pub fn read_u8(s: &[u8], cursor: Cursor) -> U8Result
-    ensures { result ≡ u8Result (field 1 cursor.at (drop cursor.at s.now)) }
+    ensures { result ≡ u8_result (field 1 cursor.at (drop cursor.at s.now)) }
 {
     let at = cursor.at;
     if at < s.len() {
@@ -41,7 +41,7 @@ pub fn read_u8(s: &[u8], cursor: Cursor) -> U8Result
 
 // Reads four bytes, low byte first. Ruled out: high byte first, a refusal with the place of the missing byte instead of the field's.
 pub fn read_u32_le(s: &[u8], cursor: Cursor) -> U32Result
-    ensures { result ≡ u32Result (field 4 cursor.at (drop cursor.at s.now)) }
+    ensures { result ≡ u32_result (field 4 cursor.at (drop cursor.at s.now)) }
 {
     let at = cursor.at;
     if remaining(s, cursor) < 4 {
@@ -55,7 +55,7 @@ pub fn read_u32_le(s: &[u8], cursor: Cursor) -> U32Result
 
 // Reads eight bytes, low byte first. Ruled out: the two halves swapped, a cursor that stays where it was.
 pub fn read_u64_le(s: &[u8], cursor: Cursor) -> U64Result
-    ensures { result ≡ u64Result (field 8 cursor.at (drop cursor.at s.now)) }
+    ensures { result ≡ u64_result (field 8 cursor.at (drop cursor.at s.now)) }
 {
     let at = cursor.at;
     if remaining(s, cursor) < 8 {

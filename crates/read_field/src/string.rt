@@ -3,7 +3,7 @@ ghost use Rattle.std.specs.Prelude.{◌≡◌, drop};
 ghost use Rattle.format.specs.ReadFields.{content, string};
 ghost use Rattle.format_spelling.specs.ReadSpelling as count;
 ghost use Rattle.format_spelling.specs.Inner.Tally.{Room, Adds};
-ghost use Rattle.read_field.specs.Shown.{stringResult};
+ghost use Rattle.read_field.specs.Shown.{string_result};
 
 use crate::field::U64Result;
 use crate::varint::{read_value, tally_varint};
@@ -39,7 +39,7 @@ fn read_content(
     cursor: Cursor,
     max_string_bytes: usize,
 ) -> StringResult
-    ensures { result ≡ stringResult (content max_string_bytes first size cursor.at (drop cursor.at s.now)) }
+    ensures { result ≡ string_result (content max_string_bytes first size cursor.at (drop cursor.at s.now)) }
 {
     if size == 0 {
         return StringResult::Ok {
@@ -66,7 +66,7 @@ fn read_content(
 
 // Reads a string: its size and its bytes. Ruled out: the place behind the size as that of a refusal.
 pub fn read_string_lua54(s: &[u8], cursor: Cursor, max_string_bytes: usize) -> StringResult
-    ensures { result ≡ stringResult (string max_string_bytes cursor.at (drop cursor.at s.now)) }
+    ensures { result ≡ string_result (string max_string_bytes cursor.at (drop cursor.at s.now)) }
 {
     let size = read_value(s, cursor);
     match size {
@@ -83,7 +83,7 @@ pub fn tally_string(
     tally: &mut Tally,
 ) -> StringResult
     requires { Room tally.old cursor.at }
-    ensures value { result ≡ stringResult (string max_string_bytes cursor.at (drop cursor.at s.now)) }
+    ensures value { result ≡ string_result (string max_string_bytes cursor.at (drop cursor.at s.now)) }
     ensures adds { Adds (string max_string_bytes cursor.at (drop cursor.at s.now)) (count.string cursor.at (drop cursor.at s.now)) tally.old tally.new }
 {
     let size = tally_varint(s, cursor, tally);

@@ -1,10 +1,10 @@
 // Numbers of variable length.
 ghost use Rattle.std.specs.Prelude.{◌≡◌, drop};
 ghost use Rattle.format.specs.ReadFields.{number};
-ghost use Rattle.format_spelling.specs.ReadSpelling.{isPadded};
+ghost use Rattle.format_spelling.specs.ReadSpelling.{is_padded};
 ghost use Rattle.format_spelling.specs.ReadSpelling as count;
 ghost use Rattle.format_spelling.specs.Inner.Tally.{Room, Adds};
-ghost use Rattle.read_field.specs.Shown.{u64Result, numberResult};
+ghost use Rattle.read_field.specs.Shown.{u64_result, number_result};
 
 use crate::field::U64Result;
 use format::refusal::Refusal;
@@ -25,7 +25,7 @@ pub enum NumberResult {
 
 // A number of any length.
 fn read_groups(s: &[u8], cursor: Cursor) -> U64Result
-    ensures { result ≡ u64Result (number cursor.at (drop cursor.at s.now)) }
+    ensures { result ≡ u64_result (number cursor.at (drop cursor.at s.now)) }
 {
     let mut value: u64 = 0;
     let mut i = cursor.at;
@@ -50,7 +50,7 @@ fn read_groups(s: &[u8], cursor: Cursor) -> U64Result
 // A longer one is padded where its first group is 0: only then is there a shorter spelling.
 // Ruled out: low group first, a number that is cut short reported as overflow, padded by any other first group than 0.
 pub fn read_varint_lua54(s: &[u8], cursor: Cursor) -> NumberResult
-    ensures { result ≡ numberResult (isPadded (drop cursor.at s.now)) (number cursor.at (drop cursor.at s.now)) }
+    ensures { result ≡ number_result (is_padded (drop cursor.at s.now)) (number cursor.at (drop cursor.at s.now)) }
 {
     let at = cursor.at;
     if s.len() <= at {
@@ -77,7 +77,7 @@ pub fn read_varint_lua54(s: &[u8], cursor: Cursor) -> NumberResult
 
 // The same, for callers that do not ask how it is spelt.
 pub fn read_value(s: &[u8], cursor: Cursor) -> U64Result
-    ensures { result ≡ u64Result (number cursor.at (drop cursor.at s.now)) }
+    ensures { result ≡ u64_result (number cursor.at (drop cursor.at s.now)) }
 {
     let read = read_varint_lua54(s, cursor);
     match read {
@@ -96,7 +96,7 @@ pub fn read_value(s: &[u8], cursor: Cursor) -> U64Result
 // The same, counted. Ruled out: a number counted that is not padded, one that is counted by its zero groups.
 pub fn tally_varint(s: &[u8], cursor: Cursor, tally: &mut Tally) -> U64Result
     requires { Room tally.old cursor.at }
-    ensures value { result ≡ u64Result (number cursor.at (drop cursor.at s.now)) }
+    ensures value { result ≡ u64_result (number cursor.at (drop cursor.at s.now)) }
     ensures adds { Adds (number cursor.at (drop cursor.at s.now)) (count.number cursor.at (drop cursor.at s.now)) tally.old tally.new }
 {
     let read = read_varint_lua54(s, cursor);

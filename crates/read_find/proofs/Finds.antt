@@ -1,6 +1,6 @@
 -- What a walk has found: at each return of `find_function`, and at each turn of the loop of `find_functions`.
 --     refuses              a walk that refuses may have left anything
---     nested-refused, tail-refused, function-shown     what a walk over a function shows, as read_walk's Passes.antt has it, from the place of a source
+--     nested_refused, tail-refused, function-shown     what a walk over a function shows, as read_walk's Passes.antt has it, from the place of a source
 --     function-found       behind a function: its own row, where it is the one wanted, else what was found in it
 --     Behind               in the loop: what was found among the functions passed
 -- Assumes nothing.
@@ -29,39 +29,39 @@ use Rattle.read_prototype.specs.declared.pass.TailCountsResult.TheVariants as ta
 use Rattle.read_prototype.specs.declared.row.OptionRow.{OptionRow}
 use Rattle.read_prototype.specs.declared.row.OptionRow.TheVariants as option
 use Rattle.read_prototype.specs.Parts as parts
-use Rattle.read_prototype.specs.Inner.Counts.{headCountsResult, tailCountsResult}
+use Rattle.read_prototype.specs.Inner.Counts.{head_counts_result, tail_counts_result}
 use Rattle.read_prototype.specs.Inner.Row.{row_of, lookup}
-use Rattle.read_prototype.specs.Inner.Whole.{prototypeOf}
+use Rattle.read_prototype.specs.Inner.Whole.{prototype_of}
 use Rattle.read_walk.specs.declared.walk.Skimmed.{Skimmed}
 use Rattle.read_walk.specs.declared.walk.SkimResult.TheVariants as skim
-use Rattle.read_walk.specs.Inner.Skim.{entered, skimResult}
-use Rattle.read_walk.proofs.OneFunction.{skim-err}
+use Rattle.read_walk.specs.Inner.Skim.{entered, skim_result}
+use Rattle.read_walk.proofs.OneFunction.{skim_err}
 use Rattle.read_walk.proofs.Passes as passes
-use Rattle.read_walk.proofs.SoFar.{SoFar, starts, ended, next-read, goes_on}
+use Rattle.read_walk.proofs.SoFar.{SoFar, starts, ended, next-read, goes_on_lem}
 use Rattle.read_find.specs.declared.spot.Above.{Above}
-use Rattle.read_find.specs.Inner.Spot.{spot_of, belowShown, standing, functionAt, functionsAt, row_at, rowOr, Found}
-use Rattle.read_find.proofs.Spots.{below-stands, this-row}
+use Rattle.read_find.specs.Inner.Spot.{spot_of, below_shown, standing, function_at, functions_at, row_at, row_or, Found}
+use Rattle.read_find.proofs.Spots.{below_stands, this_row}
 
 -- ## Among functions
 none-behind : (n k : ℕ) (ps : List Prototype) → n < k → lookup n k ps ≡ none
 none-behind n k [] h = refl
 none-behind n k (p ∷ ps) h = rw (ne_eqb n k (λ e. omega (arith, e, h))) (none-behind n (k + 1) ps (omega (arith, h)))
 
-row-append : (n k : ℕ) (ps qs : List Prototype) (r : OptionRow) → rowOr (lookup n k (ps ++ qs)) r ≡ rowOr (lookup n (k + length ps) qs) (rowOr (lookup n k ps) r)
-row-append n k [] qs r = let e : k ≡ k + 0 = omega arith in ap (λ j. rowOr (lookup n j qs) r) e
-row-append n k (p ∷ ps) qs r = by (row-append n (k + 1) ps qs r) (eqb n k) refl
+row_append : (n k : ℕ) (ps qs : List Prototype) (r : OptionRow) → row_or (lookup n k (ps ++ qs)) r ≡ row_or (lookup n (k + length ps) qs) (row_or (lookup n k ps) r)
+row_append n k [] qs r = let e : k ≡ k + 0 = omega arith in ap (λ j. row_or (lookup n j qs) r) e
+row_append n k (p ∷ ps) qs r = by (row_append n (k + 1) ps qs r) (eqb n k) refl
   where
-    by : rowOr (lookup n (k + 1) (ps ++ qs)) r ≡ rowOr (lookup n (k + 1 + length ps) qs) (rowOr (lookup n (k + 1) ps) r) → (t : Bool) → eqb n k ≡ t → rowOr (cond t (some p) (lookup n (k + 1) (ps ++ qs))) r ≡ rowOr (lookup n (k + length (p ∷ ps)) qs) (rowOr (cond t (some p) (lookup n (k + 1) ps)) r)
-    by more true e = let same : n ≡ k = eqb-true n k e in sym (ap (λ o. rowOr o (option.Some (row_of p))) (none-behind n (k + length (p ∷ ps)) qs (omega arith)))
-    by more false e = let behind : k + 1 + length ps ≡ k + length (p ∷ ps) = omega arith in more ∙ ap (λ j. rowOr (lookup n j qs) (rowOr (lookup n (k + 1) ps) r)) behind
+    by : row_or (lookup n (k + 1) (ps ++ qs)) r ≡ row_or (lookup n (k + 1 + length ps) qs) (row_or (lookup n (k + 1) ps) r) → (t : Bool) → eqb n k ≡ t → row_or (cond t (some p) (lookup n (k + 1) (ps ++ qs))) r ≡ row_or (lookup n (k + length (p ∷ ps)) qs) (row_or (cond t (some p) (lookup n (k + 1) ps)) r)
+    by more true e = let same : n ≡ k = eqb-true n k e in sym (ap (λ o. row_or o (option.Some (row_of p))) (none-behind n (k + length (p ∷ ps)) qs (omega arith)))
+    by more false e = let behind : k + 1 + length ps ≡ k + length (p ∷ ps) = omega arith in more ∙ ap (λ j. row_or (lookup n j qs) (row_or (lookup n (k + 1) ps) r)) behind
 
-pub refuses : (wanted k : ℕ) (w : grammar.Where) (o : Read (List Prototype)) (r r' : OptionRow) {q : Refusal} → skim.Err q ≡ skimResult w o → (skim.Err q ≡ skimResult w o) × Found wanted k o r r'
-refuses wanted k w o r r' {q} e = (e, record { found = λ ps to rest is. absurd (never (sym (skim-err w o q e) ∙ is)) })
+pub refuses : (wanted k : ℕ) (w : grammar.Where) (o : Read (List Prototype)) (r r' : OptionRow) {q : Refusal} → skim.Err q ≡ skim_result w o → (skim.Err q ≡ skim_result w o) × Found wanted k o r r'
+refuses wanted k w o r r' {q} e = (e, record { found = λ ps to rest is. absurd (never (sym (skim_err w o q e) ∙ is)) })
 
 -- ## A function
 module _ (s : Bytes) (L : ResourceLimits) (left : ℕ) (above : Above) (from : Skimmed)
-    (n : HeadCounts) (c₁ : Cursor) (e₁ : head-answer.Ok n c₁ ≡ headCountsResult (parts.head L from.instructions from.next.at (drop from.next.at s)))
-    (nest : Above) (inherits : nest ≡ belowShown above from n.named) where
+    (n : HeadCounts) (c₁ : Cursor) (e₁ : head-answer.Ok n c₁ ≡ head_counts_result (parts.head L from.instructions from.next.at (drop from.next.at s)))
+    (nest : Above) (inherits : nest ≡ below_shown above from n.named) where
   abbrev place : grammar.Where
   place = standing L s above from
 
@@ -75,76 +75,76 @@ module _ (s : Bytes) (L : ResourceLimits) (left : ℕ) (above : Above) (from : S
   stands : standing L s nest first ≡ within
   stands =
       ap (λ a. standing L s a first) inherits
-      ∙ ap (λ n. standing L s (belowShown above from n.named) (record { next = c₁; number = from.number + 1; instructions = from.instructions + n.instructions })) (passes.head-counts s L left place from.next.at refl n c₁ e₁)
-      ∙ below-stands L s above from (passes.head-on s L left place from.next.at refl n c₁ e₁) c₁
+      ∙ ap (λ n. standing L s (below_shown above from n.named) (record { next = c₁; number = from.number + 1; instructions = from.instructions + n.instructions })) (passes.head-counts s L left place from.next.at refl n c₁ e₁)
+      ∙ below_stands L s above from (passes.head-on s L left place from.next.at refl n c₁ e₁) c₁
 
-  shown-there : skimResult (standing L s nest first) (functionsAt L s n.protos left nest first) ≡ skimResult within (passes.inner s L left place from.next.at refl n c₁ e₁)
-  shown-there = ap (λ w. skimResult w (forest n.protos (entered L left) w c₁.at (drop c₁.at s))) stands
+  shown-there : skim_result (standing L s nest first) (functions_at L s n.protos left nest first) ≡ skim_result within (passes.inner s L left place from.next.at refl n c₁ e₁)
+  shown-there = ap (λ w. skim_result w (forest n.protos (entered L left) w c₁.at (drop c₁.at s))) stands
 
-  pub nested-refused : (q : Refusal) → skim.Err q ≡ skimResult (standing L s nest first) (functionsAt L s n.protos left nest first) → skim.Err q ≡ skimResult place (functionAt L s left above from)
-  nested-refused q e = passes.nested-refused s L left place from.next.at refl n c₁ e₁ q (e ∙ shown-there)
+  pub nested_refused : (q : Refusal) → skim.Err q ≡ skim_result (standing L s nest first) (functions_at L s n.protos left nest first) → skim.Err q ≡ skim_result place (function_at L s left above from)
+  nested_refused q e = passes.nested_refused s L left place from.next.at refl n c₁ e₁ q (e ∙ shown-there)
 
-  module _ (k : Skimmed) (e₂ : skim.Ok k ≡ skimResult (standing L s nest first) (functionsAt L s n.protos left nest first)) where
-    pub tail-refused : (q : Refusal) → tail-answer.Err q ≡ tailCountsResult (parts.tail L.max_string_bytes k.next.at (drop k.next.at s)) → skim.Err q ≡ skimResult place (functionAt L s left above from)
+  module _ (k : Skimmed) (e₂ : skim.Ok k ≡ skim_result (standing L s nest first) (functions_at L s n.protos left nest first)) where
+    pub tail-refused : (q : Refusal) → tail-answer.Err q ≡ tail_counts_result (parts.tail L.max_string_bytes k.next.at (drop k.next.at s)) → skim.Err q ≡ skim_result place (function_at L s left above from)
     tail-refused = passes.tail-refused s L left place from.next.at refl n c₁ e₁ k (e₂ ∙ shown-there)
 
-    module _ (t : TailCounts) (c₃ : Cursor) (e₃ : tail-answer.Ok t c₃ ≡ tailCountsResult (parts.tail L.max_string_bytes k.next.at (drop k.next.at s))) where
-      pub function-shown : skim.Ok (record { next = c₃; number = k.number; instructions = k.instructions }) ≡ skimResult place (functionAt L s left above from)
+    module _ (t : TailCounts) (c₃ : Cursor) (e₃ : tail-answer.Ok t c₃ ≡ tail_counts_result (parts.tail L.max_string_bytes k.next.at (drop k.next.at s))) where
+      pub function-shown : skim.Ok (record { next = c₃; number = k.number; instructions = k.instructions }) ≡ skim_result place (function_at L s left above from)
       function-shown = passes.function-shown s L left place from.next.at refl n c₁ e₁ k (e₂ ∙ shown-there) t c₃ e₃
 
       abbrev this : Prototype
-      this = prototypeOf place from.next.at (passes.its-head s L left place from.next.at refl n c₁ e₁) (passes.its-tail s L left place from.next.at refl n c₁ e₁ k (e₂ ∙ shown-there) t c₃ e₃) c₃.at
+      this = prototype_of place from.next.at (passes.its_head s L left place from.next.at refl n c₁ e₁) (passes.its_tail s L left place from.next.at refl n c₁ e₁ k (e₂ ∙ shown-there) t c₃ e₃) c₃.at
 
       abbrev those : List Prototype
       those = (passes.nested s L left place from.next.at refl n c₁ e₁ k (e₂ ∙ shown-there)).value
 
-      its-row : row_at L s (spot_of above from k.next.at) ≡ option.Some (row_of this)
-      its-row = this-row L s above from k.next.at (passes.head-on s L left place from.next.at refl n c₁ e₁) (passes.tailed s L left place from.next.at refl n c₁ e₁ k (e₂ ∙ shown-there) t c₃ e₃).is
+      its_row : row_at L s (spot_of above from k.next.at) ≡ option.Some (row_of this)
+      its_row = this_row L s above from k.next.at (passes.head-on s L left place from.next.at refl n c₁ e₁) (passes.tailed s L left place from.next.at refl n c₁ e₁ k (e₂ ∙ shown-there) t c₃ e₃).is
 
-      pub function-found : (wanted : ℕ) (l₀ l₁ l₂ : List ℕ) → Found wanted (from.number + 1) (functionsAt L s n.protos left nest first) (row_at L s l₀) (row_at L s l₁)
-          → l₂ ≡ cond (eqb wanted from.number) (spot_of above from k.next.at) l₁ → Found wanted from.number (functionAt L s left above from) (row_at L s l₀) (row_at L s l₂)
+      pub function-found : (wanted : ℕ) (l₀ l₁ l₂ : List ℕ) → Found wanted (from.number + 1) (functions_at L s n.protos left nest first) (row_at L s l₀) (row_at L s l₁)
+          → l₂ ≡ cond (eqb wanted from.number) (spot_of above from k.next.at) l₁ → Found wanted from.number (function_at L s left above from) (row_at L s l₀) (row_at L s l₂)
       function-found wanted l₀ l₁ l₂ f put = record {
         found = λ ps to rest is.
             let both = sym (passes.function-read s L left place from.next.at refl n c₁ e₁ k (e₂ ∙ shown-there) t c₃ e₃) ∙ is in
             let same : this ∷ those ≡ ps = cc in
-            ap (row_at L s) put ∙ by (eqb wanted from.number) ∙ ap (λ ps. rowOr (lookup wanted from.number ps) (row_at L s l₀)) same;
+            ap (row_at L s) put ∙ by (eqb wanted from.number) ∙ ap (λ ps. row_or (lookup wanted from.number ps) (row_at L s l₀)) same;
       }
         where
-          inner-found : row_at L s l₁ ≡ rowOr (lookup wanted (from.number + 1) those) (row_at L s l₀)
-          inner-found =
+          inner_found : row_at L s l₁ ≡ row_or (lookup wanted (from.number + 1) those) (row_at L s l₀)
+          inner_found =
               let there : Found wanted (from.number + 1) (passes.inner s L left place from.next.at refl n c₁ e₁) (row_at L s l₀) (row_at L s l₁) = subst (λ w. Found wanted (from.number + 1) (forest n.protos (entered L left) w c₁.at (drop c₁.at s)) (row_at L s l₀) (row_at L s l₁)) stands f in
               there.found those _ _ (passes.nested s L left place from.next.at refl n c₁ e₁ k (e₂ ∙ shown-there)).is
 
-          by : (b : Bool) → row_at L s (cond b (spot_of above from k.next.at) l₁) ≡ rowOr (cond b (some this) (lookup wanted (from.number + 1) those)) (row_at L s l₀)
-          by true = its-row
-          by false = inner-found
+          by : (b : Bool) → row_at L s (cond b (spot_of above from k.next.at) l₁) ≡ row_or (cond b (some this) (lookup wanted (from.number + 1) those)) (row_at L s l₀)
+          by true = its_row
+          by false = inner_found
 
 -- ## The loop
 pub record Behind (s : Bytes) (L : ResourceLimits) (above : Above) (wanted n left : ℕ) (from : Skimmed) (r₀ : OptionRow) (k : Skimmed) (more : ℕ) (r : OptionRow) : Type 0 where
   pub passed : List Prototype
   pub so_far : SoFar (entered L left) s (standing L s above from) n from.next.at k more passed
-  pub row : r ≡ rowOr (lookup wanted from.number passed) r₀
+  pub row : r ≡ row_or (lookup wanted from.number passed) r₀
 
 pub starts-behind : (s : Bytes) (L : ResourceLimits) (above : Above) (wanted n left : ℕ) (from : Skimmed) (r : OptionRow) → Behind s L above wanted n left from r from n r
 starts-behind s L above wanted n left from r = record { passed = []; so_far = starts (entered L left) s (standing L s above from) n from refl refl; row = refl }
 
 module _ {s : Bytes} {L : ResourceLimits} {above : Above} {wanted n left : ℕ} {from : Skimmed} {r₀ : OptionRow} {k : Skimmed} {more : ℕ} {r : OptionRow} (b : Behind s L above wanted n left from r₀ k more r) where
-  pub ends-behind : more ≤ 0 → Found wanted from.number (functionsAt L s n left above from) r₀ r
-  ends-behind over = record {
+  pub ends_behind : more ≤ 0 → Found wanted from.number (functions_at L s n left above from) r₀ r
+  ends_behind over = record {
     found = λ ps to rest is.
         let both = sym (ended b.so_far over) ∙ is in
         let same : b.passed ≡ ps = cc in
-        b.row ∙ ap (λ ps. rowOr (lookup wanted from.number ps) r₀) same;
+        b.row ∙ ap (λ ps. row_or (lookup wanted from.number ps) r₀) same;
   }
 
-  pub on-behind : (more_left : 0 < more) (level : 0 < left) (few : k.number ≤ L.max_total_prototypes) (later : Skimmed) → skim.Ok later ≡ skimResult (standing L s above k) (functionAt L s (left - 1) above k)
-      → (r' : OptionRow) → Found wanted k.number (functionAt L s (left - 1) above k) r r' → Behind s L above wanted n left from r₀ later (more - 1) r'
+  pub on-behind : (more_left : 0 < more) (level : 0 < left) (few : k.number ≤ L.max_total_prototypes) (later : Skimmed) → skim.Ok later ≡ skim_result (standing L s above k) (function_at L s (left - 1) above k)
+      → (r' : OptionRow) → Found wanted k.number (function_at L s (left - 1) above k) r r' → Behind s L above wanted n left from r₀ later (more - 1) r'
   on-behind more_left level few later e r' f =
       let this = next-read L left b.so_far more_left level few later e in
       record {
         passed = b.passed ++ this.value;
-        so_far = goes_on L left b.so_far more_left level few later e;
+        so_far = goes_on_lem L left b.so_far more_left level few later e;
         row = f.found this.value _ _ this.is
-            ∙ (λ i. rowOr (lookup wanted (b.so_far.number i) this.value) (b.row i))
-            ∙ sym (row-append wanted from.number b.passed this.value r₀);
+            ∙ (λ i. row_or (lookup wanted (b.so_far.number i) this.value) (b.row i))
+            ∙ sym (row_append wanted from.number b.passed this.value r₀);
       }

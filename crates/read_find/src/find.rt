@@ -3,7 +3,7 @@ ghost use Rattle.std.specs.Prelude.{◌≡◌, ◌≤◌, drop};
 ghost use Rattle.format.specs.Limits.{DEEPEST, Walkable};
 ghost use Rattle.format.specs.GrammarChunk.{outermost};
 ghost use Rattle.format.specs.ReadChunk.{function};
-ghost use Rattle.read_find.specs.Inner.Find.{findResult};
+ghost use Rattle.read_find.specs.Inner.Find.{find_result};
 
 use crate::row::row_at;
 use crate::spot::{Above, find_function};
@@ -23,7 +23,7 @@ pub enum FindResult {
 // Judges main and all functions that nest in it, and shows the row of one of them. Ruled out: main's row for every number, a row where there is no function of that number.
 pub fn find_row(s: &[u8], limits: ResourceLimits, wanted: usize, main_at: Cursor) -> FindResult
     requires { Walkable limits × (limits.max_nesting_depth ≤ DEEPEST) }
-    ensures { result ≡ findResult wanted (function limits limits.max_nesting_depth outermost main_at.at (drop main_at.at s.now)) }
+    ensures { result ≡ find_result wanted (function limits limits.max_nesting_depth outermost main_at.at (drop main_at.at s.now)) }
 {
     // No function stands at the end of the file: main inherits no source, and nothing is found yet.
     let end = s.len();

@@ -1,6 +1,6 @@
 // The row of one function, read where a walk has found it.
 ghost use Rattle.std.specs.Prelude.{◌≡◌};
-ghost use Rattle.read_find.specs.Inner.Spot.{inheritShown, rowShown, row_at};
+ghost use Rattle.read_find.specs.Inner.Spot.{inherit_shown, row_shown, row_at};
 
 use crate::spot::{Above, Spot};
 use format::limits::ResourceLimits;
@@ -12,7 +12,7 @@ use slice::cursor::Cursor;
 
 // An absent source is the parent's.
 fn inherited(spelt: OptionString, parent: OptionString) -> OptionString
-    ensures { result ≡ inheritShown spelt parent }
+    ensures { result ≡ inherit_shown spelt parent }
 {
     match spelt {
         OptionString::Some(_) => spelt,
@@ -29,7 +29,7 @@ fn row_of(
     tail: Tail,
     end: usize,
 ) -> FunctionRow
-    ensures { result ≡ rowShown above.depth above.parent parent_source start head tail end }
+    ensures { result ≡ row_shown above.depth above.parent parent_source start head tail end }
 {
     let front = head.front;
     let spelt = front.source;

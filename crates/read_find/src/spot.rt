@@ -2,9 +2,9 @@
 // A row is large, and almost all functions are not the one wanted: its row is read once, behind the walk (row.rt).
 ghost use Rattle.std.specs.Prelude.{◌≡◌, cond, ◌+◌, ◌≤◌, eqb};
 ghost use Rattle.format.specs.Limits.{DEEPEST, MOST, Walkable};
-ghost use Rattle.read_walk.specs.Inner.Skim.{skimResult};
+ghost use Rattle.read_walk.specs.Inner.Skim.{skim_result};
 ghost use Rattle.read_walk.specs.Inner.Source.{handed};
-ghost use Rattle.read_find.specs.Inner.Spot.{spot_of, belowShown, standing, functionAt, functionsAt, row_at, Found};
+ghost use Rattle.read_find.specs.Inner.Spot.{spot_of, below_shown, standing, function_at, functions_at, row_at, Found};
 
 use format::limits::ResourceLimits;
 use format::refusal::Refusal;
@@ -32,7 +32,7 @@ fn source_below(named: bool, start: usize, above: usize) -> usize
 // What the functions inherit that nest in one. Ruled out: the parent's own parent, the source of the parent's parent where the parent's is spelt.
 fn below(above: Above, from: Skimmed, named: bool) -> Above
     requires { above.depth ≤ DEEPEST }
-    ensures { result ≡ belowShown above from named }
+    ensures { result ≡ below_shown above from named }
 {
     let source = source_below(named, from.next.at, above.source);
     Above {
@@ -70,8 +70,8 @@ pub fn find_function(
     spot: &mut Spot,
 ) -> SkimResult
     requires { Walkable limits × (from.number ≤ MOST) × (above.depth + left ≤ DEEPEST) }
-    ensures value { result ≡ skimResult (standing limits s.now above from) (functionAt limits s.now left above from) }
-    ensures found { Found wanted from.number (functionAt limits s.now left above from) (row_at limits s.now spot.old) (row_at limits s.now spot.new) }
+    ensures value { result ≡ skim_result (standing limits s.now above from) (function_at limits s.now left above from) }
+    ensures found { Found wanted from.number (function_at limits s.now left above from) (row_at limits s.now spot.old) (row_at limits s.now spot.new) }
 {
     let mut unused = [0usize; 4];
     let begins = pass_head(s, limits, from.instructions, from.next, &mut unused);
@@ -135,8 +135,8 @@ fn find_functions(
     spot: &mut Spot,
 ) -> SkimResult
     requires { Walkable limits × (above.depth + left ≤ DEEPEST + 1) }
-    ensures value { result ≡ skimResult (standing limits s.now above from) (functionsAt limits s.now n left above from) }
-    ensures found { Found wanted from.number (functionsAt limits s.now n left above from) (row_at limits s.now spot.old) (row_at limits s.now spot.new) }
+    ensures value { result ≡ skim_result (standing limits s.now above from) (functions_at limits s.now n left above from) }
+    ensures found { Found wanted from.number (functions_at limits s.now n left above from) (row_at limits s.now spot.old) (row_at limits s.now spot.new) }
 {
     let mut skimmed = from;
     let mut more = n;

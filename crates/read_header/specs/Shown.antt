@@ -5,6 +5,6 @@ use Rattle.read_header.specs.declared.OptionWarning.{OptionWarning}
 use Rattle.read_header.specs.declared.OptionWarning.TheVariants as option
 
 -- the header has at most one warning
-abbrev pub firstWarning : List Warning → OptionWarning
-firstWarning [] = option.None
-firstWarning (w ∷ ws) = option.Some w
+abbrev pub first_warning : List Warning → OptionWarning
+first_warning [] = option.None
+first_warning (w ∷ ws) = option.Some w

@@ -2,10 +2,10 @@
 ghost use Rattle.std.specs.Prelude.{◌≡◌, [], ◌∷◌, drop};
 ghost use Rattle.format.specs.declared.refusal.Refusal.TheVariants.{Signature};
 ghost use Rattle.format.specs.ReadHeader as spec;
-ghost use Rattle.slice.specs.Inner.Results.{cursorResult, and_then};
-ghost use Rattle.format.specs.GrammarHeader.{headerOf, formatWarnings};
-ghost use Rattle.read_header.specs.Shown.{firstWarning};
-ghost use Rattle.read_header.specs.Inner.Results.{headerResult, refusalOf};
+ghost use Rattle.slice.specs.Inner.Results.{cursor_result, and_then};
+ghost use Rattle.format.specs.GrammarHeader.{header_of, format_warnings};
+ghost use Rattle.read_header.specs.Shown.{first_warning};
+ghost use Rattle.read_header.specs.Inner.Results.{header_result, refusal_of};
 
 use format::header::{Header, Warning};
 use format::refusal::Refusal;
@@ -31,7 +31,7 @@ pub enum HeaderResult {
 
 // Passes over bytes that must be these.
 pub fn expect(s: &[u8], cursor: Cursor, bytes: &[u8], refusal: Refusal) -> CursorResult
-    ensures { result ≡ cursorResult (spec.expect bytes.now (λ _. refusal) cursor.at (drop cursor.at s.now)) }
+    ensures { result ≡ cursor_result (spec.expect bytes.now (λ _. refusal) cursor.at (drop cursor.at s.now)) }
 {
     let at = cursor.at;
     let read = read_exact(s, cursor, bytes.len());
@@ -49,7 +49,7 @@ pub fn expect(s: &[u8], cursor: Cursor, bytes: &[u8], refusal: Refusal) -> Curso
 
 // What the header shows: all but the format byte is fixed.
 fn header_of(format: u8) -> Header
-    ensures { result ≡ headerOf format }
+    ensures { result ≡ header_of format }
 {
     Header {
         version: 0x54,
@@ -65,7 +65,7 @@ fn header_of(format: u8) -> Header
 
 // The warning of a format byte at a place.
 fn format_warning(place: usize, format: u8) -> OptionWarning
-    ensures { result ≡ firstWarning (formatWarnings place format) }
+    ensures { result ≡ first_warning (format_warnings place format) }
 {
     if format == 0 {
         OptionWarning::None
@@ -89,7 +89,7 @@ enum Fixed {
 
 // The refusal of a part that is another than it must be.
 fn refusal_of(part: Fixed, at: usize) -> Refusal
-    ensures { result ≡ refusalOf part at }
+    ensures { result ≡ refusal_of part at }
 {
     match part {
         Fixed::Signature => Refusal::Signature(at),
@@ -105,7 +105,7 @@ fn refusal_of(part: Fixed, at: usize) -> Refusal
 
 // Behind what was read, passes over bytes that must be these.
 fn and_expect(read: CursorResult, s: &[u8], bytes: &[u8], part: Fixed) -> CursorResult
-    ensures { result ≡ and_then read (λ at. cursorResult (spec.expect bytes.now (refusalOf part) at (drop at s.now))) }
+    ensures { result ≡ and_then read (λ at. cursor_result (spec.expect bytes.now (refusal_of part) at (drop at s.now))) }
 {
     let CursorResult::Ok(cursor) = read else {
         return read;
@@ -116,7 +116,7 @@ fn and_expect(read: CursorResult, s: &[u8], bytes: &[u8], part: Fixed) -> Cursor
 
 // What stands before the format byte.
 pub fn before_format(s: &[u8], cursor: Cursor) -> CursorResult
-    ensures { result ≡ cursorResult (spec.beforeFormat cursor.at (drop cursor.at s.now)) }
+    ensures { result ≡ cursor_result (spec.before_format cursor.at (drop cursor.at s.now)) }
 {
     let read = CursorResult::Ok(cursor);
     let read = and_expect(read, s, b"\x1bLua", Fixed::Signature);
@@ -125,7 +125,7 @@ pub fn before_format(s: &[u8], cursor: Cursor) -> CursorResult
 
 // What stands behind the format byte.
 pub fn behind_format(s: &[u8], cursor: Cursor) -> CursorResult
-    ensures { result ≡ cursorResult (spec.behindFormat cursor.at (drop cursor.at s.now)) }
+    ensures { result ≡ cursor_result (spec.behind_format cursor.at (drop cursor.at s.now)) }
 {
     let read = CursorResult::Ok(cursor);
     let read = and_expect(read, s, b"\x19\x93\r\n\x1a\n", Fixed::LuacData);
@@ -139,7 +139,7 @@ pub fn behind_format(s: &[u8], cursor: Cursor) -> CursorResult
 // Reads the header: the parts that are the same in every file are compared, the format byte is shown, with a warning where it is not 0.
 // Ruled out: a format other than 0 refused, a refusal with the place of the first byte that differs instead of the part's.
 pub fn parse_header_lua54(s: &[u8], cursor: Cursor) -> HeaderResult
-    ensures { result ≡ headerResult (spec.header cursor.at (drop cursor.at s.now)) }
+    ensures { result ≡ header_result (spec.header cursor.at (drop cursor.at s.now)) }
 {
     let front = before_format(s, cursor);
     match front {

@@ -1,9 +1,9 @@
 -- Lists behind their counts: what is counted on the way is that of the list's own count and that of each item.
---     list-refused     the count is refused: of it nothing is said
---     list-run         items of which nothing is counted
---     list-room        behind the count there is room for the items
+--     list_refused     the count is refused: of it nothing is said
+--     list_run         items of which nothing is counted
+--     list_room        behind the count there is room for the items
 --     list_all         items that are counted
---     list-none        no items
+--     list_none        no items
 -- Assumes nothing.
 use mathlib.Core.Path.{◌≡◌, refl, sym, ◌∙◌, ap}
 use mathlib.Core.List.{List}
@@ -16,65 +16,65 @@ use Rattle.format.specs.GrammarChunk.{Listed}
 use Rattle.format.specs.Read.{Read, ok, Reader, next, give, many}
 use Rattle.format.specs.ReadFields.{number}
 use Rattle.format.proofs.Exact.{Exact}
-use Rattle.format.proofs.ExactFields.{exact-number}
+use Rattle.format.proofs.ExactFields.{exact_number}
 use Rattle.format_spelling.specs.ReadSpelling.{Count}
 use Rattle.format_spelling.specs.ReadSpelling as count
 use Rattle.format_spelling.specs.Inner.Tally.{Room, Adds}
-use Rattle.format_spelling.proofs.SpellingLaws.{tells-number}
-use Rattle.format_spelling.proofs.Few.{few-number}
-use Rattle.format_spelling.proofs.Covers.{covers-few}
+use Rattle.format_spelling.proofs.SpellingLaws.{tells_number}
+use Rattle.format_spelling.proofs.Few.{few_number}
+use Rattle.format_spelling.proofs.Covers.{covers_few}
 use Rattle.format_spelling.proofs.Tallies.{room-on, adds-not, adds_none, adds-of, adds-value, adds_then}
 use Rattle.slice.specs.declared.cursor.Cursor.{Cursor}
 use Rattle.slice.specs.declared.cursor.CursorResult.{CursorResult}
 use Rattle.slice.specs.declared.cursor.CursorResult.TheVariants as cursor
-use Rattle.slice.specs.Inner.Results.{cursorResult}
+use Rattle.slice.specs.Inner.Results.{cursor_result}
 use Rattle.read_field.specs.declared.field.U64Result.{U64Result}
 use Rattle.read_field.specs.declared.field.U64Result.TheVariants as u64
-use Rattle.read_field.specs.Shown.{u64Result}
-use Rattle.read_field.proofs.Shows.{onward, u64-err, u64-ok}
+use Rattle.read_field.specs.Shown.{u64_result}
+use Rattle.read_field.proofs.Shows.{onward, u64_err, u64_ok}
 use Rattle.read_list.specs.declared.ListResult.{ListResult}
 use Rattle.read_list.specs.declared.ListResult.TheVariants as list
-use Rattle.read_list.specs.Inner.Shown.{listed_of, listResult}
-use Rattle.read_list.proofs.Listing.{behindCount, count-refused, count-read, ListAt}
+use Rattle.read_list.specs.Inner.Shown.{listed_of, list_result}
+use Rattle.read_list.proofs.Listing.{behind_count, count-refused, count-read, ListAt}
 
 -- what reading the count showed and added
 abbrev CountRead : Reader ℕ → Bytes → ℕ → U64Result → List ℕ → List ℕ → Type 0
-CountRead first s at z t t₁ = (z ≡ u64Result (first at (drop at s))) × Adds (first at (drop at s)) (count.number at (drop at s)) t t₁
+CountRead first s at z t t₁ = (z ≡ u64_result (first at (drop at s))) × Adds (first at (drop at s)) (count.number at (drop at s)) t t₁
 
 module _ {A : Type 0} {first : Reader ℕ} {F : Form ℕ} {exact : Exact first F} {r : ℕ → Reader (List A)} {s : Bytes} {at : ℕ} {o : Read (Listed A)} (l : ListAt exact r s at o) {z : U64Result} {t t₁ : List ℕ}
     (e : CountRead first s at z t t₁) where
-  pub list-refused : {n : Spelling} {q : Refusal} → z ≡ u64.Err q → (list.Err q ≡ listResult o) × Adds o n t t₁
-  list-refused {q = q} told = (
-    count-refused exact l.sized s at told e.0 ∙ sym (ap listResult l.whole),
-    adds-not (l.whole ∙ ap (λ o. next o (behindCount r)) (u64-err (first at (drop at s)) q (sym told ∙ e.0))),
+  pub list_refused : {n : Spelling} {q : Refusal} → z ≡ u64.Err q → (list.Err q ≡ list_result o) × Adds o n t t₁
+  list_refused {q = q} told = (
+    count-refused exact l.sized s at told e.0 ∙ sym (ap list_result l.whole),
+    adds-not (l.whole ∙ ap (λ o. next o (behind_count r)) (u64_err (first at (drop at s)) q (sym told ∙ e.0))),
   )
 
   module _ {v : ℕ} {c : Cursor} (told : z ≡ u64.Ok v c) where
-    shown : {x : CursorResult} {y : ListResult} → x ≡ cursorResult (r v c.at (drop c.at s)) → y ≡ listed_of x v c.at → y ≡ listResult o
-    shown p q = count-read exact l.sized s at told e.0 p q ∙ sym (ap listResult l.whole)
+    shown : {x : CursorResult} {y : ListResult} → x ≡ cursor_result (r v c.at (drop c.at s)) → y ≡ listed_of x v c.at → y ≡ list_result o
+    shown p q = count-read exact l.sized s at told e.0 p q ∙ sym (ap list_result l.whole)
 
-    pub list-run : {x : CursorResult} {y : ListResult} → x ≡ cursorResult (r v c.at (drop c.at s)) → y ≡ listed_of x v c.at → (y ≡ listResult o) × Adds o (count.number at (drop at s)) t t₁
-    list-run p q = (shown p q, adds-of (sym l.whole) (adds-value (first at (drop at s)) (behindCount r) e.1))
+    pub list_run : {x : CursorResult} {y : ListResult} → x ≡ cursor_result (r v c.at (drop c.at s)) → y ≡ listed_of x v c.at → (y ≡ list_result o) × Adds o (count.number at (drop at s)) t t₁
+    list_run p q = (shown p q, adds-of (sym l.whole) (adds-value (first at (drop at s)) (behind_count r) e.1))
 
     was : first at (drop at s) ≡ ok v c.at (drop c.at s)
-    was = onward exact s at (u64-ok (first at (drop at s)) v c (sym told ∙ e.0))
+    was = onward exact s at (u64_ok (first at (drop at s)) v c (sym told ∙ e.0))
 
     alike : first at (drop at s) ≡ number at (drop at s)
     alike = was ∙ sym (l.own was)
 
-    pub list-room : Room t at → Room t₁ c.at
-    list-room room = room-on (covers-few exact-number tells-number few-number) at (drop at s) room (l.own was) (adds-of alike e.1)
+    pub list_room : Room t at → Room t₁ c.at
+    list_room room = room-on (covers_few exact_number tells_number few_number) at (drop at s) room (l.own was) (adds-of alike e.1)
 
 -- the same, of items each read by r, of which k is the count
 module _ {A : Type 0} {first : Reader ℕ} {F : Form ℕ} {exact : Exact first F} {r : Reader A} {s : Bytes} {at : ℕ} {o : Read (Listed A)} (l : ListAt exact (λ n. many n r) s at o) (k : Count) {z : U64Result} {t t₁ : List ℕ}
     (e : CountRead first s at z t t₁) {v : ℕ} {c : Cursor} (told : z ≡ u64.Ok v c) where
-  pub list_all : {x : CursorResult} {y : ListResult} {t₂ : List ℕ} → (x ≡ cursorResult (many v r c.at (drop c.at s))) × Adds (many v r c.at (drop c.at s)) (count.many v r k c.at (drop c.at s)) t₁ t₂ → y ≡ listed_of x v c.at → (y ≡ listResult o) × Adds o (count.counted r k at (drop at s)) t t₂
+  pub list_all : {x : CursorResult} {y : ListResult} {t₂ : List ℕ} → (x ≡ cursor_result (many v r c.at (drop c.at s))) × Adds (many v r c.at (drop c.at s)) (count.many v r k c.at (drop c.at s)) t₁ t₂ → y ≡ listed_of x v c.at → (y ≡ list_result o) × Adds o (count.counted r k at (drop at s)) t t₂
   list_all items q = (
     shown l e told items.0 q,
-    adds-of (ap (λ o. next o (behindCount (λ n. many n r))) (sym (alike l e told)) ∙ sym l.whole)
-        (adds_then number count.number (behindCount (λ n. many n r)) (λ n. count.many n r k) at (drop at s) (l.own (was l e told)) (adds-of (alike l e told) e.1)
+    adds-of (ap (λ o. next o (behind_count (λ n. many n r))) (sym (alike l e told)) ∙ sym l.whole)
+        (adds_then number count.number (behind_count (λ n. many n r)) (λ n. count.many n r k) at (drop at s) (l.own (was l e told)) (adds-of (alike l e told) e.1)
         (adds-value (many v r c.at (drop c.at s)) (λ items. give (record { place = c.at; items = items })) items.1)),
   )
 
-  pub list-none : {y : ListResult} → v ≡ 0 → y ≡ listed_of (cursor.Ok c) v c.at → (y ≡ listResult o) × Adds o (count.counted r k at (drop at s)) t t₁
-  list-none zero = list_all {x = cursor.Ok c} {t₂ = t₁} (rw zero (refl, adds_none))
+  pub list_none : {y : ListResult} → v ≡ 0 → y ≡ listed_of (cursor.Ok c) v c.at → (y ≡ list_result o) × Adds o (count.counted r k at (drop at s)) t t₁
+  list_none zero = list_all {x = cursor.Ok c} {t₂ = t₁} (rw zero (refl, adds_none))

@@ -13,40 +13,40 @@ use Rattle.format.specs.Form.{Bytes}
 use Rattle.format.specs.GrammarChunk.{Listed}
 use Rattle.format.specs.Read.{Read, ok, refused, Reader, next, ◌>>=◌, ◌>>◌, give, here, at_most, many}
 use Rattle.format.specs.ReadFields.{field, number}
-use Rattle.format.proofs.ExactFields.{exact-field}
+use Rattle.format.proofs.ExactFields.{exact_field}
 use Rattle.format_spelling.specs.Inner.Tally.{Adds}
 use Rattle.format_spelling.proofs.Tallies.{adds-of, adds-value}
 use Rattle.slice.specs.declared.cursor.Cursor.{Cursor}
 use Rattle.read_field.specs.declared.field.U64Result.{U64Result}
 use Rattle.read_field.specs.declared.field.U64Result.TheVariants as u64
-use Rattle.slice.specs.Shown.{cursorAt}
-use Rattle.read_field.specs.Shown.{u64Result}
+use Rattle.slice.specs.Shown.{cursor_at}
+use Rattle.read_field.specs.Shown.{u64_result}
 use Rattle.read_field.proofs.Shows.{Was}
 use Rattle.read_list.specs.declared.ListResult.{ListResult}
 use Rattle.read_list.specs.declared.ListResult.TheVariants as list
-use Rattle.read_entry.specs.Readers.{code, Count, protosCount}
-use Rattle.read_entry.specs.Inner.Counts.{countUpTo, codeCount}
-use Rattle.read_list.specs.Inner.Shown.{countResult}
-use Rattle.read_list.proofs.Listing.{exact-held, held-is, exact-countUpTo, many-sized, behindCount, tested-then, ListAt}
+use Rattle.read_entry.specs.Readers.{code, Count, protos_count}
+use Rattle.read_entry.specs.Inner.Counts.{count_up_to, code_count}
+use Rattle.read_list.specs.Inner.Shown.{count_result}
+use Rattle.read_list.proofs.Listing.{exact_held, held-is, exact_count_up_to, many_sized, behind_count, tested_then, ListAt}
 
 -- ## Instructions
 module _ (per-proto before total : ℕ) (s : Bytes) (at : ℕ) where
   abbrev words : ℕ → Reader (Listed ℕ)
-  words = behindCount (λ n. many n (field 4))
+  words = behind_count (λ n. many n (field 4))
 
   -- with those of the functions before
   abbrev sum : ℕ → ℕ
   sum n = before + n
 
-  code_is : code per-proto before total at (drop at s) ≡ next (codeCount per-proto before total at (drop at s)) words
+  code_is : code per-proto before total at (drop at s) ≡ next (code_count per-proto before total at (drop at s)) words
   code_is =
-      tested-then (λ n. leb n per-proto) (Instructions at) (λ n. at_most (before + n) total (TotalInstructions at) >> words n) (number at (drop at s))
-      ∙ tested-then (λ n. leb (before + n) total) (TotalInstructions at) words (countUpTo per-proto (Instructions at) at (drop at s))
+      tested_then (λ n. leb n per-proto) (Instructions at) (λ n. at_most (before + n) total (TotalInstructions at) >> words n) (number at (drop at s))
+      ∙ tested_then (λ n. leb (before + n) total) (TotalInstructions at) words (count_up_to per-proto (Instructions at) at (drop at s))
 
-  pub code-list : ListAt (exact-held (exact-countUpTo per-proto (Instructions at)) sum total (TotalInstructions at)) (λ n. many n (field 4)) s at (code per-proto before total at (drop at s))
-  code-list = record {
-    own = λ e. held-is number (λ n. n) per-proto (Instructions at) at (drop at s) (held-is (countUpTo per-proto (Instructions at)) sum total (TotalInstructions at) at (drop at s) e);
-    sized = many-sized (exact-field 4);
+  pub code_list : ListAt (exact_held (exact_count_up_to per-proto (Instructions at)) sum total (TotalInstructions at)) (λ n. many n (field 4)) s at (code per-proto before total at (drop at s))
+  code_list = record {
+    own = λ e. held-is number (λ n. n) per-proto (Instructions at) at (drop at s) (held-is (count_up_to per-proto (Instructions at)) sum total (TotalInstructions at) at (drop at s) e);
+    sized = many_sized (exact_field 4);
     whole = code_is;
   }
 
@@ -58,30 +58,30 @@ count_of (u64.Err q) = list.Err q
 abbrev pub placed : ℕ → Reader Count
 placed n = here >>= λ place. give (record { count = n; place = place })
 
-count-shown : (o : Read ℕ) → count_of (u64Result o) ≡ countResult (next o placed)
+count-shown : (o : Read ℕ) → count_of (u64_result o) ≡ count_result (next o placed)
 count-shown (ok n to rest) = refl
 count-shown (refused q) = refl
 
 module _ (limit : ℕ) (s : Bytes) (at : ℕ) where
-  protos-are : protosCount limit at (drop at s) ≡ next (countUpTo limit (Prototypes at) at (drop at s)) placed
-  protos-are = tested-then (λ n. leb n limit) (Prototypes at) placed (number at (drop at s))
+  protos_are : protos_count limit at (drop at s) ≡ next (count_up_to limit (Prototypes at) at (drop at s)) placed
+  protos_are = tested_then (λ n. leb n limit) (Prototypes at) placed (number at (drop at s))
 
-  pub protos-shown : {z y : U64Result} {n : Spelling} {t t' : List ℕ} → (z ≡ u64Result (countUpTo limit (Prototypes at) at (drop at s))) × Adds (countUpTo limit (Prototypes at) at (drop at s)) n t t' → z ≡ y
-      → (count_of y ≡ countResult (protosCount limit at (drop at s))) × Adds (protosCount limit at (drop at s)) n t t'
+  pub protos-shown : {z y : U64Result} {n : Spelling} {t t' : List ℕ} → (z ≡ u64_result (count_up_to limit (Prototypes at) at (drop at s))) × Adds (count_up_to limit (Prototypes at) at (drop at s)) n t t' → z ≡ y
+      → (count_of y ≡ count_result (protos_count limit at (drop at s))) × Adds (protos_count limit at (drop at s)) n t t'
   protos-shown e told = (
-    ap count_of (sym told ∙ e.0) ∙ count-shown (countUpTo limit (Prototypes at) at (drop at s)) ∙ sym (ap countResult protos-are),
-    adds-of (sym protos-are) (adds-value (countUpTo limit (Prototypes at) at (drop at s)) placed e.1),
+    ap count_of (sym told ∙ e.0) ∙ count-shown (count_up_to limit (Prototypes at) at (drop at s)) ∙ sym (ap count_result protos_are),
+    adds-of (sym protos_are) (adds-value (count_up_to limit (Prototypes at) at (drop at s)) placed e.1),
   )
 
 -- ## From what was shown back to what was read
-pub count-err : (o : Read Count) (q : Refusal) → list.Err q ≡ countResult o → o ≡ refused q
-count-err (ok n to rest) q e = absurd (let z : ◌≡◌ {A = ℕ} 0 1 = cc in omega arith)
-count-err (refused p) q e = cc
+pub count_err : (o : Read Count) (q : Refusal) → list.Err q ≡ count_result o → o ≡ refused q
+count_err (ok n to rest) q e = absurd (let z : ◌≡◌ {A = ℕ} 0 1 = cc in omega arith)
+count_err (refused p) q e = cc
 
-pub count-ok : (o : Read Count) (count place : ℕ) (c : Cursor) → list.Ok count place c ≡ countResult o → Was o (record { count = count; place = place }) c.at
+pub count-ok : (o : Read Count) (count place : ℕ) (c : Cursor) → list.Ok count place c ≡ count_result o → Was o (record { count = count; place = place }) c.at
 count-ok (ok n to rest) count place c e =
     let many : count ≡ n.count = cc in
     let first : place ≡ n.place = cc in
-    let next : c ≡ cursorAt to = cc in
+    let next : c ≡ cursor_at to = cc in
     record { rest = rest; is = rw (many, first, next) }
 count-ok (refused p) count place c e = absurd (let z : ◌≡◌ {A = ℕ} 0 1 = cc in omega arith)

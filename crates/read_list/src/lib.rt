@@ -5,10 +5,10 @@ ghost use Rattle.format.specs.ReadFields.{string};
 ghost use Rattle.format.specs.ReadChunk as spec;
 ghost use Rattle.format_spelling.specs.ReadSpelling as count;
 ghost use Rattle.format_spelling.specs.Inner.Tally.{Room, Adds};
-ghost use Rattle.read_field.specs.Shown.{u64Result};
-ghost use Rattle.read_entry.specs.Readers.{code, lineInfo, protosCount};
-ghost use Rattle.read_entry.specs.Inner.Counts.{countUpTo, codeCount};
-ghost use Rattle.read_list.specs.Inner.Shown.{listed_of, listResult, countResult};
+ghost use Rattle.read_field.specs.Shown.{u64_result};
+ghost use Rattle.read_entry.specs.Readers.{code, line_info, protos_count};
+ghost use Rattle.read_entry.specs.Inner.Counts.{count_up_to, code_count};
+ghost use Rattle.read_list.specs.Inner.Shown.{listed_of, list_result, count_result};
 
 use format::refusal::Refusal;
 use format_spelling::tally::Tally;
@@ -51,8 +51,8 @@ pub fn count_up_to(
     tally: &mut Tally,
 ) -> U64Result
     requires { Room tally.old cursor.at }
-    ensures value { result ≡ u64Result (countUpTo limit refusal cursor.at (drop cursor.at s.now)) }
-    ensures adds { Adds (countUpTo limit refusal cursor.at (drop cursor.at s.now)) (count.number cursor.at (drop cursor.at s.now)) tally.old tally.new }
+    ensures value { result ≡ u64_result (count_up_to limit refusal cursor.at (drop cursor.at s.now)) }
+    ensures adds { Adds (count_up_to limit refusal cursor.at (drop cursor.at s.now)) (count.number cursor.at (drop cursor.at s.now)) tally.old tally.new }
 {
     let read = tally_varint(s, cursor, tally);
     let U64Result::Ok { value, next: _ } = read else {
@@ -74,8 +74,8 @@ pub fn constants_list(
     tally: &mut Tally,
 ) -> ListResult
     requires { Room tally.old cursor.at }
-    ensures value { result ≡ listResult (spec.countedUpTo max_constants Constants (spec.constant max_string_bytes) cursor.at (drop cursor.at s.now)) }
-    ensures adds { Adds (spec.countedUpTo max_constants Constants (spec.constant max_string_bytes) cursor.at (drop cursor.at s.now)) (count.counted (spec.constant max_string_bytes) (count.constant max_string_bytes) cursor.at (drop cursor.at s.now)) tally.old tally.new }
+    ensures value { result ≡ list_result (spec.counted_up_to max_constants Constants (spec.constant max_string_bytes) cursor.at (drop cursor.at s.now)) }
+    ensures adds { Adds (spec.counted_up_to max_constants Constants (spec.constant max_string_bytes) cursor.at (drop cursor.at s.now)) (count.counted (spec.constant max_string_bytes) (count.constant max_string_bytes) cursor.at (drop cursor.at s.now)) tally.old tally.new }
 {
     let read = count_up_to(
         s,
@@ -104,8 +104,8 @@ pub fn constants_list(
 // Ruled out: the place of the count given as that of the items, one byte an upvalue.
 pub fn upvalues_list(s: &[u8], cursor: Cursor, max_upvalues: usize, tally: &mut Tally) -> ListResult
     requires { Room tally.old cursor.at }
-    ensures value { result ≡ listResult (spec.countedUpTo max_upvalues Upvalues spec.upvalue cursor.at (drop cursor.at s.now)) }
-    ensures adds { Adds (spec.countedUpTo max_upvalues Upvalues spec.upvalue cursor.at (drop cursor.at s.now)) (count.number cursor.at (drop cursor.at s.now)) tally.old tally.new }
+    ensures value { result ≡ list_result (spec.counted_up_to max_upvalues Upvalues spec.upvalue cursor.at (drop cursor.at s.now)) }
+    ensures adds { Adds (spec.counted_up_to max_upvalues Upvalues spec.upvalue cursor.at (drop cursor.at s.now)) (count.number cursor.at (drop cursor.at s.now)) tally.old tally.new }
 {
     let read = count_up_to(s, cursor, max_upvalues, Refusal::Upvalues(cursor.at), tally);
     match read {
@@ -120,8 +120,8 @@ pub fn upvalues_list(s: &[u8], cursor: Cursor, max_upvalues: usize, tally: &mut 
 // Passes over the line deltas of a function: their count, and a byte each. Ruled out: place plus size that wraps, the refusal at the place of the count.
 pub fn line_info_list(s: &[u8], cursor: Cursor, tally: &mut Tally) -> ListResult
     requires { Room tally.old cursor.at }
-    ensures value { result ≡ listResult (lineInfo cursor.at (drop cursor.at s.now)) }
-    ensures adds { Adds (lineInfo cursor.at (drop cursor.at s.now)) (count.number cursor.at (drop cursor.at s.now)) tally.old tally.new }
+    ensures value { result ≡ list_result (line_info cursor.at (drop cursor.at s.now)) }
+    ensures adds { Adds (line_info cursor.at (drop cursor.at s.now)) (count.number cursor.at (drop cursor.at s.now)) tally.old tally.new }
 {
     let read = tally_varint(s, cursor, tally);
     match read {
@@ -136,7 +136,7 @@ pub fn line_info_list(s: &[u8], cursor: Cursor, tally: &mut Tally) -> ListResult
 // Passes over the anchors of a function: their count, and two numbers each. Ruled out: a limit on anchors, the count of numbers given as that of anchors.
 pub fn anchors_list(s: &[u8], cursor: Cursor, tally: &mut Tally) -> ListResult
     requires { Room tally.old cursor.at }
-    ensures value { result ≡ listResult (spec.counted spec.anchor cursor.at (drop cursor.at s.now)) }
+    ensures value { result ≡ list_result (spec.counted spec.anchor cursor.at (drop cursor.at s.now)) }
     ensures adds { Adds (spec.counted spec.anchor cursor.at (drop cursor.at s.now)) (count.counted spec.anchor count.anchor cursor.at (drop cursor.at s.now)) tally.old tally.new }
 {
     let read = tally_varint(s, cursor, tally);
@@ -161,7 +161,7 @@ pub fn locals_list(
     tally: &mut Tally,
 ) -> ListResult
     requires { Room tally.old cursor.at }
-    ensures value { result ≡ listResult (spec.counted (spec.local max_string_bytes) cursor.at (drop cursor.at s.now)) }
+    ensures value { result ≡ list_result (spec.counted (spec.local max_string_bytes) cursor.at (drop cursor.at s.now)) }
     ensures adds { Adds (spec.counted (spec.local max_string_bytes) cursor.at (drop cursor.at s.now)) (count.counted (spec.local max_string_bytes) (count.local max_string_bytes) cursor.at (drop cursor.at s.now)) tally.old tally.new }
 {
     let read = tally_varint(s, cursor, tally);
@@ -189,7 +189,7 @@ pub fn names_list(
     tally: &mut Tally,
 ) -> ListResult
     requires { Room tally.old cursor.at }
-    ensures value { result ≡ listResult (spec.counted (string max_string_bytes) cursor.at (drop cursor.at s.now)) }
+    ensures value { result ≡ list_result (spec.counted (string max_string_bytes) cursor.at (drop cursor.at s.now)) }
     ensures adds { Adds (spec.counted (string max_string_bytes) cursor.at (drop cursor.at s.now)) (count.counted (string max_string_bytes) count.string cursor.at (drop cursor.at s.now)) tally.old tally.new }
 {
     let read = tally_varint(s, cursor, tally);
@@ -219,8 +219,8 @@ fn instruction_count(
     tally: &mut Tally,
 ) -> U64Result
     requires { Room tally.old cursor.at }
-    ensures value { result ≡ u64Result (codeCount max_instructions_per_proto instructions_before max_total_instructions cursor.at (drop cursor.at s.now)) }
-    ensures adds { Adds (codeCount max_instructions_per_proto instructions_before max_total_instructions cursor.at (drop cursor.at s.now)) (count.number cursor.at (drop cursor.at s.now)) tally.old tally.new }
+    ensures value { result ≡ u64_result (code_count max_instructions_per_proto instructions_before max_total_instructions cursor.at (drop cursor.at s.now)) }
+    ensures adds { Adds (code_count max_instructions_per_proto instructions_before max_total_instructions cursor.at (drop cursor.at s.now)) (count.number cursor.at (drop cursor.at s.now)) tally.old tally.new }
 {
     let first = cursor.at;
     let refusal = Refusal::Instructions(first);
@@ -248,7 +248,7 @@ pub fn instructions_list(
     tally: &mut Tally,
 ) -> ListResult
     requires { Room tally.old cursor.at }
-    ensures value { result ≡ listResult (code max_instructions_per_proto instructions_before max_total_instructions cursor.at (drop cursor.at s.now)) }
+    ensures value { result ≡ list_result (code max_instructions_per_proto instructions_before max_total_instructions cursor.at (drop cursor.at s.now)) }
     ensures adds { Adds (code max_instructions_per_proto instructions_before max_total_instructions cursor.at (drop cursor.at s.now)) (count.number cursor.at (drop cursor.at s.now)) tally.old tally.new }
 {
     let read = instruction_count(
@@ -276,8 +276,8 @@ pub fn protos_count(
     tally: &mut Tally,
 ) -> ListResult
     requires { Room tally.old cursor.at }
-    ensures value { result ≡ countResult (protosCount max_total_prototypes cursor.at (drop cursor.at s.now)) }
-    ensures adds { Adds (protosCount max_total_prototypes cursor.at (drop cursor.at s.now)) (count.number cursor.at (drop cursor.at s.now)) tally.old tally.new }
+    ensures value { result ≡ count_result (protos_count max_total_prototypes cursor.at (drop cursor.at s.now)) }
+    ensures adds { Adds (protos_count max_total_prototypes cursor.at (drop cursor.at s.now)) (count.number cursor.at (drop cursor.at s.now)) tally.old tally.new }
 {
     let refusal = Refusal::Prototypes(cursor.at);
     let read = count_up_to(s, cursor, max_total_prototypes, refusal, tally);

@@ -14,7 +14,7 @@ use Rattle.format.specs.declared.refusal.Refusal.TheVariants.{Instructions, Tota
 use Rattle.format.specs.ReadFields.{number}
 use Rattle.read_entry.specs.Readers.{code}
 use Rattle.read_prototype.specs.Front.{front}
-use Rattle.read_prototype.specs.Parts.{headLists, head}
+use Rattle.read_prototype.specs.Parts.{head_lists, head}
 
 -- where the one accepts, the other accepts so
 pub record Fewer {A : Type 0} (o p : Read A) : Type 0 where
@@ -30,22 +30,22 @@ then {o} {p} {f} {g} a e = record { holds = go o a }
     go (ok x to rest) a y end left is = ap (λ z. next z g) (a.holds x to rest refl) ∙ (e x to rest).holds y end left is
     go (refused q) a y end left is = absurd (let z : ◌≡◌ {A = ℕ} 0 1 = cc in omega arith)
 
-fewer-test : (before n total : ℕ) (q : Refusal) (at : ℕ) (s : Bytes) → Fewer (at_most (before + n) total q at s) (at_most (0 + n) total q at s)
-fewer-test before n total q at s = record { holds = λ x to rest. go (leb (before + n) total) refl x to rest }
+fewer_test : (before n total : ℕ) (q : Refusal) (at : ℕ) (s : Bytes) → Fewer (at_most (before + n) total q at s) (at_most (0 + n) total q at s)
+fewer_test before n total q at s = record { holds = λ x to rest. go (leb (before + n) total) refl x to rest }
   where
     go : (b : Bool) → leb (before + n) total ≡ b → (x : Unit {0}) (to : ℕ) (rest : Bytes) → test b q at s ≡ ok x to rest → at_most (0 + n) total q at s ≡ ok x to rest
     go true e x to rest is = let h = leb-true (before + n) total e in rw (le-leb (0 + n) total (omega arith)) is
     go false e x to rest is = absurd (let z : ◌≡◌ {A = ℕ} 0 1 = cc in omega arith)
 
-fewer-code : (per before total at : ℕ) (s : Bytes) → Fewer (code per before total at s) (code per 0 total at s)
-fewer-code per before total at s =
+fewer_code : (per before total at : ℕ) (s : Bytes) → Fewer (code per before total at s) (code per 0 total at s)
+fewer_code per before total at s =
     then (same (number at s)) λ size a b.
     then (same (at_most size per (Instructions at) a b)) λ _ c d.
-    then (fewer-test before size total (TotalInstructions at) c d) λ _ e f.
+    then (fewer_test before size total (TotalInstructions at) c d) λ _ e f.
     same _
 
-fewer-lists : (L : ResourceLimits) (before at : ℕ) (s : Bytes) → Fewer (headLists L before at s) (headLists L 0 at s)
-fewer-lists L before at s = then (fewer-code _ before _ at s) λ _ a b. same _
+fewer_lists : (L : ResourceLimits) (before at : ℕ) (s : Bytes) → Fewer (head_lists L before at s) (head_lists L 0 at s)
+fewer_lists L before at s = then (fewer_code _ before _ at s) λ _ a b. same _
 
 pub fewer_head : (L : ResourceLimits) (before at : ℕ) (s : Bytes) → Fewer (head L before at s) (head L 0 at s)
-fewer_head L before at s = then (same (front L.max_string_bytes at s)) λ _ a b. then (fewer-lists L before a b) λ _ c d. same _
+fewer_head L before at s = then (same (front L.max_string_bytes at s)) λ _ a b. then (fewer_lists L before a b) λ _ c d. same _

@@ -15,7 +15,7 @@ use Rattle.read_prototype.specs.declared.parts.HeadResult.{HeadResult}
 use Rattle.read_prototype.specs.declared.parts.HeadResult.TheVariants as head-answer
 use Rattle.read_prototype.specs.declared.parts.TailResult.{TailResult}
 use Rattle.read_prototype.specs.declared.parts.TailResult.TheVariants as tail-answer
-use Rattle.read_next.specs.Inner.Rows.{LEVELS, rowShown, headAt, tail_at, onHead, onTail, Walked, through, cut, before, and_then, times, body_at, functionAt, rows_of, chunkRows, onward, rows_from, entered}
+use Rattle.read_next.specs.Inner.Rows.{LEVELS, row_shown, head_at, tail_at, on_head, on_tail, Walked, through, cut, before, and_then, times, body_at, function_at, rows_of, chunk_rows, onward, rows_from, entered}
 use Rattle.read_next.specs.declared.Row.{Row}
 
 -- laws of `onward`
@@ -31,17 +31,17 @@ onward-same : (w : Walked) (f g : ℕ → List Row) → ((p : ℕ) → f p ≡ g
 onward-same (through rows place) f g e = ap (λ (l : List Row). rows ++ l) (e place)
 onward-same (cut rows) f g e = refl
 
-tail-same : (x : TailResult) (f g : ℕ → List Row) → ((p : ℕ) → f p ≡ g p) → onTail x [] f ≡ onTail x [] g
+tail-same : (x : TailResult) (f g : ℕ → List Row) → ((p : ℕ) → f p ≡ g p) → on_tail x [] f ≡ on_tail x [] g
 tail-same (tail-answer.Ok t next) f g e = e next.at
 tail-same (tail-answer.Err q) f g e = refl
 
-onward-tail : (x : TailResult) (k : ℕ → List Row) → onward (onTail x (cut []) (through [])) k ≡ onTail x [] k
+onward-tail : (x : TailResult) (k : ℕ → List Row) → onward (on_tail x (cut []) (through [])) k ≡ on_tail x [] k
 onward-tail (tail-answer.Ok t next) k = refl
 onward-tail (tail-answer.Err q) k = refl
 
 onward-head : (d : ℕ) (h : HeadResult) (f : Row → ℕ → Walked) (g : Row → ℕ → List Row) (k : ℕ → List Row)
-    → ((row : Row) (first : ℕ) → onward (f row first) k ≡ g row first) → onward (onHead d h (cut []) f) k ≡ onHead d h [] g
-onward-head d (head-answer.Ok h next) f g k e = e (rowShown d h) next.at
+    → ((row : Row) (first : ℕ) → onward (f row first) k ≡ g row first) → onward (on_head d h (cut []) f) k ≡ on_head d h [] g
+onward-head d (head-answer.Ok h next) f g k e = e (row_shown d h) next.at
 onward-head d (head-answer.Err q) f g k e = refl
 
 times_none : (one : ℕ → Walked) (n at : ℕ) → n ≤ 0 → times one n at ≡ through [] at
@@ -57,86 +57,86 @@ times_more one (suc n) at h = rw sub-one
 -- what comes behind the last function of a level
 abbrev above : ResourceLimits → Bytes → List ℕ → ℕ → ℕ → List Row
 above L s left zero behind = []
-above L s left (suc d) behind = onTail (tail_at L s behind) [] (rows_from L s left d)
+above L s left (suc d) behind = on_tail (tail_at L s behind) [] (rows_from L s left d)
 
 module _ (L : ResourceLimits) (s : Bytes) where
-  rows_are : (left : List ℕ) (d at : ℕ) → rows_from L s left d at ≡ onward (times (functionAt L s (LEVELS - d)) (get_or left d 0) at) (above L s left d)
+  rows_are : (left : List ℕ) (d at : ℕ) → rows_from L s left d at ≡ onward (times (function_at L s (LEVELS - d)) (get_or left d 0) at) (above L s left d)
   unfolding rows_from
   rows_are left zero at = refl
   rows_are left (suc d) at = refl
 
   -- the rows of the levels up to d do not depend on `left` below d
-  rows-set : (left : List ℕ) (k n d at : ℕ) → d < k → rows_from L s (set left k n) d at ≡ rows_from L s left d at
+  rows_set : (left : List ℕ) (k n d at : ℕ) → d < k → rows_from L s (set left k n) d at ≡ rows_from L s left d at
   unfolding rows_from
-  rows-set left k n zero at h = rw (get_or-set_other left k 0 n 0 (λ e. omega arith))
-  rows-set left k n (suc d) at h =
+  rows_set left k n zero at h = rw (get_or-set_other left k 0 n 0 (λ e. omega arith))
+  rows_set left k n (suc d) at h =
       rw (get_or-set_other left k (suc d) n 0 (λ e. omega arith))
-      (onward-same (times (functionAt L s (LEVELS - suc d)) (get_or left (suc d) 0) at) _ _ (λ behind.
-      tail-same (tail_at L s behind) _ _ (λ p. rows-set left k n d p (omega arith))))
+      (onward-same (times (function_at L s (LEVELS - suc d)) (get_or left (suc d) 0) at) _ _ (λ behind.
+      tail-same (tail_at L s behind) _ _ (λ p. rows_set left k n d p (omega arith))))
 
-  above-set : (left : List ℕ) (k n d behind : ℕ) → d ≤ k → above L s (set left k n) d behind ≡ above L s left d behind
-  above-set left k n zero behind h = refl
-  above-set left k n (suc d) behind h = tail-same (tail_at L s behind) _ _ (λ p. rows-set left k n d p (omega arith))
+  above_set : (left : List ℕ) (k n d behind : ℕ) → d ≤ k → above L s (set left k n) d behind ≡ above L s left d behind
+  above_set left k n zero behind h = refl
+  above_set left k n (suc d) behind h = tail-same (tail_at L s behind) _ _ (λ p. rows_set left k n d p (omega arith))
 
-  above-next : (left : List ℕ) (d behind : ℕ) → above L s left (d + 1) behind ≡ onTail (tail_at L s behind) [] (rows_from L s left d)
-  above-next left d behind = rw (add-one d)
+  above_next : (left : List ℕ) (d behind : ℕ) → above L s left (d + 1) behind ≡ on_tail (tail_at L s behind) [] (rows_from L s left d)
+  above_next left d behind = rw (add-one d)
 
   pub none_at_top : (left : List ℕ) (d at : ℕ) → get_or left d 0 ≤ 0 → d ≡ 0 → rows_from L s left d at ≡ []
   none_at_top left d at h e = rw (rows_are left d at, times_none _ _ at h, e)
 
-  pub none_here : (left : List ℕ) (d at : ℕ) → get_or left d 0 ≤ 0 → (d ≡ 0 → ⊥) → rows_from L s left d at ≡ onTail (tail_at L s at) [] (rows_from L s left (d - 1))
+  pub none_here : (left : List ℕ) (d at : ℕ) → get_or left d 0 ≤ 0 → (d ≡ 0 → ⊥) → rows_from L s left d at ≡ on_tail (tail_at L s at) [] (rows_from L s left (d - 1))
   none_here left zero at h e = absurd (e refl)
   none_here left (suc d) at h e = rw (rows_are left (suc d) at, times_none _ _ at h, sub-one (suc d))
 
-  pub too-deep : (left : List ℕ) (d at : ℕ) → 0 < get_or left d 0 → LEVELS ≤ d → rows_from L s left d at ≡ []
-  unfolding functionAt
-  too-deep left d at h e = let z : LEVELS - d ≡ 0 = omega arith in rw (rows_are left d at, times_more _ _ at h, z)
+  pub too_deep_lem : (left : List ℕ) (d at : ℕ) → 0 < get_or left d 0 → LEVELS ≤ d → rows_from L s left d at ≡ []
+  unfolding function_at
+  too_deep_lem left d at h e = let z : LEVELS - d ≡ 0 = omega arith in rw (rows_are left d at, times_more _ _ at h, z)
 
   -- one function of a level, by what comes behind the level
-  level-more : (levels n at : ℕ) (k : ℕ → List Row) → 0 < n → onward (times (functionAt L s (suc levels)) n at) k
-      ≡ onHead (DEEPEST - levels) (headAt L s at) [] (λ row first. row ∷ onward (times (functionAt L s levels) row.protos first) (λ behind.
-      onTail (tail_at L s behind) [] (λ p. onward (times (functionAt L s (suc levels)) (n - 1) p) k)))
-  unfolding functionAt body_at
-  level-more levels n at k h =
+  level_more : (levels n at : ℕ) (k : ℕ → List Row) → 0 < n → onward (times (function_at L s (suc levels)) n at) k
+      ≡ on_head (DEEPEST - levels) (head_at L s at) [] (λ row first. row ∷ onward (times (function_at L s levels) row.protos first) (λ behind.
+      on_tail (tail_at L s behind) [] (λ p. onward (times (function_at L s (suc levels)) (n - 1) p) k)))
+  unfolding function_at body_at
+  level_more levels n at k h =
       rw (times_more _ n at h, onward_then)
-      (onward-head (DEEPEST - levels) (headAt L s at) _ _ _ (λ row first.
-      onward-before (row ∷ []) (and_then (times (functionAt L s levels) row.protos first) (λ behind. onTail (tail_at L s behind) (cut []) (through []))) _
+      (onward-head (DEEPEST - levels) (head_at L s at) _ _ _ (λ row first.
+      onward-before (row ∷ []) (and_then (times (function_at L s levels) row.protos first) (λ behind. on_tail (tail_at L s behind) (cut []) (through []))) _
       ∙ ap (λ (l : List Row). row ∷ l)
-      (onward_then (times (functionAt L s levels) row.protos first) _ _ ∙ onward-same (times (functionAt L s levels) row.protos first) _ _ (λ behind. onward-tail (tail_at L s behind) _))))
+      (onward_then (times (function_at L s levels) row.protos first) _ _ ∙ onward-same (times (function_at L s levels) row.protos first) _ _ (λ behind. onward-tail (tail_at L s behind) _))))
 
-  head-same : (d : ℕ) (h : HeadResult) (f g : Row → ℕ → List Row) → ((row : Row) (first : ℕ) → f row first ≡ g row first) → onHead d h [] f ≡ onHead d h [] g
-  head-same d (head-answer.Ok h next) f g e = e (rowShown d h) next.at
+  head-same : (d : ℕ) (h : HeadResult) (f g : Row → ℕ → List Row) → ((row : Row) (first : ℕ) → f row first ≡ g row first) → on_head d h [] f ≡ on_head d h [] g
+  head-same d (head-answer.Ok h next) f g e = e (row_shown d h) next.at
   head-same d (head-answer.Err q) f g e = refl
 
   -- the rows at a level of which one function was taken
   one_fewer : (left : List ℕ) (d n p : ℕ) → d + 1 < length left
-      → rows_from L s (entered left d n) d p ≡ onward (times (functionAt L s (LEVELS - d)) (get_or left d 0 - 1) p) (above L s left d)
+      → rows_from L s (entered left d n) d p ≡ onward (times (function_at L s (LEVELS - d)) (get_or left d 0 - 1) p) (above L s left d)
   one_fewer left d n p fits =
-      rw (rows-set (set left d (get_or left d 0 - 1)) (d + 1) n d p (omega arith), rows_are (set left d (get_or left d 0 - 1)) d p, get_or-set_same left d (get_or left d 0 - 1) 0 (omega arith))
-      (onward-same (times (functionAt L s (LEVELS - d)) (get_or left d 0 - 1) p) _ _ (λ behind. above-set left d (get_or left d 0 - 1) d behind (omega arith)))
+      rw (rows_set (set left d (get_or left d 0 - 1)) (d + 1) n d p (omega arith), rows_are (set left d (get_or left d 0 - 1)) d p, get_or-set_same left d (get_or left d 0 - 1) 0 (omega arith))
+      (onward-same (times (function_at L s (LEVELS - d)) (get_or left d 0 - 1) p) _ _ (λ behind. above_set left d (get_or left d 0 - 1) d behind (omega arith)))
 
-  entered-rows : (left : List ℕ) (d n first : ℕ) → d < LEVELS → d + 1 < length left → rows_from L s (entered left d n) (d + 1) first
-      ≡ onward (times (functionAt L s (DEEPEST - d)) n first) (λ behind.
-      onTail (tail_at L s behind) [] (λ p. onward (times (functionAt L s (LEVELS - d)) (get_or left d 0 - 1) p) (above L s left d)))
-  entered-rows left d n first low fits =
+  entered_rows : (left : List ℕ) (d n first : ℕ) → d < LEVELS → d + 1 < length left → rows_from L s (entered left d n) (d + 1) first
+      ≡ onward (times (function_at L s (DEEPEST - d)) n first) (λ behind.
+      on_tail (tail_at L s behind) [] (λ p. onward (times (function_at L s (LEVELS - d)) (get_or left d 0 - 1) p) (above L s left d)))
+  entered_rows left d n first low fits =
       let z : LEVELS - (d + 1) ≡ DEEPEST - d = omega arith in
       rw (rows_are (entered left d n) (d + 1) first, z, get_or-set_same (set left d (get_or left d 0 - 1)) (d + 1) n 0 (rw length-set (omega arith)))
-      (onward-same (times (functionAt L s (DEEPEST - d)) n first) _ _ (λ behind.
-      above-next (entered left d n) d behind ∙ tail-same (tail_at L s behind) _ _ (λ p. one_fewer left d n p fits)))
+      (onward-same (times (function_at L s (DEEPEST - d)) n first) _ _ (λ behind.
+      above_next (entered left d n) d behind ∙ tail-same (tail_at L s behind) _ _ (λ p. one_fewer left d n p fits)))
 
   pub one_more : (left : List ℕ) (d at : ℕ) → 0 < get_or left d 0 → d < LEVELS → length left ≡ LEVELS + 1
-      → rows_from L s left d at ≡ onHead d (headAt L s at) [] (λ row first. row ∷ rows_from L s (entered left d row.protos) (d + 1) first)
+      → rows_from L s left d at ≡ on_head d (head_at L s at) [] (λ row first. row ∷ rows_from L s (entered left d row.protos) (d + 1) first)
   one_more left d at h low long =
       let fits : d + 1 < length left = omega arith in
       let z : LEVELS - d ≡ suc (DEEPEST - d) = omega arith in
       let here : DEEPEST - (DEEPEST - d) ≡ d = omega arith in
-      rw (rows_are left d at, z, level-more (DEEPEST - d) _ at _ h, here)
-      (head-same d (headAt L s at) _ _ (λ row first. rw (entered-rows left d row.protos first low fits, z)))
+      rw (rows_are left d at, z, level_more (DEEPEST - d) _ at _ h, here)
+      (head-same d (head_at L s at) _ _ (λ row first. rw (entered_rows left d row.protos first low fits, z)))
 
   -- the whole chunk: one function, at the top
-  pub at-start : (left : List ℕ) (at : ℕ) → get_or left 0 0 ≡ 1 → rows_from L s left 0 at ≡ chunkRows L s at
-  unfolding chunkRows rows_from times
-  at-start left at e = rw e (only (functionAt L s LEVELS at))
+  pub at-start : (left : List ℕ) (at : ℕ) → get_or left 0 0 ≡ 1 → rows_from L s left 0 at ≡ chunk_rows L s at
+  unfolding chunk_rows rows_from times
+  at-start left at e = rw e (only (function_at L s LEVELS at))
     where
       only : (w : Walked) → onward (and_then w (through [])) (λ behind. []) ≡ rows_of w
       only (through rows place) = simp append-nil

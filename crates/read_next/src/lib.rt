@@ -2,7 +2,7 @@
 // `left` how many functions of that level are still to come.
 ghost use Rattle.std.specs.Prelude.{◌≡◌, ◌+◌, ◌<◌, ◌≤◌, length, get_or};
 ghost use Rattle.format.specs.Limits.{MOST};
-ghost use Rattle.read_next.specs.Inner.Rows.{LEVELS, rowShown, rows_from, anyRow, met, entered, up_to, Within, Ready};
+ghost use Rattle.read_next.specs.Inner.Rows.{LEVELS, row_shown, rows_from, any_row, met, entered, up_to, Within, Ready};
 
 use format::limits::{DEEPEST, ResourceLimits};
 use read_prototype::front::{Lines, Sizes};
@@ -31,7 +31,7 @@ pub struct Row {
 }
 
 fn row_of(depth: usize, head: Head) -> Row
-    ensures { result ≡ rowShown depth head }
+    ensures { result ≡ row_shown depth head }
 {
     let lines = head.front.lines;
     let sizes = head.front.sizes;
@@ -134,7 +134,7 @@ pub fn any_function(
     cursor: Cursor,
 ) -> bool
     requires { length left.now ≡ LEVELS + 1 }
-    ensures { result ≡ anyRow (rows_from limits s.now left.now depth cursor.at) }
+    ensures { result ≡ any_row (rows_from limits s.now left.now depth cursor.at) }
 {
     let Up::At(_, place) = go_up(s, limits, left, depth, cursor) else {
         return false;

@@ -1,7 +1,7 @@
 -- An entry of a list, by its number.
---     many-nth     of items that are read at a place, passing over i of them and reading one gives item i
---     run-nth      the same of a run of bytes
---     local-nth    the same of local variables, of which the name is read as it is spelt
+--     many_nth     of items that are read at a place, passing over i of them and reading one gives item i
+--     run_nth      the same of a run of bytes
+--     local_nth    the same of local variables, of which the name is read as it is spelt
 -- Assumes nothing.
 use mathlib.Core.Path.{◌≡◌, refl, sym, ◌∙◌, ap}
 use mathlib.Core.List.{List, [], ◌∷◌}
@@ -15,9 +15,9 @@ use Rattle.format.specs.ReadFields.{byte}
 use Rattle.format.specs.ReadChunk.{local}
 use Rattle.format.specs.Reading.{LocalVar}
 use Rattle.format.proofs.Exact.{never}
-use Rattle.format.proofs.Steps.{run-enough, run-was, field-enough}
+use Rattle.format.proofs.Steps.{run_enough, run_was, field_enough}
 use Rattle.format.proofs.Located.{Found}
-use Rattle.read_entry.specs.Readers.{RawLocal, rawLocal}
+use Rattle.read_entry.specs.Readers.{RawLocal, raw_local}
 use Rattle.read_entry.specs.Inner.Counts.{named}
 use Rattle.read_entry.proofs.DebugInfo.{local-named}
 use Rattle.read_nth.specs.Inner.Nth.{entry_at, byte_at, local_at}
@@ -74,8 +74,8 @@ module _ {A : Type 0} (r : Reader A) where
       let later = nth_read n i p.mid p.behind p.others f in
       record { to = later.to; rest = later.rest; is = onward i at s p.first ∙ later.is }
 
-  pub many-nth : {s : Bytes} (n : ℕ) {at : ℕ} {xs : List A} → Found s (many n r) at xs → (i : ℕ) {x : A} → get_elem? xs i ≡ some x → Found s (entry_at i r) at x
-  many-nth {s} n {at} {xs} f i {x} found =
+  pub many_nth : {s : Bytes} (n : ℕ) {at : ℕ} {xs : List A} → Found s (many n r) at xs → (i : ℕ) {x : A} → get_elem? xs i ≡ some x → Found s (entry_at i r) at x
+  many_nth {s} n {at} {xs} f i {x} found =
       let g = nth_read n i at (drop at s) (record { to = f.to; rest = f.rest; is = f.is }) found in
       record { to = g.to; rest = g.rest; is = g.is }
 
@@ -85,31 +85,31 @@ nth_drop i [] e = not_none e
 nth_drop zero (y ∷ t) {x} e = let same : y ≡ x = cc in ap (λ z. z ∷ t) same
 nth_drop (suc i) (y ∷ t) e = nth_drop i t e
 
-nth-below : (i : ℕ) (t : Bytes) {x : ℕ} → get_elem? t i ≡ some x → i < length t
-nth-below i [] e = not_none e
-nth-below zero (y ∷ t) e = omega arith
-nth-below (suc i) (y ∷ t) e = let below = nth-below i t e in omega arith
+nth_below : (i : ℕ) (t : Bytes) {x : ℕ} → get_elem? t i ≡ some x → i < length t
+nth_below i [] e = not_none e
+nth_below zero (y ∷ t) e = omega arith
+nth_below (suc i) (y ∷ t) e = let below = nth_below i t e in omega arith
 
-nth-take : (n i : ℕ) (t : Bytes) {x : ℕ} → get_elem? (take n t) i ≡ some x → get_elem? t i ≡ some x
-nth-take zero i t e = not_none e
-nth-take (suc n) i [] e = not_none e
-nth-take (suc n) zero (y ∷ t) e = e
-nth-take (suc n) (suc i) (y ∷ t) e = nth-take n i t e
+nth_take : (n i : ℕ) (t : Bytes) {x : ℕ} → get_elem? (take n t) i ≡ some x → get_elem? t i ≡ some x
+nth_take zero i t e = not_none e
+nth_take (suc n) i [] e = not_none e
+nth_take (suc n) zero (y ∷ t) e = e
+nth_take (suc n) (suc i) (y ∷ t) e = nth_take n i t e
 
 byte-read : (i at : ℕ) (t : Bytes) {x : ℕ} → get_elem? t i ≡ some x → Gives (byte_at i at t) x
 byte-read i at t {x} e =
-    let below = nth-below i t e in
-    let one : byte (at + i) (x ∷ drop (suc i) t) ≡ ok (x + 256 * 0) (at + i + 1) (drop (suc i) t) = field-enough 1 (at + i) (x ∷ drop (suc i) t) (omega arith) in
+    let below = nth_below i t e in
+    let one : byte (at + i) (x ∷ drop (suc i) t) ≡ ok (x + 256 * 0) (at + i + 1) (drop (suc i) t) = field_enough 1 (at + i) (x ∷ drop (suc i) t) (omega arith) in
     let value : x + 256 * 0 ≡ x = omega arith in
     record {
       to = at + i + 1;
       rest = drop (suc i) t;
-      is = ap (λ o. next o (λ _. byte)) (run-enough i at t (omega arith)) ∙ ap (λ u. byte (at + i) u) (nth_drop i t e) ∙ one ∙ ap (λ n. ok n (at + i + 1) (drop (suc i) t)) value;
+      is = ap (λ o. next o (λ _. byte)) (run_enough i at t (omega arith)) ∙ ap (λ u. byte (at + i) u) (nth_drop i t e) ∙ one ∙ ap (λ n. ok n (at + i + 1) (drop (suc i) t)) value;
     }
 
-pub run-nth : {s : Bytes} (n : ℕ) {at : ℕ} {xs : Bytes} → Found s (run n) at xs → (i : ℕ) {x : ℕ} → get_elem? xs i ≡ some x → Found s (byte_at i) at x
-run-nth {s} n {at} {xs} f i {x} found =
-    let g = byte-read i at (drop at s) (nth-take n i (drop at s) (rw (← (run-was n at (drop at s) f.is).1) at found)) in
+pub run_nth : {s : Bytes} (n : ℕ) {at : ℕ} {xs : Bytes} → Found s (run n) at xs → (i : ℕ) {x : ℕ} → get_elem? xs i ≡ some x → Found s (byte_at i) at x
+run_nth {s} n {at} {xs} f i {x} found =
+    let g = byte-read i at (drop at s) (nth_take n i (drop at s) (rw (← (run_was n at (drop at s) f.is).1) at found)) in
     record { to = g.to; rest = g.rest; is = g.is }
 
 -- ## Local variables
@@ -129,12 +129,12 @@ spelt : (o : Read RawLocal) {l : LocalVar} {to : ℕ} {rest : Bytes} → next o 
 spelt (ok raw to rest) e = record { raw = raw; gives = record { to = to; rest = rest; is = refl }; is = cc }
 spelt (refused q) e = absurd (never e)
 
-pub local-nth : {s : Bytes} (n limit : ℕ) {at : ℕ} {ls : List LocalVar} → Found s (many n (local limit)) at ls → (i : ℕ) {l : LocalVar} → get_elem? ls i ≡ some l → LocalFound s i limit at l
-local-nth {s} n limit {at} f i {l} found = go (many i (local limit) at (drop at s)) refl (many-nth (local limit) n f i found)
+pub local_nth : {s : Bytes} (n limit : ℕ) {at : ℕ} {ls : List LocalVar} → Found s (many n (local limit)) at ls → (i : ℕ) {l : LocalVar} → get_elem? ls i ≡ some l → LocalFound s i limit at l
+local_nth {s} n limit {at} f i {l} found = go (many i (local limit) at (drop at s)) refl (many_nth (local limit) n f i found)
   where
     go : (o : Read (List LocalVar)) → many i (local limit) at (drop at s) ≡ o → Found s (entry_at i (local limit)) at l → LocalFound s i limit at l
     go (ok before mid t) p g =
         let here = ap (λ o. next o (λ _. local limit)) p in
-        let raw = spelt (rawLocal limit mid t) (sym (local-named limit mid t) ∙ sym here ∙ g.is) in
-        record { raw = raw.raw; found = record { to = raw.gives.to; rest = raw.gives.rest; is = ap (λ o. next o (λ _. rawLocal limit)) p ∙ raw.gives.is }; is = raw.is }
+        let raw = spelt (raw_local limit mid t) (sym (local-named limit mid t) ∙ sym here ∙ g.is) in
+        record { raw = raw.raw; found = record { to = raw.gives.to; rest = raw.gives.rest; is = ap (λ o. next o (λ _. raw_local limit)) p ∙ raw.gives.is }; is = raw.is }
     go (refused q) p g = absurd (never (sym (ap (λ o. next o (λ _. local limit)) p) ∙ g.is))

@@ -2,10 +2,10 @@
 ghost use Rattle.std.specs.Prelude.{◌≡◌, drop};
 ghost use Rattle.format.specs.ReadFields.{field};
 ghost use Rattle.format.specs.ReadChunk as spec;
-ghost use Rattle.read_field.specs.Shown.{u32Result};
-ghost use Rattle.read_entry.specs.Shown.{constantResult};
+ghost use Rattle.read_field.specs.Shown.{u32_result};
+ghost use Rattle.read_entry.specs.Shown.{constant_result};
 ghost use Rattle.read_nth.specs.Inner.Nth.{entry_at};
-ghost use Rattle.read_nth.specs.Shown.{upvalueResult};
+ghost use Rattle.read_nth.specs.Shown.{upvalue_result};
 
 use format::entry::UpvalueDesc;
 use format::refusal::Refusal;
@@ -23,7 +23,7 @@ pub enum UpvalueResult {
 
 // The word with a number, from 0, of the words that begin at the cursor. Ruled out: the word before, the bytes of a word taken as entries.
 pub fn nth_word(s: &[u8], cursor: Cursor, entry: usize) -> U32Result
-    ensures { result ≡ u32Result (entry_at entry (field 4) cursor.at (drop cursor.at s.now)) }
+    ensures { result ≡ u32_result (entry_at entry (field 4) cursor.at (drop cursor.at s.now)) }
 {
     let passed = skip_words(s, cursor, entry);
     match passed {
@@ -39,7 +39,7 @@ pub fn nth_constant(
     entry: usize,
     max_string_bytes: usize,
 ) -> ConstantResult
-    ensures { result ≡ constantResult (entry_at entry (spec.constant max_string_bytes) cursor.at (drop cursor.at s.now)) }
+    ensures { result ≡ constant_result (entry_at entry (spec.constant max_string_bytes) cursor.at (drop cursor.at s.now)) }
 {
     let mut unused = [0usize; 4];
     let passed = pass_constants(s, cursor, entry, max_string_bytes, &mut unused);
@@ -51,7 +51,7 @@ pub fn nth_constant(
 
 // One upvalue: three bytes. Ruled out: instack and idx exchanged, the same byte three times.
 pub fn read_upvalue(s: &[u8], cursor: Cursor) -> UpvalueResult
-    ensures { result ≡ upvalueResult (spec.upvalue cursor.at (drop cursor.at s.now)) }
+    ensures { result ≡ upvalue_result (spec.upvalue cursor.at (drop cursor.at s.now)) }
 {
     let first = read_u8(s, cursor);
     match first {
@@ -87,7 +87,7 @@ pub fn read_upvalue(s: &[u8], cursor: Cursor) -> UpvalueResult
 
 // The upvalue with a number, from 0, of those that begin at the cursor. Ruled out: two bytes an upvalue, the upvalue behind it.
 pub fn nth_upvalue(s: &[u8], cursor: Cursor, entry: usize) -> UpvalueResult
-    ensures { result ≡ upvalueResult (entry_at entry spec.upvalue cursor.at (drop cursor.at s.now)) }
+    ensures { result ≡ upvalue_result (entry_at entry spec.upvalue cursor.at (drop cursor.at s.now)) }
 {
     let passed = skip_upvalues(s, cursor, entry);
     match passed {

@@ -2,8 +2,8 @@
 ghost use Rattle.std.specs.Prelude.{◌≡◌, drop};
 ghost use Rattle.format.specs.ReadFields.{string};
 ghost use Rattle.format.specs.ReadChunk as spec;
-ghost use Rattle.read_field.specs.Shown.{u8Result, stringResult};
-ghost use Rattle.read_entry.specs.Shown.{anchorResult, localResult};
+ghost use Rattle.read_field.specs.Shown.{u8_result, string_result};
+ghost use Rattle.read_entry.specs.Shown.{anchor_result, local_result};
 ghost use Rattle.read_nth.specs.Inner.Nth.{entry_at, byte_at, local_at};
 
 use read_entry::debug::{AnchorResult, LocalResult, read_anchor, read_local};
@@ -14,7 +14,7 @@ use slice::cursor::{Cursor, CursorResult, read_exact};
 
 // The delta with a number, from 0, of those that begin at the cursor, as a byte. Ruled out: the first delta whatever the number, one delta too far.
 pub fn nth_delta(s: &[u8], cursor: Cursor, entry: usize) -> U8Result
-    ensures { result ≡ u8Result (byte_at entry cursor.at (drop cursor.at s.now)) }
+    ensures { result ≡ u8_result (byte_at entry cursor.at (drop cursor.at s.now)) }
 {
     let passed = read_exact(s, cursor, entry);
     match passed {
@@ -25,7 +25,7 @@ pub fn nth_delta(s: &[u8], cursor: Cursor, entry: usize) -> U8Result
 
 // The anchor with a number, from 0, of those that begin at the cursor. Ruled out: the first anchor whatever the number, a number taken for an anchor.
 pub fn nth_anchor(s: &[u8], cursor: Cursor, entry: usize) -> AnchorResult
-    ensures { result ≡ anchorResult (entry_at entry spec.anchor cursor.at (drop cursor.at s.now)) }
+    ensures { result ≡ anchor_result (entry_at entry spec.anchor cursor.at (drop cursor.at s.now)) }
 {
     let mut unused = [0usize; 4];
     let passed = pass_anchors(s, cursor, entry, &mut unused);
@@ -37,7 +37,7 @@ pub fn nth_anchor(s: &[u8], cursor: Cursor, entry: usize) -> AnchorResult
 
 // The local variable with a number, from 0, of those that begin at the cursor, with its name as it is spelt. Ruled out: the name of the local before, an absent name given as `?`.
 pub fn nth_local(s: &[u8], cursor: Cursor, entry: usize, max_string_bytes: usize) -> LocalResult
-    ensures { result ≡ localResult (local_at entry max_string_bytes cursor.at (drop cursor.at s.now)) }
+    ensures { result ≡ local_result (local_at entry max_string_bytes cursor.at (drop cursor.at s.now)) }
 {
     let mut unused = [0usize; 4];
     let passed = pass_locals(s, cursor, entry, max_string_bytes, &mut unused);
@@ -49,7 +49,7 @@ pub fn nth_local(s: &[u8], cursor: Cursor, entry: usize, max_string_bytes: usize
 
 // The upvalue name with a number, from 0, of those that begin at the cursor. Ruled out: absent names not counted, an absent name given as an empty one.
 pub fn nth_name(s: &[u8], cursor: Cursor, entry: usize, max_string_bytes: usize) -> StringResult
-    ensures { result ≡ stringResult (entry_at entry (string max_string_bytes) cursor.at (drop cursor.at s.now)) }
+    ensures { result ≡ string_result (entry_at entry (string max_string_bytes) cursor.at (drop cursor.at s.now)) }
 {
     let mut unused = [0usize; 4];
     let passed = pass_strings(s, cursor, entry, max_string_bytes, &mut unused);

@@ -23,13 +23,13 @@ use Rattle.format.specs.declared.spelling.Spelling.{Spelling}
 use Rattle.format_spelling.specs.Spelling.{same, ◌⊕◌, dropping}
 use Rattle.format_spelling.specs.ReadSpelling.{Count, none, plus, behind}
 use Rattle.format_spelling.specs.ReadSpelling as count
-use Rattle.format_spelling.proofs.Sums.{spelling-path, same-join}
+use Rattle.format_spelling.proofs.Sums.{spelling_path, same_join}
 use Rattle.format_spelling.proofs.Passing.{Ran, ran, Gave, gave, past, stepped, counted_none}
-use Rattle.read_entry.specs.Readers.{code, lineInfo, protosCount}
+use Rattle.read_entry.specs.Readers.{code, line_info, protos_count}
 use Rattle.read_entry.specs.Readers as entry
-use Rattle.read_list.proofs.Listing.{behindCount}
+use Rattle.read_list.proofs.Listing.{behind_count}
 use Rattle.read_prototype.specs.Front.{Front, lines, sizes, front}
-use Rattle.read_prototype.specs.Parts.{HeadLists, headLists, Head, head}
+use Rattle.read_prototype.specs.Parts.{HeadLists, head_lists, Head, head}
 use Rattle.read_prototype.specs.Inner.Whole.{inside}
 use Rattle.read_prototype.specs.PartsSpelt as spelt
 use Rattle.read_prototype.proofs.HeadAnswers.{codes, constants, upvalues}
@@ -43,17 +43,17 @@ record CodeRan (at : ℕ) (s : Bytes) (l : Listed ℕ) (to : ℕ) (rest : Bytes)
   one : number at s ≡ ok size mid left
   two : many size (field 4) mid left ≡ ok l.items to rest
 
-code-ran : (per-proto before total : ℕ) (at : ℕ) (s : Bytes) {l : Listed ℕ} {to : ℕ} {rest : Bytes} → code per-proto before total at s ≡ ok l to rest → CodeRan at s l to rest
-code-ran per-proto before total at s {l} {to} {rest} e =
-    let words : ℕ → Reader (Listed ℕ) = behindCount (λ n. many n (field 4)) in
+code_ran : (per-proto before total : ℕ) (at : ℕ) (s : Bytes) {l : Listed ℕ} {to : ℕ} {rest : Bytes} → code per-proto before total at s ≡ ok l to rest → CodeRan at s l to rest
+code_ran per-proto before total at s {l} {to} {rest} e =
+    let words : ℕ → Reader (Listed ℕ) = behind_count (λ n. many n (field 4)) in
     let later : ℕ → Reader (Listed ℕ) = λ n. at_most n per-proto (Instructions at) >> (at_most (before + n) total (TotalInstructions at) >> words n) in
     let a : Ran number later at s l to rest = ran e in
     let b = past (leb (before + a.value) total) (TotalInstructions at) (words a.value) a.mid a.left (past (leb a.value per-proto) (Instructions at) (at_most (before + a.value) total (TotalInstructions at) >> words a.value) a.mid a.left a.two) in
     let c : Gave (many a.value (field 4)) (λ items. record { place = a.mid; items = items }) a.mid a.left l to rest = gave b in
     record { size = a.value; mid = a.mid; left = a.left; one = a.one; two = c.one ∙ ap (λ xs. ok xs to rest) (ap (λ l. l.items) c.is) }
 
-protos-ran : (limit at : ℕ) (s : Bytes) {c : entry.Count} {to : ℕ} {rest : Bytes} → protosCount limit at s ≡ ok c to rest → number at s ≡ ok c.count to rest
-protos-ran limit at s {c} {to} {rest} e =
+protos_ran : (limit at : ℕ) (s : Bytes) {c : entry.Count} {to : ℕ} {rest : Bytes} → protos_count limit at s ≡ ok c to rest → number at s ≡ ok c.count to rest
+protos_ran limit at s {c} {to} {rest} e =
     let placed : ℕ → Reader entry.Count = λ n. here >>= λ place. give (record { count = n; place = place }) in
     let a : Ran number (λ n. at_most n limit (Prototypes at) >> placed n) at s c to rest = ran e in
     let b : ok (record { count = a.value; place = a.mid }) a.mid a.left ≡ ok c to rest = past (leb a.value limit) (Prototypes at) (placed a.value) a.mid a.left a.two in
@@ -65,14 +65,14 @@ protos-ran limit at s {c} {to} {rest} e =
 -- ## The parts, before what stands behind them
 module _ (limit : ℕ) (w : Where) (at : ℕ) (s : Bytes) {f : Front} {to : ℕ} {rest : Bytes} (e : front limit at s ≡ ok f to rest) (later : Option LuaString → Count) where
   front-sum : (a b c d e : Spelling) → (a ⊕ b) ⊕ (c ⊕ (d ⊕ (same ⊕ (same ⊕ (same ⊕ e))))) ≡ (a ⊕ (c ⊕ d)) ⊕ b ⊕ e
-  front-sum a b c d e = spelling-path _ _ (omega arith) (omega arith) (omega arith) (omega arith)
+  front-sum a b c d e = spelling_path _ _ (omega arith) (omega arith) (omega arith) (omega arith)
 
   front-spelt : (
       plus (string limit) (count.source limit w) λ spelt.
       plus number count.number λ line-defined.
-      plus number count.number λ last-line-defined.
+      plus number count.number λ last-line_defined.
       plus byte none λ numparams.
-      plus byte none λ is-vararg.
+      plus byte none λ is_vararg.
       plus byte none λ maxstacksize.
       later spelt) at s ≡ spelt.front limit at s ⊕ dropping w f.source ⊕ later f.source to rest
   front-spelt =
@@ -87,12 +87,12 @@ module _ (limit : ℕ) (w : Where) (at : ℕ) (s : Bytes) {f : Front} {to : ℕ}
       let source : f.source ≡ a.value = sym (ap (λ f. f.source) c.is) in
       rw (source, a.one, l₁.one, l₂.one, s₁.one, s₂.one, s₃.one) (front-sum (count.string at s) (dropping w a.value) (count.number a.mid a.left) (count.number l₁.mid l₁.left) (later a.value to rest))
 
-module _ (L : ResourceLimits) (before at : ℕ) (s : Bytes) {l : HeadLists} {to : ℕ} {rest : Bytes} (e : headLists L before at s ≡ ok l to rest) (later : List ℕ → Count) where
+module _ (L : ResourceLimits) (before at : ℕ) (s : Bytes) {l : HeadLists} {to : ℕ} {rest : Bytes} (e : head_lists L before at s ≡ ok l to rest) (later : List ℕ → Count) where
   abbrev spelt-constants : Count
   spelt-constants = count.counted (reader.constant L.max_string_bytes) (count.constant L.max_string_bytes)
 
   lists-sum : (a b c d : Spelling) → a ⊕ (same ⊕ (b ⊕ (c ⊕ d))) ≡ (a ⊕ (b ⊕ c)) ⊕ d
-  lists-sum a b c d = spelling-path _ _ (omega arith) (omega arith) (omega arith) (omega arith)
+  lists-sum a b c d = spelling_path _ _ (omega arith) (omega arith) (omega arith) (omega arith)
 
   abbrev from-code : Count
   from-code =
@@ -102,96 +102,96 @@ module _ (L : ResourceLimits) (before at : ℕ) (s : Bytes) {l : HeadLists} {to 
       plus (upvalues L) (count.counted reader.upvalue none) λ upvalues.
       later instructions
 
-  lists-steps : {n a₁ : ℕ} {s₁ : Bytes} {xs : List ℕ} {a₂ : ℕ} {s₂ : Bytes} {k : Listed ConstantValue} {a₃ : ℕ} {s₃ : Bytes} {u : Listed UpvalueDesc} {a₄ : ℕ} {s₄ : Bytes}
+  lists_steps : {n a₁ : ℕ} {s₁ : Bytes} {xs : List ℕ} {a₂ : ℕ} {s₂ : Bytes} {k : Listed ConstantValue} {a₃ : ℕ} {s₃ : Bytes} {u : Listed UpvalueDesc} {a₄ : ℕ} {s₄ : Bytes}
       → number at s ≡ ok n a₁ s₁ → many n (field 4) a₁ s₁ ≡ ok xs a₂ s₂ → constants L a₂ s₂ ≡ ok k a₃ s₃ → upvalues L a₃ s₃ ≡ ok u a₄ s₄
       → from-code at s ≡ count.number at s ⊕ (same ⊕ (spelt-constants a₂ s₂ ⊕ (count.counted reader.upvalue none a₃ s₃ ⊕ later xs a₄ s₄)))
-  lists-steps one two three four = rw (one, two, three, four)
+  lists_steps one two three four = rw (one, two, three, four)
 
   lists-count : {i : Listed ℕ} {a₂ : ℕ} {s₂ : Bytes} {k : Listed ConstantValue} {a₃ : ℕ} {s₃ : Bytes} → codes L before at s ≡ ok i a₂ s₂ → constants L a₂ s₂ ≡ ok k a₃ s₃
-      → spelt.headLists L before at s ≡ count.number at s ⊕ (spelt-constants a₂ s₂ ⊕ count.number a₃ s₃)
+      → spelt.head_lists L before at s ≡ count.number at s ⊕ (spelt-constants a₂ s₂ ⊕ count.number a₃ s₃)
   lists-count one two = rw (one, two)
 
-  lists-spelt : from-code at s ≡ spelt.headLists L before at s ⊕ later l.instructions.items to rest
+  lists-spelt : from-code at s ≡ spelt.head_lists L before at s ⊕ later l.instructions.items to rest
   lists-spelt =
       let a : Ran (codes L before) (λ i. constants L >>= λ k. upvalues L >>= λ u. give (record { instructions = i; constants = k; upvalues = u })) at s l to rest = ran e in
       let b : Ran (constants L) (λ k. upvalues L >>= λ u. give (record { instructions = a.value; constants = k; upvalues = u })) a.mid a.left l to rest = ran a.two in
       let c : Gave (upvalues L) (λ u. record { instructions = a.value; constants = b.value; upvalues = u }) b.mid b.left l to rest = gave b.two in
-      let words = code-ran L.max_instructions_per_proto before L.max_total_instructions at s a.one in
+      let words = code_ran L.max_instructions_per_proto before L.max_total_instructions at s a.one in
       let same_code : a.value.items ≡ l.instructions.items = ap (λ l. l.instructions.items) c.is in
-      lists-steps words.one words.two b.one c.one
+      lists_steps words.one words.two b.one c.one
       ∙ ap (λ n. count.number at s ⊕ (same ⊕ (spelt-constants a.mid a.left ⊕ (n ⊕ later a.value.items to rest)))) (counted_none reader.upvalue b.mid b.left)
       ∙ lists-sum (count.number at s) (spelt-constants a.mid a.left) (count.number b.mid b.left) (later a.value.items to rest)
       ∙ ap₂ (λ n xs. n ⊕ later xs to rest) (sym (lists-count a.one b.one)) same_code
 
 -- behind the nested functions nothing is refused for a limit of its own
 module _ (limit : ℕ) (at : ℕ) (s : Bytes) (later : Count) where
-  deltas-spelt : (plus number count.number λ size. plus (run size) none λ deltas. later) at s ≡ plus lineInfo count.number (λ l. later) at s
-  deltas-spelt = ap (λ a. count.number at s ⊕ a) (by (number at s))
+  deltas_spelt : (plus number count.number λ size. plus (run size) none λ deltas. later) at s ≡ plus line_info count.number (λ l. later) at s
+  deltas_spelt = ap (λ a. count.number at s ⊕ a) (by (number at s))
     where
       listed : (place : ℕ) (o : Read Bytes) → same ⊕ behind o (λ deltas. later) ≡ behind {A = Listed ℕ} (next o (λ items. give (record { place = place; items = items }))) (λ l. later)
-      listed place (ok xs to rest) = same-join (later to rest)
+      listed place (ok xs to rest) = same_join (later to rest)
       listed place (refused q) = refl
 
-      by : (o : Read ℕ) → behind o (λ size. plus (run size) none λ deltas. later) ≡ behind (next o (behindCount run)) (λ l. later)
+      by : (o : Read ℕ) → behind o (λ size. plus (run size) none λ deltas. later) ≡ behind (next o (behind_count run)) (λ l. later)
       by (ok n to rest) = listed to (run n to rest)
       by (refused q) = refl
 
 -- ## A function
 body-sum : (a b c d e f : Spelling) → a ⊕ b ⊕ (c ⊕ (d ⊕ (e ⊕ f))) ≡ a ⊕ (c ⊕ d) ⊕ b ⊕ (e ⊕ f)
-body-sum a b c d e f = spelling-path _ _ (omega arith) (omega arith) (omega arith) (omega arith)
+body-sum a b c d e f = spelling_path _ _ (omega arith) (omega arith) (omega arith) (omega arith)
 
 module _ (L : ResourceLimits) (r : Where → Reader (List Prototype)) (c : Where → Count) (w : Where) where
   abbrev counts : Reader entry.Count
-  counts = protosCount L.max_total_prototypes
+  counts = protos_count L.max_total_prototypes
 
   abbrev tail-lists : Count
   tail-lists =
-      plus (reader.counted reader.anchor) (count.counted reader.anchor count.anchor) λ abs-line-info.
-      plus (reader.counted (reader.local L.max_string_bytes)) (count.counted (reader.local L.max_string_bytes) (count.local L.max_string_bytes)) λ loc-vars.
+      plus (reader.counted reader.anchor) (count.counted reader.anchor count.anchor) λ abs_line_info.
+      plus (reader.counted (reader.local L.max_string_bytes)) (count.counted (reader.local L.max_string_bytes) (count.local L.max_string_bytes)) λ loc_vars.
       count.counted (string L.max_string_bytes) count.string
 
-  abbrev from-deltas : Count
-  from-deltas = plus number count.number λ line-info-size. plus (run line-info-size) none λ line-info. tail-lists
+  abbrev from_deltas : Count
+  from_deltas = plus number count.number λ line-info-size. plus (run line-info-size) none λ line_info_lem. tail-lists
 
-  abbrev from-nested : Option LuaString → List ℕ → ℕ → Count
-  from-nested spelt instructions protos =
-      plus (reader.forest protos r (within w (inherit spelt w.source) (length instructions))) (count.forest protos r c (within w (inherit spelt w.source) (length instructions))) λ nested. from-deltas
+  abbrev from_nested : Option LuaString → List ℕ → ℕ → Count
+  from_nested spelt instructions protos =
+      plus (reader.forest protos r (within w (inherit spelt w.source) (length instructions))) (count.forest protos r c (within w (inherit spelt w.source) (length instructions))) λ nested. from_deltas
 
   -- what a function's head and nested functions give, whose parts are f, l and p
   module _ (at : ℕ) (s : Bytes) {f : Front} {l : HeadLists} {p : entry.Count} {a₁ a₂ to₁ : ℕ} {s₁ s₂ rest₁ : Bytes} (one : front L.max_string_bytes at s ≡ ok f a₁ s₁)
-      (two : headLists L w.instructions a₁ s₁ ≡ ok l a₂ s₂) (three : counts a₂ s₂ ≡ ok p to₁ rest₁) where
-    head-count : spelt.head L w.instructions at s ≡ spelt.front L.max_string_bytes at s ⊕ (spelt.headLists L w.instructions a₁ s₁ ⊕ count.number a₂ s₂)
+      (two : head_lists L w.instructions a₁ s₁ ≡ ok l a₂ s₂) (three : counts a₂ s₂ ≡ ok p to₁ rest₁) where
+    head-count : spelt.head L w.instructions at s ≡ spelt.front L.max_string_bytes at s ⊕ (spelt.head_lists L w.instructions a₁ s₁ ⊕ count.number a₂ s₂)
     head-count =
-        stepped (front L.max_string_bytes) (spelt.front L.max_string_bytes) (λ _. plus (headLists L w.instructions) (spelt.headLists L w.instructions) λ _. count.number) at s one
-        ∙ ap (λ n. spelt.front L.max_string_bytes at s ⊕ n) (stepped (headLists L w.instructions) (spelt.headLists L w.instructions) (λ _. count.number) a₁ s₁ two)
+        stepped (front L.max_string_bytes) (spelt.front L.max_string_bytes) (λ _. plus (head_lists L w.instructions) (spelt.head_lists L w.instructions) λ _. count.number) at s one
+        ∙ ap (λ n. spelt.front L.max_string_bytes at s ⊕ n) (stepped (head_lists L w.instructions) (spelt.head_lists L w.instructions) (λ _. count.number) a₁ s₁ two)
 
-    abbrev its-head : Head
-    its-head = record { front = f; lists = l; protos = p }
+    abbrev its_head : Head
+    its_head = record { front = f; lists = l; protos = p }
 
-    body-steps : {ps : List Prototype} {to₂ : ℕ} {rest₂ : Bytes} → reader.forest p.count r (inside w its-head) to₁ rest₁ ≡ ok ps to₂ rest₂
-        → count.body L r c w at s ≡ spelt.head L w.instructions at s ⊕ dropping w f.source ⊕ (count.forest p.count r c (inside w its-head) to₁ rest₁ ⊕ spelt.tail L.max_string_bytes to₂ rest₂)
+    body_steps : {ps : List Prototype} {to₂ : ℕ} {rest₂ : Bytes} → reader.forest p.count r (inside w its_head) to₁ rest₁ ≡ ok ps to₂ rest₂
+        → count.body L r c w at s ≡ spelt.head L w.instructions at s ⊕ dropping w f.source ⊕ (count.forest p.count r c (inside w its_head) to₁ rest₁ ⊕ spelt.tail L.max_string_bytes to₂ rest₂)
     unfolding count.body
-    body-steps {to₂} {rest₂} four =
+    body_steps {to₂} {rest₂} four =
         let limit = L.max_string_bytes in
         let begins = spelt.front limit at s in
         let own = dropping w f.source in
-        let lists = spelt.headLists L w.instructions a₁ s₁ in
-        let nested = count.forest p.count r c (inside w its-head) to₁ rest₁ in
+        let lists = spelt.head_lists L w.instructions a₁ s₁ in
+        let nested = count.forest p.count r c (inside w its_head) to₁ rest₁ in
         front-spelt limit w at s one _
         ∙ ap (λ n. begins ⊕ own ⊕ n) (lists-spelt L w.instructions a₁ s₁ two _
-        ∙ ap (λ n. lists ⊕ n) (stepped number count.number (from-nested f.source l.instructions.items) a₂ s₂ (protos-ran L.max_total_prototypes a₂ s₂ three)
-        ∙ ap (λ n. count.number a₂ s₂ ⊕ n) (stepped (reader.forest p.count r (inside w its-head)) (count.forest p.count r c (inside w its-head)) (λ _. from-deltas) to₁ rest₁ four
-        ∙ ap (λ n. nested ⊕ n) (deltas-spelt limit to₂ rest₂ tail-lists))))
+        ∙ ap (λ n. lists ⊕ n) (stepped number count.number (from_nested f.source l.instructions.items) a₂ s₂ (protos_ran L.max_total_prototypes a₂ s₂ three)
+        ∙ ap (λ n. count.number a₂ s₂ ⊕ n) (stepped (reader.forest p.count r (inside w its_head)) (count.forest p.count r c (inside w its_head)) (λ _. from_deltas) to₁ rest₁ four
+        ∙ ap (λ n. nested ⊕ n) (deltas_spelt limit to₂ rest₂ tail-lists))))
         ∙ body-sum begins own lists (count.number a₂ s₂) nested (spelt.tail limit to₂ rest₂)
         ∙ ap (λ n. n ⊕ own ⊕ (nested ⊕ spelt.tail limit to₂ rest₂)) (sym head-count)
 
   pub body-spelt : (at : ℕ) (s : Bytes) {h : Head} {to₁ : ℕ} {rest₁ : Bytes} → head L w.instructions at s ≡ ok h to₁ rest₁ → {ps : List Prototype} {to₂ : ℕ} {rest₂ : Bytes} → reader.forest h.protos.count r (inside w h) to₁ rest₁ ≡ ok ps to₂ rest₂
       → count.body L r c w at s ≡ spelt.head L w.instructions at s ⊕ dropping w h.front.source ⊕ (count.forest h.protos.count r c (inside w h) to₁ rest₁ ⊕ spelt.tail L.max_string_bytes to₂ rest₂)
   body-spelt at s {h} {to₁} {rest₁} e {ps} {to₂} {rest₂} four =
-      let a : Ran (front L.max_string_bytes) (λ f. headLists L w.instructions >>= λ l. counts >>= λ p. give (record { front = f; lists = l; protos = p })) at s h to₁ rest₁ = ran e in
-      let b : Ran (headLists L w.instructions) (λ l. counts >>= λ p. give (record { front = a.value; lists = l; protos = p })) a.mid a.left h to₁ rest₁ = ran a.two in
+      let a : Ran (front L.max_string_bytes) (λ f. head_lists L w.instructions >>= λ l. counts >>= λ p. give (record { front = f; lists = l; protos = p })) at s h to₁ rest₁ = ran e in
+      let b : Ran (head_lists L w.instructions) (λ l. counts >>= λ p. give (record { front = a.value; lists = l; protos = p })) a.mid a.left h to₁ rest₁ = ran a.two in
       let p : Gave counts (λ p. record { front = a.value; lists = b.value; protos = p }) b.mid b.left h to₁ rest₁ = gave b.two in
       subst
       (λ h. reader.forest h.protos.count r (inside w h) to₁ rest₁ ≡ ok ps to₂ rest₂
       → count.body L r c w at s ≡ spelt.head L w.instructions at s ⊕ dropping w h.front.source ⊕ (count.forest h.protos.count r c (inside w h) to₁ rest₁ ⊕ spelt.tail L.max_string_bytes to₂ rest₂))
-      p.is (body-steps at s a.one b.one p.one) four
+      p.is (body_steps at s a.one b.one p.one) four

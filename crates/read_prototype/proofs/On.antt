@@ -15,12 +15,12 @@ use Rattle.format_spelling.specs.Inner.Tally.{Adds}
 use Rattle.format_spelling.proofs.Tallies.{adds-not, adds_then}
 use Rattle.slice.specs.declared.cursor.Cursor.{Cursor}
 use Rattle.read_field.specs.declared.field.U64Result.TheVariants as u64
-use Rattle.read_field.specs.Shown.{u64Result}
-use Rattle.read_field.proofs.Shows.{onward, u64-ok}
+use Rattle.read_field.specs.Shown.{u64_result}
+use Rattle.read_field.proofs.Shows.{onward, u64_ok}
 
 module _ (s : Bytes) (at : ℕ) {r : Reader ℕ} {F : Form ℕ} (exact : Exact r F) (v : ℕ) (c : Cursor) where
-  pub u64-on : u64.Ok v c ≡ u64Result (r at (drop at s)) → r at (drop at s) ≡ ok v c.at (drop c.at s)
-  u64-on e = onward exact s at (u64-ok (r at (drop at s)) v c e)
+  pub u64_on : u64.Ok v c ≡ u64_result (r at (drop at s)) → r at (drop at s) ≡ ok v c.at (drop c.at s)
+  u64_on e = onward exact s at (u64_ok (r at (drop at s)) v c e)
 
 -- one step of a reader: by what its first part gave
 pub taken : {A B : Type 0} {o : Read A} {x : A} {to : ℕ} {rest : Bytes} (f : A → Reader B) → o ≡ ok x to rest → next o f ≡ f x to rest
@@ -30,8 +30,8 @@ pub stopped : {A B : Type 0} {o : Read A} {q : Refusal} (f : A → Reader B) →
 stopped f e = ap (λ z. next z f) e
 
 -- and what its parts add
-pub adds-taken : {A B : Type 0} {o : Read A} {n : Spelling} {t t₁ t₂ : List ℕ} {x : A} {to : ℕ} {rest : Bytes} (f : A → Reader B) (d : A → Count) → o ≡ ok x to rest → Adds o n t t₁ → Adds (f x to rest) (d x to rest) t₁ t₂ → Adds (next o f) (n ⊕ behind o d) t t₂
-adds-taken {o = o} {n = n} {to = to} {rest = rest} f d = adds_then (λ _ _. o) (λ _ _. n) f d to rest
+pub adds_taken : {A B : Type 0} {o : Read A} {n : Spelling} {t t₁ t₂ : List ℕ} {x : A} {to : ℕ} {rest : Bytes} (f : A → Reader B) (d : A → Count) → o ≡ ok x to rest → Adds o n t t₁ → Adds (f x to rest) (d x to rest) t₁ t₂ → Adds (next o f) (n ⊕ behind o d) t t₂
+adds_taken {o = o} {n = n} {to = to} {rest = rest} f d = adds_then (λ _ _. o) (λ _ _. n) f d to rest
 
 -- an answer that is shown only where the reader refuses: of what was counted nothing is to be said
 pub nothing_said : {A B : Type 0} {shown answer : B} {o : Read A} {n : Spelling} {t t' : List ℕ} {q : Refusal} → (shown ≡ answer → o ≡ refused q) → shown ≡ answer → (shown ≡ answer) × Adds o n t t'

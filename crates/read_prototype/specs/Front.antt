@@ -10,15 +10,15 @@ use Rattle.read_prototype.specs.declared.front.Sizes.{Sizes}
 abbrev pub lines : Reader Lines
 lines = do
   line-defined ← number
-  last-line-defined ← number
-  give (record { line_defined = line-defined; last_line_defined = last-line-defined })
+  last-line_defined ← number
+  give (record { line_defined = line-defined; last_line_defined = last-line_defined })
 
 abbrev pub sizes : Reader Sizes
 sizes = do
   numparams ← byte
-  is-vararg ← byte
+  is_vararg ← byte
   maxstacksize ← byte
-  give (record { numparams = numparams; is_vararg = is-vararg; maxstacksize = maxstacksize })
+  give (record { numparams = numparams; is_vararg = is_vararg; maxstacksize = maxstacksize })
 
 pub record Front : Type 0 where
   pub source : Option LuaString

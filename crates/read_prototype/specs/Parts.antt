@@ -10,8 +10,8 @@ use Rattle.format.specs.Reading.{ConstantValue, LocalVar}
 use Rattle.format.specs.GrammarChunk.{Listed}
 use Rattle.format.specs.Read.{Read, Reader, next, ◌>>=◌, ◌>>◌, give}
 use Rattle.format.specs.ReadFields.{string}
-use Rattle.format.specs.ReadChunk.{counted, countedUpTo, constant, upvalue, anchor, local}
-use Rattle.read_entry.specs.Readers.{Count, protosCount, code, lineInfo}
+use Rattle.format.specs.ReadChunk.{counted, counted_up_to, constant, upvalue, anchor, local}
+use Rattle.read_entry.specs.Readers.{Count, protos_count, code, line_info}
 use Rattle.read_prototype.specs.Front.{Front, front}
 
 -- the lists before the nested functions
@@ -21,11 +21,11 @@ pub record HeadLists : Type 0 where
   pub upvalues : Listed UpvalueDesc
 
 -- behind so many instructions of the functions before
-abbrev pub headLists : ResourceLimits → ℕ → Reader HeadLists
-headLists L before = do
+abbrev pub head_lists : ResourceLimits → ℕ → Reader HeadLists
+head_lists L before = do
   instructions ← code L.max_instructions_per_proto before L.max_total_instructions
-  constants ← countedUpTo L.max_constants_per_proto Constants (constant L.max_string_bytes)
-  upvalues ← countedUpTo L.max_upvalues_per_proto Upvalues upvalue
+  constants ← counted_up_to L.max_constants_per_proto Constants (constant L.max_string_bytes)
+  upvalues ← counted_up_to L.max_upvalues_per_proto Upvalues upvalue
   give (record { instructions = instructions; constants = constants; upvalues = upvalues })
 
 pub record Head : Type 0 where
@@ -36,20 +36,20 @@ pub record Head : Type 0 where
 abbrev pub head : ResourceLimits → ℕ → Reader Head
 head L before = do
   front ← front L.max_string_bytes
-  lists ← headLists L before
-  protos ← protosCount L.max_total_prototypes
+  lists ← head_lists L before
+  protos ← protos_count L.max_total_prototypes
   give (record { front = front; lists = lists; protos = protos })
 
 pub record Tail : Type 0 where
-  pub line-info : Listed ℕ
-  pub abs-line-info : Listed AbsLineInfo
-  pub loc-vars : Listed LocalVar
-  pub upvalue-names : Listed (Option LuaString)
+  pub line_info_lem : Listed ℕ
+  pub abs_line_info : Listed AbsLineInfo
+  pub loc_vars : Listed LocalVar
+  pub upvalue_names_lem : Listed (Option LuaString)
 
 abbrev pub tail : ℕ → Reader Tail
 tail limit = do
-  line-info ← lineInfo
-  abs-line-info ← counted anchor
-  loc-vars ← counted (local limit)
-  upvalue-names ← counted (string limit)
-  give (record { line-info = line-info; abs-line-info = abs-line-info; loc-vars = loc-vars; upvalue-names = upvalue-names })
+  line_info_lem ← line_info
+  abs_line_info ← counted anchor
+  loc_vars ← counted (local limit)
+  upvalue_names_lem ← counted (string limit)
+  give (record { line_info_lem = line_info_lem; abs_line_info = abs_line_info; loc_vars = loc_vars; upvalue_names_lem = upvalue_names_lem })

@@ -2,8 +2,8 @@
 use Rattle.std.specs.Prelude.{ℕ, length}
 use Rattle.format.specs.GrammarChunk.{Listed}
 use Rattle.format.specs.Read.{Read, ok, refused}
-use Rattle.slice.specs.Shown.{cursorAt}
-use Rattle.read_field.specs.Shown.{optionString}
+use Rattle.slice.specs.Shown.{cursor_at}
+use Rattle.read_field.specs.Shown.{option_string}
 use Rattle.read_prototype.specs.declared.front.Front as declared-front
 use Rattle.read_prototype.specs.declared.row.ListAt.{ListAt}
 use Rattle.read_prototype.specs.declared.parts.HeadLists as declared-lists
@@ -18,34 +18,34 @@ use Rattle.read_prototype.specs.declared.parts.TailResult.TheVariants as tail-an
 use Rattle.read_prototype.specs.Front.{Front}
 use Rattle.read_prototype.specs.Parts.{HeadLists, Head, Tail}
 
-abbrev pub shownAt : {A : Type 0} → Listed A → ListAt
-shownAt l = record { count = length l.items; place = l.place }
+abbrev pub shown_at : {A : Type 0} → Listed A → ListAt
+shown_at l = record { count = length l.items; place = l.place }
 
-abbrev pub frontOf : Front → declared-front.Front
-frontOf f = record { source = optionString f.source; lines = f.lines; sizes = f.sizes }
+abbrev pub front_of : Front → declared-front.Front
+front_of f = record { source = option_string f.source; lines = f.lines; sizes = f.sizes }
 
 abbrev pub lists_of : HeadLists → declared-lists.HeadLists
-lists_of l = record { instructions = shownAt l.instructions; constants = shownAt l.constants; upvalues = shownAt l.upvalues }
+lists_of l = record { instructions = shown_at l.instructions; constants = shown_at l.constants; upvalues = shown_at l.upvalues }
 
 abbrev pub head_of : Head → declared-head.Head
-head_of h = record { front = frontOf h.front; lists = lists_of h.lists; protos = record { count = h.protos.count; place = h.protos.place } }
+head_of h = record { front = front_of h.front; lists = lists_of h.lists; protos = record { count = h.protos.count; place = h.protos.place } }
 
-abbrev pub tailOf : Tail → declared-tail.Tail
-tailOf t = record {
-  line_info = shownAt t.line-info;
-  abs_line_info = shownAt t.abs-line-info;
-  loc_vars = shownAt t.loc-vars;
-  upvalue_names = shownAt t.upvalue-names;
+abbrev pub tail_of : Tail → declared-tail.Tail
+tail_of t = record {
+  line_info = shown_at t.line_info_lem;
+  abs_line_info = shown_at t.abs_line_info;
+  loc_vars = shown_at t.loc_vars;
+  upvalue_names = shown_at t.upvalue_names_lem;
 }
 
-abbrev pub headListsResult : Read HeadLists → HeadListsResult
-headListsResult (ok x to rest) = lists-answer.Ok (lists_of x) (cursorAt to)
-headListsResult (refused q) = lists-answer.Err q
+abbrev pub head_lists_result : Read HeadLists → HeadListsResult
+head_lists_result (ok x to rest) = lists-answer.Ok (lists_of x) (cursor_at to)
+head_lists_result (refused q) = lists-answer.Err q
 
-abbrev pub headResult : Read Head → HeadResult
-headResult (ok x to rest) = head-answer.Ok (head_of x) (cursorAt to)
-headResult (refused q) = head-answer.Err q
+abbrev pub head_result : Read Head → HeadResult
+head_result (ok x to rest) = head-answer.Ok (head_of x) (cursor_at to)
+head_result (refused q) = head-answer.Err q
 
-abbrev pub tailResult : Read Tail → TailResult
-tailResult (ok x to rest) = tail-answer.Ok (tailOf x) (cursorAt to)
-tailResult (refused q) = tail-answer.Err q
+abbrev pub tail_result : Read Tail → TailResult
+tail_result (ok x to rest) = tail-answer.Ok (tail_of x) (cursor_at to)
+tail_result (refused q) = tail-answer.Err q

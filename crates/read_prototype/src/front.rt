@@ -3,7 +3,7 @@ ghost use Rattle.std.specs.Prelude.{◌≡◌, drop};
 ghost use Rattle.format_spelling.specs.Inner.Tally.{Room, Adds};
 ghost use Rattle.read_prototype.specs.Front.{lines, sizes, front};
 ghost use Rattle.read_prototype.specs.PartsSpelt as spelt;
-ghost use Rattle.read_prototype.specs.Inner.Results.{linesResult, sizesResult, frontResult};
+ghost use Rattle.read_prototype.specs.Inner.Results.{lines_result, sizes_result, front_result};
 
 use format::refusal::Refusal;
 use format_spelling::tally::Tally;
@@ -27,7 +27,7 @@ pub enum LinesResult {
 
 fn read_lines(s: &[u8], cursor: Cursor, tally: &mut Tally) -> LinesResult
     requires { Room tally.old cursor.at }
-    ensures value { result ≡ linesResult (lines cursor.at (drop cursor.at s.now)) }
+    ensures value { result ≡ lines_result (lines cursor.at (drop cursor.at s.now)) }
     ensures adds { Adds (lines cursor.at (drop cursor.at s.now)) (spelt.lines cursor.at (drop cursor.at s.now)) tally.old tally.new }
 {
     let first = tally_varint(s, cursor, tally);
@@ -67,7 +67,7 @@ pub enum SizesResult {
 }
 
 fn read_sizes(s: &[u8], cursor: Cursor) -> SizesResult
-    ensures { result ≡ sizesResult (sizes cursor.at (drop cursor.at s.now)) }
+    ensures { result ≡ sizes_result (sizes cursor.at (drop cursor.at s.now)) }
 {
     let first = read_u8(s, cursor);
     match first {
@@ -122,7 +122,7 @@ pub fn read_front(
     tally: &mut Tally,
 ) -> FrontResult
     requires { Room tally.old cursor.at }
-    ensures value { result ≡ frontResult (front max_string_bytes cursor.at (drop cursor.at s.now)) }
+    ensures value { result ≡ front_result (front max_string_bytes cursor.at (drop cursor.at s.now)) }
     ensures adds { Adds (front max_string_bytes cursor.at (drop cursor.at s.now)) (spelt.front max_string_bytes cursor.at (drop cursor.at s.now)) tally.old tally.new }
 {
     let name = tally_string(s, cursor, max_string_bytes, tally);

@@ -2,7 +2,7 @@
 ghost use Rattle.std.specs.Prelude.{◌≡◌, drop};
 ghost use Rattle.format_spelling.specs.Inner.Tally.{Room, Adds};
 ghost use Rattle.read_prototype.specs.Parts as parts;
-ghost use Rattle.read_prototype.specs.PartsShown.{headListsResult, headResult, tailResult};
+ghost use Rattle.read_prototype.specs.PartsShown.{head_lists_result, head_result, tail_result};
 ghost use Rattle.read_prototype.specs.PartsSpelt as spelt;
 
 use crate::front::{Front, FrontResult, read_front};
@@ -54,8 +54,8 @@ fn read_head_lists(
     tally: &mut Tally,
 ) -> HeadListsResult
     requires { Room tally.old cursor.at }
-    ensures value { result ≡ headListsResult (parts.headLists limits before cursor.at (drop cursor.at s.now)) }
-    ensures adds { Adds (parts.headLists limits before cursor.at (drop cursor.at s.now)) (spelt.headLists limits before cursor.at (drop cursor.at s.now)) tally.old tally.new }
+    ensures value { result ≡ head_lists_result (parts.head_lists limits before cursor.at (drop cursor.at s.now)) }
+    ensures adds { Adds (parts.head_lists limits before cursor.at (drop cursor.at s.now)) (spelt.head_lists limits before cursor.at (drop cursor.at s.now)) tally.old tally.new }
 {
     let most = limits.max_instructions_per_proto;
     let total = limits.max_total_instructions;
@@ -111,7 +111,7 @@ pub fn read_head(
     tally: &mut Tally,
 ) -> HeadResult
     requires { Room tally.old cursor.at }
-    ensures value { result ≡ headResult (parts.head limits before cursor.at (drop cursor.at s.now)) }
+    ensures value { result ≡ head_result (parts.head limits before cursor.at (drop cursor.at s.now)) }
     ensures adds { Adds (parts.head limits before cursor.at (drop cursor.at s.now)) (spelt.head limits before cursor.at (drop cursor.at s.now)) tally.old tally.new }
 {
     let begins = read_front(s, cursor, limits.max_string_bytes, tally);
@@ -166,7 +166,7 @@ pub enum TailResult {
 // A function behind the functions that nest in it. Ruled out: anchors taken for locals, the cursor before the names.
 pub fn read_tail(s: &[u8], max_string_bytes: usize, cursor: Cursor, tally: &mut Tally) -> TailResult
     requires { Room tally.old cursor.at }
-    ensures value { result ≡ tailResult (parts.tail max_string_bytes cursor.at (drop cursor.at s.now)) }
+    ensures value { result ≡ tail_result (parts.tail max_string_bytes cursor.at (drop cursor.at s.now)) }
     ensures adds { Adds (parts.tail max_string_bytes cursor.at (drop cursor.at s.now)) (spelt.tail max_string_bytes cursor.at (drop cursor.at s.now)) tally.old tally.new }
 {
     let deltas = line_info_list(s, cursor, tally);

@@ -3,7 +3,7 @@ ghost use Rattle.std.specs.Prelude.{◌≡◌, drop};
 ghost use Rattle.format_spelling.specs.Inner.Tally.{Room, Adds};
 ghost use Rattle.read_prototype.specs.Parts as parts;
 ghost use Rattle.read_prototype.specs.PartsSpelt as spelt;
-ghost use Rattle.read_prototype.specs.Inner.Counts.{isSpelt, headCountsResult, tailCountsResult};
+ghost use Rattle.read_prototype.specs.Inner.Counts.{is_spelt, head_counts_result, tail_counts_result};
 
 use crate::parts::{HeadResult, TailResult, read_head, read_tail};
 use format::limits::ResourceLimits;
@@ -31,7 +31,7 @@ pub enum HeadCountsResult {
 }
 
 fn is_spelt(source: OptionString) -> bool
-    ensures { result ≡ isSpelt source }
+    ensures { result ≡ is_spelt source }
 {
     match source {
         OptionString::Some(_) => true,
@@ -48,7 +48,7 @@ pub fn pass_head(
     tally: &mut Tally,
 ) -> HeadCountsResult
     requires { Room tally.old cursor.at }
-    ensures value { result ≡ headCountsResult (parts.head limits before cursor.at (drop cursor.at s.now)) }
+    ensures value { result ≡ head_counts_result (parts.head limits before cursor.at (drop cursor.at s.now)) }
     ensures adds { Adds (parts.head limits before cursor.at (drop cursor.at s.now)) (spelt.head limits before cursor.at (drop cursor.at s.now)) tally.old tally.new }
 {
     let begins = read_head(s, limits, before, cursor, tally);
@@ -100,7 +100,7 @@ pub fn pass_tail(
     tally: &mut Tally,
 ) -> TailCountsResult
     requires { Room tally.old cursor.at }
-    ensures value { result ≡ tailCountsResult (parts.tail max_string_bytes cursor.at (drop cursor.at s.now)) }
+    ensures value { result ≡ tail_counts_result (parts.tail max_string_bytes cursor.at (drop cursor.at s.now)) }
     ensures adds { Adds (parts.tail max_string_bytes cursor.at (drop cursor.at s.now)) (spelt.tail max_string_bytes cursor.at (drop cursor.at s.now)) tally.old tally.new }
 {
     let ends = read_tail(s, max_string_bytes, cursor, tally);

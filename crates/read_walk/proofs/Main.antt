@@ -9,16 +9,16 @@ use Rattle.format.specs.Reading.{Prototype}
 use Rattle.format.specs.GrammarChunk.{Where}
 use Rattle.format.specs.Read.{Read, ok, refused, Reader, next, give}
 use Rattle.format.specs.ReadChunk.{forest, function}
-use Rattle.read_walk.specs.Inner.Skim.{enteredBy, entered}
-use Rattle.read_walk.proofs.Entering.{enters-by}
+use Rattle.read_walk.specs.Inner.Skim.{entered_by, entered}
+use Rattle.read_walk.proofs.Entering.{enters_by}
 
 alone : (o : Read (List Prototype)) → next o (λ ps. give (ps ++ [])) ≡ o
 alone (ok ps to rest) = ap (λ ps. ok ps to rest) (append-nil ps)
 alone (refused q) = refl
 
 -- whatever reads a function
-pub alone-by : (f : ℕ → Where → Reader (List Prototype)) (L : ResourceLimits) (left : ℕ) (w : Where) (at : ℕ) (s : Bytes) → w.number ≡ 0 → forest 1 (enteredBy f L (left + 1)) w at s ≡ f left w at s
-alone-by f L left w at s e = alone (enteredBy f L (left + 1) w at s) ∙ enters-by f L (left + 1) w at s (omega arith) (omega (arith, e)) ∙ ap (λ n. f n w at s) (omega arith)
+pub alone_by : (f : ℕ → Where → Reader (List Prototype)) (L : ResourceLimits) (left : ℕ) (w : Where) (at : ℕ) (s : Bytes) → w.number ≡ 0 → forest 1 (entered_by f L (left + 1)) w at s ≡ f left w at s
+alone_by f L left w at s e = alone (entered_by f L (left + 1) w at s) ∙ enters_by f L (left + 1) w at s (omega arith) (omega (arith, e)) ∙ ap (λ n. f n w at s) (omega arith)
 
-pub main-alone : (L : ResourceLimits) (left : ℕ) (w : Where) (at : ℕ) (s : Bytes) → w.number ≡ 0 → forest 1 (entered L (left + 1)) w at s ≡ function L left w at s
-main-alone L left w at s e = alone-by (function L) L left w at s e
+pub main_alone : (L : ResourceLimits) (left : ℕ) (w : Where) (at : ℕ) (s : Bytes) → w.number ≡ 0 → forest 1 (entered L (left + 1)) w at s ≡ function L left w at s
+main_alone L left w at s e = alone_by (function L) L left w at s e

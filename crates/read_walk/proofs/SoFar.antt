@@ -2,7 +2,7 @@
 --     SoFar            n functions from w on are those passed and the `more` that are left from k on
 --     level            the test that a walk makes before it goes deeper
 --     starts, ended    before the first; where none is left
---     deep, many, stops, goes_on       what the next one gives
+--     deep, many, stops, goes_on_lem       what the next one gives
 -- Assumes nothing.
 use mathlib.Core.Path.{◌≡◌, refl, sym, subst, ◌∙◌, ap}
 use mathlib.Core.List.{List, [], ◌++◌, append_assoc, append-nil}
@@ -14,18 +14,18 @@ use Rattle.format.specs.declared.refusal.Refusal.{Refusal}
 use Rattle.format.specs.declared.refusal.Refusal.TheVariants.{NestingDepth, TotalPrototypes}
 use Rattle.format.specs.Form.{Bytes, Form}
 use Rattle.format.specs.Reading.{Prototype}
-use Rattle.format.specs.GrammarChunk.{Where, instructionsOf, after}
+use Rattle.format.specs.GrammarChunk.{Where, instructions_of, after}
 use Rattle.format.specs.Read.{Read, ok, refused, Reader, next, ◌>>=◌, give}
 use Rattle.format.specs.ReadChunk.{forest, function}
 use Rattle.format.proofs.Exact.{Exact}
-use Rattle.format.proofs.ExactChunk.{exact-function}
+use Rattle.format.proofs.ExactChunk.{exact_function}
 use Rattle.format.proofs.Totals.{instructions-append}
 use Rattle.read_prototype.proofs.On.{taken, stopped}
 use Rattle.read_walk.specs.declared.walk.Skimmed.{Skimmed}
 use Rattle.read_walk.specs.declared.walk.SkimResult.TheVariants as skim
-use Rattle.read_walk.specs.Inner.Skim.{enteredBy, entered, on, skimmedOf, skimResult}
-use Rattle.read_walk.proofs.Entering.{too-deep, too_many, enters-by}
-use Rattle.read_walk.proofs.OneFunction.{skim-err, Skims, skim-read}
+use Rattle.read_walk.specs.Inner.Skim.{entered_by, entered, on, skimmed_of, skim_result}
+use Rattle.read_walk.proofs.Entering.{too_deep_lem, too_many, enters_by}
+use Rattle.read_walk.proofs.OneFunction.{skim_err, Skims, skim_read}
 
 -- a level is left where the number of levels is not 0
 pub level : (left : ℕ) → (left ≡ 0 → ⊥) → 0 < left
@@ -33,7 +33,7 @@ level left h = omega arith
 
 pub record SoFar (r : Where → Reader (List Prototype)) (s : Bytes) (w : Where) (n from : ℕ) (k : Skimmed) (more : ℕ) (passed : List Prototype) : Type 0 where
   pub number : k.number ≡ w.number + length passed
-  pub instructions : k.instructions ≡ w.instructions + instructionsOf passed
+  pub instructions : k.instructions ≡ w.instructions + instructions_of passed
   pub reads : forest n r w from (drop from s) ≡ next (forest more r (on w k) k.next.at (drop k.next.at s)) (λ qs. give (passed ++ qs))
 
 given : (o : Read (List Prototype)) → next o give ≡ o
@@ -61,8 +61,8 @@ module _ {r : Where → Reader (List Prototype)} {s : Bytes} {w : Where} {n from
   abbrev pub those : more ≤ 0 → Skims (forest n r) s w from k
   those over = record { value = passed; is = ended over; shows = λ i. record { next = k.next; number = a.number i; instructions = a.instructions i } }
 
-  pub ends : more ≤ 0 → skim.Ok k ≡ skimResult w (forest n r w from (drop from s))
-  ends over = ap skim.Ok (those over).shows ∙ sym (ap (skimResult w) (ended over))
+  pub ends : more ≤ 0 → skim.Ok k ≡ skim_result w (forest n r w from (drop from s))
+  ends over = ap skim.Ok (those over).shows ∙ sym (ap (skim_result w) (ended over))
 
   -- the next one
   turn : 0 < more → forest more r (on w k) k.next.at (drop k.next.at s)
@@ -72,54 +72,54 @@ module _ {r : Where → Reader (List Prototype)} {s : Bytes} {w : Where} {n from
   pub one-refused : 0 < more → {q : Refusal} → r (on w k) k.next.at (drop k.next.at s) ≡ refused q → forest n r w from (drop from s) ≡ refused q
   one-refused some e = a.reads ∙ stopped _ (turn some ∙ stopped _ e)
 
-  pub one-read : 0 < more → {ps : List Prototype} {to : ℕ} → r (on w k) k.next.at (drop k.next.at s) ≡ ok ps to (drop to s) → SoFar r s w n from (skimmedOf (on w k) ps to) (more - 1) (passed ++ ps)
+  pub one-read : 0 < more → {ps : List Prototype} {to : ℕ} → r (on w k) k.next.at (drop k.next.at s) ≡ ok ps to (drop to s) → SoFar r s w n from (skimmed_of (on w k) ps to) (more - 1) (passed ++ ps)
   one-read some {ps} {to} e = record {
     number = ap (λ m. m + length ps) a.number ∙ (rw length-append (omega arith));
-    instructions = ap (λ m. m + instructionsOf ps) a.instructions ∙ (rw (instructions-append passed ps) (omega arith));
+    instructions = ap (λ m. m + instructions_of ps) a.instructions ∙ (rw (instructions-append passed ps) (omega arith));
     reads = a.reads ∙ ap (λ o. next o (λ qs. give (passed ++ qs))) (turn some ∙ taken _ e) ∙ grouped passed ps (forest (more - 1) r (after ps (on w k)) to (drop to s));
   }
 
 -- ## Of functions that are entered, whatever reads a function
 module _ {f : ℕ → Where → Reader (List Prototype)} {F : ℕ → Where → Form (List Prototype)} (exact : (left : ℕ) (w : Where) → Exact (f left w) (F left w))
-    (L : ResourceLimits) (left : ℕ) {s : Bytes} {w : Where} {n from : ℕ} {k : Skimmed} {more : ℕ} {passed : List Prototype} (a : SoFar (enteredBy f L left) s w n from k more passed) (some : 0 < more) where
-  pub deep-by : left ≡ 0 → skim.Err (NestingDepth k.next.at) ≡ skimResult w (forest n (enteredBy f L left) w from (drop from s))
-  deep-by e = sym (ap (skimResult w) (one-refused a some (too-deep f L left (on w k) k.next.at (drop k.next.at s) e)))
+    (L : ResourceLimits) (left : ℕ) {s : Bytes} {w : Where} {n from : ℕ} {k : Skimmed} {more : ℕ} {passed : List Prototype} (a : SoFar (entered_by f L left) s w n from k more passed) (some : 0 < more) where
+  pub deep_by : left ≡ 0 → skim.Err (NestingDepth k.next.at) ≡ skim_result w (forest n (entered_by f L left) w from (drop from s))
+  deep_by e = sym (ap (skim_result w) (one-refused a some (too_deep_lem f L left (on w k) k.next.at (drop k.next.at s) e)))
 
   module _ (level : 0 < left) where
-    pub many_by : L.max_total_prototypes < k.number → skim.Err (TotalPrototypes k.next.at) ≡ skimResult w (forest n (enteredBy f L left) w from (drop from s))
-    many_by h = sym (ap (skimResult w) (one-refused a some (too_many f L left (on w k) k.next.at (drop k.next.at s) level h)))
+    pub many_by : L.max_total_prototypes < k.number → skim.Err (TotalPrototypes k.next.at) ≡ skim_result w (forest n (entered_by f L left) w from (drop from s))
+    many_by h = sym (ap (skim_result w) (one-refused a some (too_many f L left (on w k) k.next.at (drop k.next.at s) level h)))
 
     module _ (few : k.number ≤ L.max_total_prototypes) where
-      enter : enteredBy f L left (on w k) k.next.at (drop k.next.at s) ≡ f (left - 1) (on w k) k.next.at (drop k.next.at s)
-      enter = enters-by f L left (on w k) k.next.at (drop k.next.at s) level few
+      enter : entered_by f L left (on w k) k.next.at (drop k.next.at s) ≡ f (left - 1) (on w k) k.next.at (drop k.next.at s)
+      enter = enters_by f L left (on w k) k.next.at (drop k.next.at s) level few
 
-      pub stops-by : (q : Refusal) → skim.Err q ≡ skimResult (on w k) (f (left - 1) (on w k) k.next.at (drop k.next.at s)) → skim.Err q ≡ skimResult w (forest n (enteredBy f L left) w from (drop from s))
-      stops-by q e = sym (ap (skimResult w) (one-refused a some (enter ∙ skim-err (on w k) _ q e)))
+      pub stops_by : (q : Refusal) → skim.Err q ≡ skim_result (on w k) (f (left - 1) (on w k) k.next.at (drop k.next.at s)) → skim.Err q ≡ skim_result w (forest n (entered_by f L left) w from (drop from s))
+      stops_by q e = sym (ap (skim_result w) (one-refused a some (enter ∙ skim_err (on w k) _ q e)))
 
-      module _ (later : Skimmed) (e : skim.Ok later ≡ skimResult (on w k) (f (left - 1) (on w k) k.next.at (drop k.next.at s))) where
-        pub next-by : Skims (f (left - 1)) s (on w k) k.next.at later
-        next-by = skim-read (exact (left - 1)) s (on w k) k.next.at later e
+      module _ (later : Skimmed) (e : skim.Ok later ≡ skim_result (on w k) (f (left - 1) (on w k) k.next.at (drop k.next.at s))) where
+        pub next_by : Skims (f (left - 1)) s (on w k) k.next.at later
+        next_by = skim_read (exact (left - 1)) s (on w k) k.next.at later e
 
-        pub goes-on-by : SoFar (enteredBy f L left) s w n from later (more - 1) (passed ++ next-by.value)
-        goes-on-by = subst (λ l. SoFar (enteredBy f L left) s w n from l (more - 1) (passed ++ next-by.value)) (sym next-by.shows) (one-read a some (enter ∙ next-by.is))
+        pub goes_on_by : SoFar (entered_by f L left) s w n from later (more - 1) (passed ++ next_by.value)
+        goes_on_by = subst (λ l. SoFar (entered_by f L left) s w n from l (more - 1) (passed ++ next_by.value)) (sym next_by.shows) (one-read a some (enter ∙ next_by.is))
 
 -- ## Of the ordinary reading
 module _ (L : ResourceLimits) (left : ℕ) {s : Bytes} {w : Where} {n from : ℕ} {k : Skimmed} {more : ℕ} {passed : List Prototype} (a : SoFar (entered L left) s w n from k more passed) (some : 0 < more) where
-  pub deep : left ≡ 0 → skim.Err (NestingDepth k.next.at) ≡ skimResult w (forest n (entered L left) w from (drop from s))
-  deep e = deep-by (exact-function L) L left a some e
+  pub deep : left ≡ 0 → skim.Err (NestingDepth k.next.at) ≡ skim_result w (forest n (entered L left) w from (drop from s))
+  deep e = deep_by (exact_function L) L left a some e
 
   module _ (level : 0 < left) where
-    pub many : L.max_total_prototypes < k.number → skim.Err (TotalPrototypes k.next.at) ≡ skimResult w (forest n (entered L left) w from (drop from s))
-    many h = many_by (exact-function L) L left a some level h
+    pub many : L.max_total_prototypes < k.number → skim.Err (TotalPrototypes k.next.at) ≡ skim_result w (forest n (entered L left) w from (drop from s))
+    many h = many_by (exact_function L) L left a some level h
 
     module _ (few : k.number ≤ L.max_total_prototypes) where
-      pub stops : (q : Refusal) → skim.Err q ≡ skimResult (on w k) (function L (left - 1) (on w k) k.next.at (drop k.next.at s)) → skim.Err q ≡ skimResult w (forest n (entered L left) w from (drop from s))
-      stops q e = stops-by (exact-function L) L left a some level few q e
+      pub stops : (q : Refusal) → skim.Err q ≡ skim_result (on w k) (function L (left - 1) (on w k) k.next.at (drop k.next.at s)) → skim.Err q ≡ skim_result w (forest n (entered L left) w from (drop from s))
+      stops q e = stops_by (exact_function L) L left a some level few q e
 
-      module _ (later : Skimmed) (e : skim.Ok later ≡ skimResult (on w k) (function L (left - 1) (on w k) k.next.at (drop k.next.at s))) where
+      module _ (later : Skimmed) (e : skim.Ok later ≡ skim_result (on w k) (function L (left - 1) (on w k) k.next.at (drop k.next.at s))) where
         -- what the next one is
         abbrev pub next-read : Skims (function L (left - 1)) s (on w k) k.next.at later
-        next-read = next-by (exact-function L) L left a some level few later e
+        next-read = next_by (exact_function L) L left a some level few later e
 
-        pub goes_on : SoFar (entered L left) s w n from later (more - 1) (passed ++ next-read.value)
-        goes_on = goes-on-by (exact-function L) L left a some level few later e
+        pub goes_on_lem : SoFar (entered L left) s w n from later (more - 1) (passed ++ next-read.value)
+        goes_on_lem = goes_on_by (exact_function L) L left a some level few later e

@@ -1,7 +1,7 @@
 // The source of a function, held against its parent's: few functions spell one, so what is spelt is read again where it is wanted, and a walk hands down a place alone. That place is behind the zero groups of the size, which may be any number of bytes: so what is read again is a few bytes, however many functions ask.
 ghost use Rattle.std.specs.Prelude.{◌≡◌, cond, eqb};
-ghost use Rattle.read_field.specs.Shown.{optionString};
-ghost use Rattle.read_walk.specs.Inner.Source.{SameString, ParentsOwn, sourceAt, repeatsAt, unpaddedAt};
+ghost use Rattle.read_field.specs.Shown.{option_string};
+ghost use Rattle.read_walk.specs.Inner.Source.{SameString, ParentsOwn, source_at, repeats_at, unpadded_at};
 
 use read_field::string::{OptionString, StringAt, StringResult, read_string_lua54};
 use slice::bytes::{bytes_at, same_bytes};
@@ -33,7 +33,7 @@ fn parents_own(s: &[u8], spelt: StringAt, parent: OptionString) -> bool
 
 // The source that the function at a place spells; none, where it spells none, or where no function stands. It is a function's first field, and read alone: read_front is to have one caller, so that the compiler keeps it in the walk.
 pub fn source_at(s: &[u8], max_string_bytes: usize, at: usize) -> OptionString
-    ensures { result ≡ optionString (sourceAt max_string_bytes s.now at) }
+    ensures { result ≡ option_string (source_at max_string_bytes s.now at) }
 {
     let name = read_string_lua54(s, Cursor { at: at }, max_string_bytes);
     match name {
@@ -44,7 +44,7 @@ pub fn source_at(s: &[u8], max_string_bytes: usize, at: usize) -> OptionString
 
 // Whether the source that is spelt at the one place is the one at the other. Ruled out: one that is not spelt taken for the parent's.
 pub fn repeats(s: &[u8], max_string_bytes: usize, own: usize, parent: usize) -> bool
-    ensures { result ≡ repeatsAt max_string_bytes s.now own parent }
+    ensures { result ≡ repeats_at max_string_bytes s.now own parent }
 {
     let source = source_at(s, max_string_bytes, own);
     let OptionString::Some(spelt) = source else {
@@ -56,7 +56,7 @@ pub fn repeats(s: &[u8], max_string_bytes: usize, own: usize, parent: usize) -> 
 
 // Where the same number is spelt without the zero groups before it: a number may begin with as many as its file is long. Ruled out: a group passed over that is not zero.
 pub fn unpadded(s: &[u8], at: usize) -> usize
-    ensures { result ≡ unpaddedAt s.now at }
+    ensures { result ≡ unpadded_at s.now at }
 {
     let mut place = at;
     while place < s.len() {

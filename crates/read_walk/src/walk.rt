@@ -7,9 +7,9 @@ ghost use Rattle.format.specs.ReadChunk.{forest, function};
 ghost use Rattle.format_spelling.specs.Spelling.{◌⊕◌};
 ghost use Rattle.format_spelling.specs.ReadSpelling as count;
 ghost use Rattle.format_spelling.specs.Inner.Tally.{counts, Fits, Room, Adds};
-ghost use Rattle.read_walk.specs.Inner.Skim.{entered, skimResult};
-ghost use Rattle.read_walk.specs.Inner.Source.{sourceAt, repeatsAt, unpaddedAt, handed};
-ghost use Rattle.read_walk.specs.Inner.Spelt.{nestedSpelt, ownSource};
+ghost use Rattle.read_walk.specs.Inner.Skim.{entered, skim_result};
+ghost use Rattle.read_walk.specs.Inner.Source.{source_at, repeats_at, unpadded_at, handed};
+ghost use Rattle.read_walk.specs.Inner.Spelt.{nested_spelt, own_source};
 
 use crate::source::{one_nested, one_where, repeats, unpadded};
 use format::limits::ResourceLimits;
@@ -44,9 +44,9 @@ fn own_source(
     parent: usize,
     tally: &mut Tally,
 ) -> usize
-    requires { Fits (counts tally.old) (ownSource named number (repeatsAt max_string_bytes s.now own parent)) }
-    ensures value { result ≡ handed named (unpaddedAt s.now own) parent }
-    ensures tally_after { counts tally.new ≡ counts tally.old ⊕ ownSource named number (repeatsAt max_string_bytes s.now own parent) }
+    requires { Fits (counts tally.old) (own_source named number (repeats_at max_string_bytes s.now own parent)) }
+    ensures value { result ≡ handed named (unpadded_at s.now own) parent }
+    ensures tally_after { counts tally.new ≡ counts tally.old ⊕ own_source named number (repeats_at max_string_bytes s.now own parent) }
 {
     if named {
         let repeated = repeats(s, max_string_bytes, own, parent);
@@ -74,8 +74,8 @@ fn skim_function(
     tally: &mut Tally,
 ) -> SkimResult
     requires { Walkable limits × (from.number ≤ MOST) × Room tally.old from.next.at }
-    ensures value { (w : grammar.Where) → from.number ≡ w.number → from.instructions ≡ w.instructions → result ≡ skimResult w (function limits left w from.next.at (drop from.next.at s.now)) }
-    ensures adds { (w : grammar.Where) → from.number ≡ w.number → from.instructions ≡ w.instructions → w.source ≡ sourceAt limits.max_string_bytes s.now source → Adds (function limits left w from.next.at (drop from.next.at s.now)) (count.function limits left w from.next.at (drop from.next.at s.now)) tally.old tally.new }
+    ensures value { (w : grammar.Where) → from.number ≡ w.number → from.instructions ≡ w.instructions → result ≡ skim_result w (function limits left w from.next.at (drop from.next.at s.now)) }
+    ensures adds { (w : grammar.Where) → from.number ≡ w.number → from.instructions ≡ w.instructions → w.source ≡ source_at limits.max_string_bytes s.now source → Adds (function limits left w from.next.at (drop from.next.at s.now)) (count.function limits left w from.next.at (drop from.next.at s.now)) tally.old tally.new }
 {
     let begins = pass_head(s, limits, from.instructions, from.next, tally);
     match begins {
@@ -132,8 +132,8 @@ fn skim_functions(
     tally: &mut Tally,
 ) -> SkimResult
     requires { Walkable limits × Room tally.old from.next.at }
-    ensures value { (w : grammar.Where) → from.number ≡ w.number → from.instructions ≡ w.instructions → result ≡ skimResult w (forest n (entered limits left) w from.next.at (drop from.next.at s.now)) }
-    ensures adds { (w : grammar.Where) → from.number ≡ w.number → from.instructions ≡ w.instructions → w.source ≡ sourceAt limits.max_string_bytes s.now source → Adds (forest n (entered limits left) w from.next.at (drop from.next.at s.now)) (count.forest n (entered limits left) (nestedSpelt limits left) w from.next.at (drop from.next.at s.now)) tally.old tally.new }
+    ensures value { (w : grammar.Where) → from.number ≡ w.number → from.instructions ≡ w.instructions → result ≡ skim_result w (forest n (entered limits left) w from.next.at (drop from.next.at s.now)) }
+    ensures adds { (w : grammar.Where) → from.number ≡ w.number → from.instructions ≡ w.instructions → w.source ≡ source_at limits.max_string_bytes s.now source → Adds (forest n (entered limits left) w from.next.at (drop from.next.at s.now)) (count.forest n (entered limits left) (nested_spelt limits left) w from.next.at (drop from.next.at s.now)) tally.old tally.new }
 {
     let mut skimmed = from;
     let mut more = n;
@@ -166,7 +166,7 @@ pub fn skim_main(
     tally: &mut Tally,
 ) -> SkimResult
     requires { Walkable limits × (left ≤ DEEPEST) × Room tally.old from.next.at }
-    ensures value { (w : grammar.Where) → w.number ≡ 0 → from.number ≡ w.number → from.instructions ≡ w.instructions → result ≡ skimResult w (function limits left w from.next.at (drop from.next.at s.now)) }
+    ensures value { (w : grammar.Where) → w.number ≡ 0 → from.number ≡ w.number → from.instructions ≡ w.instructions → result ≡ skim_result w (function limits left w from.next.at (drop from.next.at s.now)) }
     ensures adds { (w : grammar.Where) → w.number ≡ 0 → w.source ≡ none → from.number ≡ w.number → from.instructions ≡ w.instructions → Adds (function limits left w from.next.at (drop from.next.at s.now)) (count.function limits left w from.next.at (drop from.next.at s.now)) tally.old tally.new }
 {
     skim_functions(s, limits, 1, left + 1, from, s.len(), tally)

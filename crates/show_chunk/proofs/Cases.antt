@@ -1,8 +1,8 @@
 -- The fields of a function and the summary of a chunk (01 'Calls'), from the bytes of a chunk whose function 4 has numbers that all differ (crates/format/proofs/Distinct.antt); antt computes all.
---     fields-hold      function 4; main; one that takes over main's source; one that is not there
---     summary-holds    header fields, both warnings, number of functions, place and length of the trailing bytes, number of padded numbers
---     padded-holds     number of padded numbers, of main and of a function in it
---     trailing-holds   the trailing bytes; of a chunk that is refused none
+--     fields_hold      function 4; main; one that takes over main's source; one that is not there
+--     summary_holds    header fields, both warnings, number of functions, place and length of the trailing bytes, number of padded numbers
+--     padded_holds     number of padded numbers, of main and of a function in it
+--     trailing_holds   the trailing bytes; of a chunk that is refused none
 -- Told apart: any two fields exchanged, nested functions that show main's fields, an inherited source shown as absent or at another place, the warnings in another order, function numbers from 1.
 -- Assumes nothing.
 use mathlib.Core.Path.{◌≡◌, refl}
@@ -13,7 +13,7 @@ use lib.ListN.{replicate, take}
 use Rattle.format.specs.declared.refusal.Refusal.TheVariants.{NoFunction, Truncated}
 use Rattle.format.specs.declared.header.Warning.TheVariants.{NonStandardFormat, TrailingBytes}
 use Rattle.format.specs.Form.{Bytes}
-use Rattle.format.specs.Copy.{headerBytes}
+use Rattle.format.specs.Copy.{header_bytes}
 use Rattle.format.specs.Limits.{ceilings}
 use Rattle.format.specs.ReadChunk.{body, function, Outcome, read}
 use Rattle.format.proofs.Distinct.{distinct}
@@ -21,13 +21,13 @@ use Rattle.format_spelling.specs.ReadSpelling.{spelling}
 use Rattle.format_spelling.specs.ReadSpelling as count
 use Rattle.read_field.specs.declared.string.OptionString.TheVariants as string
 use Rattle.read_header.specs.declared.OptionWarning.TheVariants as option
-use Rattle.show_row.specs.Asked.{functionOf}
+use Rattle.show_row.specs.Asked.{function_of}
 use Rattle.show_chunk.specs.declared.fields.FieldsAnswer.{FieldsAnswer}
 use Rattle.show_chunk.specs.declared.fields.FieldsAnswer.TheVariants as fields
 use Rattle.show_chunk.specs.declared.summary.SummaryAnswer.{SummaryAnswer}
 use Rattle.show_chunk.specs.declared.summary.SummaryAnswer.TheVariants as summary
-use Rattle.show_chunk.specs.Fields.{shownFields}
-use Rattle.show_chunk.specs.Summaries.{shownSummary, trailingOf}
+use Rattle.show_chunk.specs.Fields.{shown_fields}
+use Rattle.show_chunk.specs.Summaries.{shown_summary, trailing_of}
 
 abbrev chunk : Outcome
 chunk = read ceilings distinct
@@ -69,12 +69,12 @@ cases = (
     ∷ (9, fields.Err NoFunction)
     ∷ []
 
-fields-hold : map (λ c. shownFields (functionOf c.0 chunk)) cases ≡ map (λ c. c.1) cases
+fields_hold : map (λ c. shown_fields (function_of c.0 chunk)) cases ≡ map (λ c. c.1) cases
 unfolding cases distinct read body function
-fields-hold = refl
+fields_hold = refl
 
 -- ## The chunk as a whole
-summary-holds : shownSummary (spelling ceilings distinct) chunk ≡ summary.Ok (record {
+summary_holds : shown_summary (spelling ceilings distinct) chunk ≡ summary.Ok (record {
   summary = record {
     header = record { version = 0x54; format = 3; instruction_size = 4; lua_integer_size = 8; sizeof_sizet = 8; lua_number_size = 8; luac_int = pos 0x5678; luac_num = 0x4077280000000000 };
     warnings = record { first = option.Some (NonStandardFormat 5); second = option.Some (TrailingBytes 308) };
@@ -85,26 +85,26 @@ summary-holds : shownSummary (spelling ceilings distinct) chunk ≡ summary.Ok (
   padded_numbers = 0;
 })
 unfolding distinct read body function spelling count.body count.function
-summary-holds = refl
+summary_holds = refl
 
 -- one function in main; of the 22 numbers the size of main's source, its last line, and the nested function's first line (by two zero groups) and count of names are padded
 abbrev padded : Bytes
 padded =
-    headerBytes 0 ++ (0 ∷ 0 ∷ 0x80 ∷ 0x80 ∷ 0 ∷ 0x85 ∷ 0 ∷ 0 ∷ 2 ∷ 0x80 ∷ 0x80 ∷ 0x80 ∷ 0x81 ∷ [])
+    header_bytes 0 ++ (0 ∷ 0 ∷ 0x80 ∷ 0x80 ∷ 0 ∷ 0x85 ∷ 0 ∷ 0 ∷ 2 ∷ 0x80 ∷ 0x80 ∷ 0x80 ∷ 0x81 ∷ [])
     ++ (0x80 ∷ 0 ∷ 0 ∷ 0x83 ∷ 0x80 ∷ 0 ∷ 0 ∷ 2 ∷ replicate 7 0x80) ++ (0 ∷ 0x80 ∷ replicate 4 0x80)
 
-abbrev paddedShown : SummaryAnswer → ℕ
-paddedShown (summary.Ok y) = y.padded_numbers
-paddedShown (summary.Err q) = 99
+abbrev padded_shown : SummaryAnswer → ℕ
+padded_shown (summary.Ok y) = y.padded_numbers
+padded_shown (summary.Err q) = 99
 
-padded-holds : paddedShown (shownSummary (spelling ceilings padded) (read ceilings padded)) ≡ 4
+padded_holds : padded_shown (shown_summary (spelling ceilings padded) (read ceilings padded)) ≡ 4
 unfolding read body function spelling count.body count.function
-padded-holds = refl
+padded_holds = refl
 
-refused-holds : shownSummary (spelling ceilings (take 307 distinct)) (read ceilings (take 307 distinct)) ≡ summary.Err (Truncated 307)
+refused_holds : shown_summary (spelling ceilings (take 307 distinct)) (read ceilings (take 307 distinct)) ≡ summary.Err (Truncated 307)
 unfolding distinct read body function
-refused-holds = refl
+refused_holds = refl
 
-trailing-holds : trailingOf chunk ∷ trailingOf (read ceilings (take 307 distinct)) ∷ [] ≡ (1 ∷ 2 ∷ 3 ∷ []) ∷ [] ∷ []
+trailing_holds : trailing_of chunk ∷ trailing_of (read ceilings (take 307 distinct)) ∷ [] ≡ (1 ∷ 2 ∷ 3 ∷ []) ∷ [] ∷ []
 unfolding distinct read body function
-trailing-holds = refl
+trailing_holds = refl

@@ -1,7 +1,7 @@
 -- What is shown of a function: the fields that 01 lists.
 use Rattle.std.specs.Prelude.{ℕ, length}
 use Rattle.format.specs.Reading.{Prototype}
-use Rattle.read_field.specs.Shown.{optionString}
+use Rattle.read_field.specs.Shown.{option_string}
 use Rattle.show_chunk.specs.declared.fields.FunctionFields.{FunctionFields}
 use Rattle.show_chunk.specs.declared.fields.FieldsAnswer.{FieldsAnswer}
 use Rattle.show_chunk.specs.declared.fields.FieldsAnswer.TheVariants as fields
@@ -11,24 +11,24 @@ abbrev pub fields_of : Prototype → FunctionFields
 fields_of p = record {
   depth = p.depth;
   parent = p.parent;
-  source_name = optionString p.source-name;
+  source_name = option_string p.source-name;
   line_defined = p.line-defined;
-  last_line_defined = p.last-line-defined;
+  last_line_defined = p.last-line_defined;
   numparams = p.numparams;
-  is_vararg = p.is-vararg;
+  is_vararg = p.is_vararg;
   maxstacksize = p.maxstacksize;
   counts = record {
     instructions = length p.instructions;
     constants = length p.constants;
     upvalues = length p.upvalues;
     protos = p.protos;
-    line_info = length p.line-info;
-    abs_line_info = length p.abs-line-info;
-    loc_vars = length p.loc-vars;
-    upvalue_names = length p.upvalue-names;
+    line_info = length p.line_info_lem;
+    abs_line_info = length p.abs_line_info;
+    loc_vars = length p.loc_vars;
+    upvalue_names = length p.upvalue_names_lem;
   };
 }
 
-abbrev pub shownFields : Asked Prototype → FieldsAnswer
-shownFields (found p) = fields.Ok (fields_of p)
-shownFields (refused q) = fields.Err q
+abbrev pub shown_fields : Asked Prototype → FieldsAnswer
+shown_fields (found p) = fields.Ok (fields_of p)
+shown_fields (refused q) = fields.Err q

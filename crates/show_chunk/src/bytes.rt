@@ -1,7 +1,7 @@
 // Bytes that are shown as a part of the caller's chunk.
 ghost use Rattle.std.specs.Prelude.{◌≡◌, take, drop};
 ghost use Rattle.format.specs.ReadChunk.{read};
-ghost use Rattle.show_chunk.specs.Summaries.{trailingOf};
+ghost use Rattle.show_chunk.specs.Summaries.{trailing_of};
 
 use format::limits::ResourceLimits;
 use read_chunk::summary::{JudgedResult, judge_chunk};
@@ -18,7 +18,7 @@ pub fn string_bytes(s: &[u8], place: usize, len: usize) -> &[u8]
 // The bytes behind main. Of a chunk that is refused there are none: 01 leaves that answer free.
 // Ruled out: trailing bytes that are never there, the whole chunk.
 pub fn trailing_bytes(s: &[u8], limits: ResourceLimits) -> &[u8]
-    ensures { result.now ≡ trailingOf (read limits s.now) }
+    ensures { result.now ≡ trailing_of (read limits s.now) }
 {
     let judged = judge_chunk(s, limits);
     match judged {

@@ -1,9 +1,9 @@
 // A function's fields, by its number.
 ghost use Rattle.std.specs.Prelude.{◌≡◌};
 ghost use Rattle.format.specs.ReadChunk.{read};
-ghost use Rattle.show_row.specs.Asked.{functionOf};
-ghost use Rattle.show_chunk.specs.Fields.{shownFields};
-ghost use Rattle.show_chunk.specs.Inner.Rows.{fieldsShown};
+ghost use Rattle.show_row.specs.Asked.{function_of};
+ghost use Rattle.show_chunk.specs.Fields.{shown_fields};
+ghost use Rattle.show_chunk.specs.Inner.Rows.{fields_shown};
 
 use format::limits::ResourceLimits;
 use format::refusal::Refusal;
@@ -45,7 +45,7 @@ pub enum FieldsAnswer {
 }
 
 fn counts_of(row: FunctionRow) -> Counts
-    ensures { result ≡ (fieldsShown row).counts }
+    ensures { result ≡ (fields_shown row).counts }
 {
     let lists = row.lists;
     let instructions = lists.instructions;
@@ -69,7 +69,7 @@ fn counts_of(row: FunctionRow) -> Counts
 }
 
 fn fields_of(row: FunctionRow) -> FunctionFields
-    ensures { result ≡ fieldsShown row }
+    ensures { result ≡ fields_shown row }
 {
     let source_name = row.source_name;
     let lines = row.lines;
@@ -89,7 +89,7 @@ fn fields_of(row: FunctionRow) -> FunctionFields
 
 // Depth, parent, source, lines, three bytes and eight counts. Ruled out: nested functions that all show main's fields, the counts of locals and names exchanged.
 pub fn function_fields(s: &[u8], limits: ResourceLimits, function: usize) -> FieldsAnswer
-    ensures { result ≡ shownFields (functionOf function (read limits s.now)) }
+    ensures { result ≡ shown_fields (function_of function (read limits s.now)) }
 {
     let found = function_row(s, limits, function);
     match found {

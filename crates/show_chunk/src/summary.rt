@@ -2,7 +2,7 @@
 ghost use Rattle.std.specs.Prelude.{◌≡◌};
 ghost use Rattle.format.specs.ReadChunk.{read};
 ghost use Rattle.format_spelling.specs.ReadSpelling.{spelling};
-ghost use Rattle.show_chunk.specs.Summaries.{shownSummary};
+ghost use Rattle.show_chunk.specs.Summaries.{shown_summary};
 
 use format::limits::ResourceLimits;
 use format::refusal::Refusal;
@@ -24,7 +24,7 @@ pub enum SummaryAnswer {
 // Header fields, warnings, the number of functions, place and length of the trailing bytes, and how many numbers are padded.
 // Ruled out: every chunk called cut short, a number of functions that leaves out the nested ones, numbers that are never padded.
 pub fn chunk_summary(s: &[u8], limits: ResourceLimits) -> SummaryAnswer
-    ensures { result ≡ shownSummary (spelling limits s.now) (read limits s.now) }
+    ensures { result ≡ shown_summary (spelling limits s.now) (read limits s.now) }
 {
     let judged = judge_spelling(s, limits);
     match judged {

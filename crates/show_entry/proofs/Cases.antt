@@ -1,6 +1,6 @@
 -- One entry of each list, from the bytes of a chunk whose function 4 has numbers that all differ (crates/format/proofs/Distinct.antt): the first, the last, one behind the last (24) and one of a function that is not there (23); antt computes all.
---     words-hold, constants-hold, upvalues-hold, deltas-hold, anchors-hold, names-hold
---     signs-hold       a delta and an integer are signed, a float is its bits
+--     words_hold, constants_hold, upvalues_hold, deltas_hold, anchors_hold, names_hold
+--     signs_hold       a delta and an integer are signed, a float is its bits
 -- Told apart: parts of an entry exchanged, another list's entry, bytes high first, a tag taken for another, numbers of entries from 1, 24 given for 23.
 -- Assumes nothing.
 use mathlib.Core.Path.{◌≡◌, refl}
@@ -23,7 +23,7 @@ use Rattle.show_entry.specs.declared.UpvalueAnswer.TheVariants as upvalue-answer
 use Rattle.show_entry.specs.declared.DeltaAnswer.TheVariants as delta-answer
 use Rattle.show_entry.specs.declared.AnchorAnswer.TheVariants as anchor-answer
 use Rattle.show_entry.specs.declared.NameAnswer.TheVariants as name-answer
-use Rattle.show_entry.specs.Entries.{shownWord, shownConstant, shownUpvalue, shownDelta, shownAnchor, shownName}
+use Rattle.show_entry.specs.Entries.{shown_word, shown_constant, shown_upvalue, shown_delta, shown_anchor, shown_name}
 
 abbrev chunk : Outcome
 chunk = read ceilings distinct
@@ -32,12 +32,12 @@ chunk = read ceilings distinct
 abbrev asked : ℕ → List (ℕ × ℕ)
 asked n = (4, 0) ∷ (4, n - 1) ∷ (4, n) ∷ (9, 0) ∷ []
 
-words-hold : map (λ (c : ℕ × ℕ). shownWord (entry_of (λ p. p.instructions) c.0 c.1 chunk)) (asked 5)
+words_hold : map (λ (c : ℕ × ℕ). shown_word (entry_of (λ p. p.instructions) c.0 c.1 chunk)) (asked 5)
     ≡ word-answer.Ok 0x04030201 ∷ word-answer.Ok 0 ∷ word-answer.Err NoEntry ∷ word-answer.Err NoFunction ∷ []
 unfolding distinct read body function
-words-hold = refl
+words_hold = refl
 
-constants-hold : map (λ (n : ℕ). shownConstant (entry_of (λ p. p.constants) 4 n chunk)) (0 ∷ 1 ∷ 2 ∷ 3 ∷ 4 ∷ 5 ∷ 6 ∷ 7 ∷ [])
+constants_hold : map (λ (n : ℕ). shown_constant (entry_of (λ p. p.constants) 4 n chunk)) (0 ∷ 1 ∷ 2 ∷ 3 ∷ 4 ∷ 5 ∷ 6 ∷ 7 ∷ [])
     ≡ constant-answer.Ok constant.Nil
     ∷ constant-answer.Ok (constant.Boolean false)
     ∷ constant-answer.Ok (constant.Boolean true)
@@ -48,32 +48,32 @@ constants-hold : map (λ (n : ℕ). shownConstant (entry_of (λ p. p.constants) 
     ∷ constant-answer.Err NoEntry
     ∷ []
 unfolding distinct read body function
-constants-hold = refl
+constants_hold = refl
 
-upvalues-hold : map (λ (c : ℕ × ℕ). shownUpvalue (entry_of (λ p. p.upvalues) c.0 c.1 chunk)) (asked 6)
+upvalues_hold : map (λ (c : ℕ × ℕ). shown_upvalue (entry_of (λ p. p.upvalues) c.0 c.1 chunk)) (asked 6)
     ≡ upvalue-answer.Ok (record { instack = 1; idx = 2; kind = 3 }) ∷ upvalue-answer.Ok (record { instack = 0; idx = 0; kind = 0 })
     ∷ upvalue-answer.Err NoEntry ∷ upvalue-answer.Err NoFunction ∷ []
 unfolding distinct read body function
-upvalues-hold = refl
+upvalues_hold = refl
 
-deltas-hold : map (λ (c : ℕ × ℕ). shownDelta (entry_of (λ p. p.line-info) c.0 c.1 chunk)) (asked 8)
+deltas_hold : map (λ (c : ℕ × ℕ). shown_delta (entry_of (λ p. p.line_info_lem) c.0 c.1 chunk)) (asked 8)
     ≡ delta-answer.Ok (negsuc 0) ∷ delta-answer.Ok (pos 0) ∷ delta-answer.Err NoEntry ∷ delta-answer.Err NoFunction ∷ []
 unfolding distinct read body function
-deltas-hold = refl
+deltas_hold = refl
 
-anchors-hold : map (λ (c : ℕ × ℕ). shownAnchor (entry_of (λ p. p.abs-line-info) c.0 c.1 chunk)) (asked 9)
+anchors_hold : map (λ (c : ℕ × ℕ). shown_anchor (entry_of (λ p. p.abs_line_info) c.0 c.1 chunk)) (asked 9)
     ≡ anchor-answer.Ok (record { pc = 3; line = 4 }) ∷ anchor-answer.Ok (record { pc = 0; line = 0 }) ∷ anchor-answer.Err NoEntry ∷ anchor-answer.Err NoFunction ∷ []
 unfolding distinct read body function
-anchors-hold = refl
+anchors_hold = refl
 
-names-hold : map (λ (c : ℕ × ℕ). shownName (entry_of (λ p. p.upvalue-names) c.0 c.1 chunk)) (asked 11)
+names_hold : map (λ (c : ℕ × ℕ). shown_name (entry_of (λ p. p.upvalue_names_lem) c.0 c.1 chunk)) (asked 11)
     ≡ name-answer.Ok (string.Some (record { place = 289; len = 1 })) ∷ name-answer.Ok string.None ∷ name-answer.Err NoEntry ∷ name-answer.Err NoFunction ∷ []
 unfolding distinct read body function
-names-hold = refl
+names_hold = refl
 
 -- 127, −128, −1; 2^63 − 1, −2^63, −1
-signs-hold : (map (λ (n : ℕ). shownDelta (found n)) (0x7f ∷ 0x80 ∷ 0xff ∷ []) ≡ delta-answer.Ok (pos 127) ∷ delta-answer.Ok (negsuc 127) ∷ delta-answer.Ok (negsuc 0) ∷ [])
-    × (map (λ (n : ℕ). shownConstant (found (reading.integer n))) ((2 ^ 63 - 1) ∷ 2 ^ 63 ∷ (2 ^ 64 - 1) ∷ [])
+signs_hold : (map (λ (n : ℕ). shown_delta (found n)) (0x7f ∷ 0x80 ∷ 0xff ∷ []) ≡ delta-answer.Ok (pos 127) ∷ delta-answer.Ok (negsuc 127) ∷ delta-answer.Ok (negsuc 0) ∷ [])
+    × (map (λ (n : ℕ). shown_constant (found (reading.integer n))) ((2 ^ 63 - 1) ∷ 2 ^ 63 ∷ (2 ^ 64 - 1) ∷ [])
     ≡ constant-answer.Ok (constant.Integer (pos (2 ^ 63 - 1))) ∷ constant-answer.Ok (constant.Integer (negsuc (2 ^ 63 - 1))) ∷ constant-answer.Ok (constant.Integer (negsuc 0)) ∷ [])
-    × (shownConstant (found (reading.float (2 ^ 64 - 1))) ≡ constant-answer.Ok (constant.Float (2 ^ 64 - 1)))
-signs-hold = (refl, refl, refl)
+    × (shown_constant (found (reading.float (2 ^ 64 - 1))) ≡ constant-answer.Ok (constant.Float (2 ^ 64 - 1)))
+signs_hold = (refl, refl, refl)

@@ -4,8 +4,8 @@ ghost use Rattle.std.specs.Int.{w8};
 ghost use Rattle.std.proofs.Common.{to_z};
 ghost use Rattle.format.specs.ReadChunk.{read};
 ghost use Rattle.show_row.specs.Asked.{entry_of};
-ghost use Rattle.show_entry.specs.Entries.{shownWord, shownConstant, shownUpvalue, shownDelta, shownAnchor, shownName};
-ghost use Rattle.show_entry.specs.Inner.Results.{word_of, constant_of, upvalueOf, deltaOf, anchorOf, name_of};
+ghost use Rattle.show_entry.specs.Entries.{shown_word, shown_constant, shown_upvalue, shown_delta, shown_anchor, shown_name};
+ghost use Rattle.show_entry.specs.Inner.Results.{word_of, constant_of, upvalue_of, delta_of, anchor_of, name_of};
 
 use format::entry::{AbsLineInfo, UpvalueDesc};
 use format::limits::ResourceLimits;
@@ -35,7 +35,7 @@ fn word(read: U32Result) -> WordAnswer
 
 // An instruction word of a function, by their numbers. Ruled out: a word of another function, 24 before 23.
 pub fn instruction(s: &[u8], limits: ResourceLimits, function: usize, entry: usize) -> WordAnswer
-    ensures { result ≡ shownWord (entry_of (λ p. p.instructions) function entry (read limits s.now)) }
+    ensures { result ≡ shown_word (entry_of (λ p. p.instructions) function entry (read limits s.now)) }
 {
     let found = entry_list(s, limits, function, EntryKind::Instruction, entry);
     match found {
@@ -61,7 +61,7 @@ fn constant_answer(read: ConstantResult) -> ConstantAnswer
 
 // A constant of a function, by their numbers; of a string the place and length. Ruled out: the first constant whatever the number, a short string shown as a long one.
 pub fn constant(s: &[u8], limits: ResourceLimits, function: usize, entry: usize) -> ConstantAnswer
-    ensures { result ≡ shownConstant (entry_of (λ p. p.constants) function entry (read limits s.now)) }
+    ensures { result ≡ shown_constant (entry_of (λ p. p.constants) function entry (read limits s.now)) }
 {
     let found = entry_list(s, limits, function, EntryKind::Constant, entry);
     match found {
@@ -82,7 +82,7 @@ pub enum UpvalueAnswer {
 }
 
 fn upvalue_answer(read: UpvalueResult) -> UpvalueAnswer
-    ensures { result ≡ upvalueOf read }
+    ensures { result ≡ upvalue_of read }
 {
     match read {
         UpvalueResult::Err(refusal) => UpvalueAnswer::Err(refusal),
@@ -92,7 +92,7 @@ fn upvalue_answer(read: UpvalueResult) -> UpvalueAnswer
 
 // An upvalue of a function, by their numbers. Ruled out: instack and idx exchanged, an upvalue of the parent.
 pub fn upvalue(s: &[u8], limits: ResourceLimits, function: usize, entry: usize) -> UpvalueAnswer
-    ensures { result ≡ shownUpvalue (entry_of (λ p. p.upvalues) function entry (read limits s.now)) }
+    ensures { result ≡ shown_upvalue (entry_of (λ p. p.upvalues) function entry (read limits s.now)) }
 {
     let found = entry_list(s, limits, function, EntryKind::Upvalue, entry);
     match found {
@@ -118,7 +118,7 @@ fn signed(bits: u8) -> i8
 }
 
 fn delta_answer(read: U8Result) -> DeltaAnswer
-    ensures { result ≡ deltaOf read }
+    ensures { result ≡ delta_of read }
 {
     match read {
         U8Result::Err(refusal) => DeltaAnswer::Err(refusal),
@@ -128,7 +128,7 @@ fn delta_answer(read: U8Result) -> DeltaAnswer
 
 // A line delta of a function, by their numbers. Ruled out: a byte from 128 up shown as it stands, the delta before.
 pub fn delta(s: &[u8], limits: ResourceLimits, function: usize, entry: usize) -> DeltaAnswer
-    ensures { result ≡ shownDelta (entry_of (λ p. p.line-info) function entry (read limits s.now)) }
+    ensures { result ≡ shown_delta (entry_of (λ p. p.line_info_lem) function entry (read limits s.now)) }
 {
     let found = entry_list(s, limits, function, EntryKind::Delta, entry);
     match found {
@@ -144,7 +144,7 @@ pub enum AnchorAnswer {
 }
 
 fn anchor_answer(read: AnchorResult) -> AnchorAnswer
-    ensures { result ≡ anchorOf read }
+    ensures { result ≡ anchor_of read }
 {
     match read {
         AnchorResult::Err(refusal) => AnchorAnswer::Err(refusal),
@@ -154,7 +154,7 @@ fn anchor_answer(read: AnchorResult) -> AnchorAnswer
 
 // An anchor of a function, by their numbers. Ruled out: pc and line exchanged, the first anchor whatever the number.
 pub fn anchor(s: &[u8], limits: ResourceLimits, function: usize, entry: usize) -> AnchorAnswer
-    ensures { result ≡ shownAnchor (entry_of (λ p. p.abs-line-info) function entry (read limits s.now)) }
+    ensures { result ≡ shown_anchor (entry_of (λ p. p.abs_line_info) function entry (read limits s.now)) }
 {
     let found = entry_list(s, limits, function, EntryKind::Anchor, entry);
     match found {
@@ -181,7 +181,7 @@ fn name_answer(read: StringResult) -> NameAnswer
 // The name of an upvalue of a function, by their numbers, if it has one: place and length.
 // Ruled out: an absent name shown as an empty one, names beyond the upvalues refused.
 pub fn upvalue_name(s: &[u8], limits: ResourceLimits, function: usize, entry: usize) -> NameAnswer
-    ensures { result ≡ shownName (entry_of (λ p. p.upvalue-names) function entry (read limits s.now)) }
+    ensures { result ≡ shown_name (entry_of (λ p. p.upvalue_names_lem) function entry (read limits s.now)) }
 {
     let found = entry_list(s, limits, function, EntryKind::UpvalueName, entry);
     match found {

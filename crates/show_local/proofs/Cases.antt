@@ -1,7 +1,7 @@
 -- A local variable and what is lent for its name, from the bytes of a chunk whose function 4 has numbers that all differ (crates/format/proofs/Distinct.antt): the first, which has a name, the last, which has none and
 -- reads as `?`, one behind the last (24), and one of a function that is not there (23); antt computes both lists.
---     answers-hold     the name's length, startpc, endpc; 26 where no space is lent
---     names-hold       what then stands in the lent space
+--     answers_hold     the name's length, startpc, endpc; 26 where no space is lent
+--     names_hold       what then stands in the lent space
 -- Told apart: startpc and endpc exchanged, an absent name of length 0, space beyond the name touched, space touched on a refusal.
 -- Assumes nothing.
 use mathlib.Core.Path.{◌≡◌, refl}
@@ -17,10 +17,10 @@ use Rattle.format.proofs.Distinct.{distinct}
 use Rattle.show_row.specs.Asked.{Asked, entry_of}
 use Rattle.show_local.specs.declared.LocalAnswer.{LocalAnswer}
 use Rattle.show_local.specs.declared.LocalAnswer.TheVariants.{Ok, Err}
-use Rattle.show_local.specs.Locals.{shownLocal, nameWritten}
+use Rattle.show_local.specs.Locals.{shown_local, name_written}
 
 abbrev found : ℕ → ℕ → Asked LocalVar
-found f n = entry_of (λ p. p.loc-vars) f n (read ceilings distinct)
+found f n = entry_of (λ p. p.loc_vars) f n (read ceilings distinct)
 
 record Case : Type 0 where
   of : ℕ
@@ -38,10 +38,10 @@ cases =
     ∷ record { of = 9; entry = 0; lent = 1 ∷ []; answer = Err NoFunction; then = 1 ∷ [] }
     ∷ []
 
-answers-hold : map (λ (c : Case). shownLocal (length c.lent) (found c.of c.entry)) cases ≡ map (λ (c : Case). c.answer) cases
+answers_hold : map (λ (c : Case). shown_local (length c.lent) (found c.of c.entry)) cases ≡ map (λ (c : Case). c.answer) cases
 unfolding cases distinct read body function
-answers-hold = refl
+answers_hold = refl
 
-names-hold : map (λ (c : Case). nameWritten c.lent (found c.of c.entry)) cases ≡ map (λ (c : Case). c.then) cases
+names_hold : map (λ (c : Case). name_written c.lent (found c.of c.entry)) cases ≡ map (λ (c : Case). c.then) cases
 unfolding cases distinct read body function
-names-hold = refl
+names_hold = refl

@@ -9,11 +9,11 @@ use Rattle.show_local.specs.declared.LocalAnswer.TheVariants as answer
 use Rattle.show_row.specs.Asked.{Asked, found, refused}
 
 -- `space` is how much is lent
-abbrev pub shownLocal : ℕ → Asked LocalVar → LocalAnswer
-shownLocal space (found l) = cond (leb (length l.name.bytes) space) (answer.Ok (length l.name.bytes) l.startpc l.endpc) (answer.Err LentSpace)
-shownLocal space (refused q) = answer.Err q
+abbrev pub shown_local : ℕ → Asked LocalVar → LocalAnswer
+shown_local space (found l) = cond (leb (length l.name.bytes) space) (answer.Ok (length l.name.bytes) l.startpc l.endpc) (answer.Err LentSpace)
+shown_local space (refused q) = answer.Err q
 
 -- the name, and beyond it what was there; on a refusal all is what was there
-abbrev pub nameWritten : Bytes → Asked LocalVar → Bytes
-nameWritten old (found l) = over l.name.bytes old
-nameWritten old (refused q) = old
+abbrev pub name_written : Bytes → Asked LocalVar → Bytes
+name_written old (found l) = over l.name.bytes old
+name_written old (refused q) = old

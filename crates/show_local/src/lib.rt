@@ -2,8 +2,8 @@
 ghost use Rattle.std.specs.Prelude.{◌≡◌, ◌++◌, ◌≤◌, length, drop};
 ghost use Rattle.format.specs.ReadChunk.{read};
 ghost use Rattle.show_row.specs.Asked.{entry_of};
-ghost use Rattle.show_local.specs.Locals.{shownLocal, nameWritten};
-ghost use Rattle.show_local.specs.Inner.Names.{nameLength, nameBytes, Stands};
+ghost use Rattle.show_local.specs.Locals.{shown_local, name_written};
+ghost use Rattle.show_local.specs.Inner.Names.{name_length, name_bytes, Stands};
 
 use format::limits::ResourceLimits;
 use format::refusal::Refusal;
@@ -26,7 +26,7 @@ pub enum LocalAnswer {
 
 // How long a name is; an absent one is `?`.
 fn name_len(name: OptionString) -> usize
-    ensures { result ≡ nameLength name }
+    ensures { result ≡ name_length name }
 {
     match name {
         OptionString::Some(present) => present.len,
@@ -37,8 +37,8 @@ fn name_len(name: OptionString) -> usize
 // Writes a name to the front of the lent space.
 fn put_name(s: &[u8], name: OptionString, out: &mut [u8])
     requires stands { Stands name (length s.now) }
-    requires name_in_bounds { nameLength name ≤ length out.old }
-    ensures { out.new ≡ nameBytes name s.now ++ drop (nameLength name) out.old }
+    requires name_in_bounds { name_length name ≤ length out.old }
+    ensures { out.new ≡ name_bytes name s.now ++ drop (name_length name) out.old }
 {
     match name {
         OptionString::Some(present) => {
@@ -59,8 +59,8 @@ pub fn local(
     entry: usize,
     name: &mut [u8],
 ) -> LocalAnswer
-    ensures value { result ≡ shownLocal (length name.old) (entry_of (λ p. p.loc-vars) function entry (read limits s.now)) }
-    ensures name_after { name.new ≡ nameWritten name.old (entry_of (λ p. p.loc-vars) function entry (read limits s.now)) }
+    ensures value { result ≡ shown_local (length name.old) (entry_of (λ p. p.loc_vars) function entry (read limits s.now)) }
+    ensures name_after { name.new ≡ name_written name.old (entry_of (λ p. p.loc_vars) function entry (read limits s.now)) }
 {
     let found = entry_list(s, limits, function, EntryKind::Local, entry);
     match found {

@@ -13,20 +13,20 @@ use Rattle.format.specs.declared.refusal.Refusal.{Refusal}
 use Rattle.format.specs.declared.refusal.Refusal.TheVariants.{NoFunction, NoEntry}
 use Rattle.format.specs.Reading.{Prototype, Reading}
 use Rattle.format.specs.ReadChunk.{Outcome, shown, refusal}
-use Rattle.slice.specs.Shown.{cursorAt}
+use Rattle.slice.specs.Shown.{cursor_at}
 use Rattle.read_prototype.specs.declared.row.FunctionRow.{FunctionRow}
 use Rattle.read_prototype.specs.declared.row.OptionRow.{OptionRow}
 use Rattle.read_prototype.specs.declared.row.OptionRow.TheVariants as option
-use Rattle.read_prototype.specs.Inner.Row.{row_of, shownRow, lookup}
+use Rattle.read_prototype.specs.Inner.Row.{row_of, shown_row, lookup}
 use Rattle.read_chunk.specs.declared.summary.Decoded.{Decoded}
 use Rattle.read_chunk.specs.declared.summary.DecodedResult.TheVariants as decoded
-use Rattle.read_chunk.specs.Inner.Decoded.{decodedResult}
+use Rattle.read_chunk.specs.Inner.Decoded.{decoded_result}
 use Rattle.show_row.specs.declared.row.RowAnswer.{RowAnswer}
 use Rattle.show_row.specs.declared.row.RowAnswer.TheVariants as row
 use Rattle.show_row.specs.declared.place.EntryKind.{EntryKind}
 use Rattle.show_row.specs.declared.place.PlaceAnswer.TheVariants as place
-use Rattle.show_row.specs.Asked.{Asked, found, refused, orRefuse, functionOf}
-use Rattle.show_row.specs.Inner.Places.{shownRowAnswer, list_of, place_in, shownPlace}
+use Rattle.show_row.specs.Asked.{Asked, found, refused, or_refuse, function_of}
+use Rattle.show_row.specs.Inner.Places.{shown_row_answer, list_of, place_in, shown_place}
 
 -- a function by its number is the item of that number
 lookup-from : (n k : ℕ) (ps : List Prototype) → lookup (k + n) k ps ≡ get_elem? ps n
@@ -36,47 +36,47 @@ lookup-from (suc n) k (p ∷ ps) =
     let e : k + suc n ≡ k + 1 + n = omega arith in
     ap (λ b. cond b (some p) (lookup (k + suc n) (k + 1) ps)) (ne_eqb (k + suc n) k (λ e. omega arith)) ∙ ap (λ m. lookup m (k + 1) ps) e ∙ lookup-from n (k + 1) ps
 
-lookup-nth : (n : ℕ) (ps : List Prototype) → lookup n 0 ps ≡ get_elem? ps n
-lookup-nth n ps = let e : n ≡ 0 + n = omega arith in ap (λ m. lookup m 0 ps) e ∙ lookup-from n 0 ps
+lookup_nth : (n : ℕ) (ps : List Prototype) → lookup n 0 ps ≡ get_elem? ps n
+lookup_nth n ps = let e : n ≡ 0 + n = omega arith in ap (λ m. lookup m 0 ps) e ∙ lookup-from n 0 ps
 
 -- what is shown of a row that was looked for
-abbrev rowOr : OptionRow → RowAnswer
-rowOr option.None = row.Err NoFunction
-rowOr (option.Some x) = row.Ok x
+abbrev row_or : OptionRow → RowAnswer
+row_or option.None = row.Err NoFunction
+row_or (option.Some x) = row.Ok x
 
-shown-or : (o : Option Prototype) → rowOr (shownRow o) ≡ shownRowAnswer (orRefuse NoFunction o)
+shown-or : (o : Option Prototype) → row_or (shown_row o) ≡ shown_row_answer (or_refuse NoFunction o)
 shown-or none = refl
 shown-or (some p) = refl
 
 module _ (f : ℕ) where
-  pub row-refused : (o : Outcome) (q : Refusal) → decoded.Err q ≡ decodedResult f o → row.Err q ≡ shownRowAnswer (functionOf f o)
-  row-refused (shown r) q e = absurd (let z : ◌≡◌ {A = ℕ} 0 1 = cc in omega arith)
-  row-refused (refusal p) q e = cc
+  pub row_refused : (o : Outcome) (q : Refusal) → decoded.Err q ≡ decoded_result f o → row.Err q ≡ shown_row_answer (function_of f o)
+  row_refused (shown r) q e = absurd (let z : ◌≡◌ {A = ℕ} 0 1 = cc in omega arith)
+  row_refused (refusal p) q e = cc
 
-  by_row : (o : Outcome) (d : Decoded) → decoded.Ok d ≡ decodedResult f o → rowOr d.row ≡ shownRowAnswer (functionOf f o)
+  by_row : (o : Outcome) (d : Decoded) → decoded.Ok d ≡ decoded_result f o → row_or d.row ≡ shown_row_answer (function_of f o)
   by_row (shown r) d e =
-      let same : d.row ≡ shownRow (lookup f 0 r.functions) = cc in
-      ap rowOr same ∙ ap (λ p. rowOr (shownRow p)) (lookup-nth f r.functions) ∙ shown-or (get_elem? r.functions f)
+      let same : d.row ≡ shown_row (lookup f 0 r.functions) = cc in
+      ap row_or same ∙ ap (λ p. row_or (shown_row p)) (lookup_nth f r.functions) ∙ shown-or (get_elem? r.functions f)
   by_row (refusal p) d e = absurd (let z : ◌≡◌ {A = ℕ} 0 1 = cc in omega arith)
 
-  pub row-none : (o : Outcome) (d : Decoded) → decoded.Ok d ≡ decodedResult f o → d.row ≡ option.None → row.Err NoFunction ≡ shownRowAnswer (functionOf f o)
-  row-none o d e is = sym (ap rowOr is) ∙ by_row o d e
+  pub row_none : (o : Outcome) (d : Decoded) → decoded.Ok d ≡ decoded_result f o → d.row ≡ option.None → row.Err NoFunction ≡ shown_row_answer (function_of f o)
+  row_none o d e is = sym (ap row_or is) ∙ by_row o d e
 
-  pub row-some : (o : Outcome) (d : Decoded) → decoded.Ok d ≡ decodedResult f o → (x : FunctionRow) → d.row ≡ option.Some x → row.Ok x ≡ shownRowAnswer (functionOf f o)
-  row-some o d e x is = sym (ap rowOr is) ∙ by_row o d e
+  pub row_some : (o : Outcome) (d : Decoded) → decoded.Ok d ≡ decoded_result f o → (x : FunctionRow) → d.row ≡ option.Some x → row.Ok x ≡ shown_row_answer (function_of f o)
+  row_some o d e x is = sym (ap row_or is) ∙ by_row o d e
 
 -- ## The lists
 module _ (k : EntryKind) (i : ℕ) where
-  pub place-refused : (a : Asked Prototype) (q : Refusal) → row.Err q ≡ shownRowAnswer a → place.Err q ≡ shownPlace k i a
+  pub place-refused : (a : Asked Prototype) (q : Refusal) → row.Err q ≡ shown_row_answer a → place.Err q ≡ shown_place k i a
   place-refused (found p) q e = absurd (let z : ◌≡◌ {A = ℕ} 0 1 = cc in omega arith)
   place-refused (refused p) q e = cc
 
-  in_row : (a : Asked Prototype) (x : FunctionRow) → row.Ok x ≡ shownRowAnswer a → place_in (list_of k x) i ≡ shownPlace k i a
+  in_row : (a : Asked Prototype) (x : FunctionRow) → row.Ok x ≡ shown_row_answer a → place_in (list_of k x) i ≡ shown_place k i a
   in_row (found p) x e = let same : x ≡ row_of p = cc in ap (λ x. place_in (list_of k x) i) same
   in_row (refused p) x e = absurd (let z : ◌≡◌ {A = ℕ} 0 1 = cc in omega arith)
 
-  pub place-there : (a : Asked Prototype) (x : FunctionRow) → row.Ok x ≡ shownRowAnswer a → i < (list_of k x).count → place.Ok (cursorAt (list_of k x).place) ≡ shownPlace k i a
-  place-there a x e h = sym (ap (λ b. cond b (place.Ok (cursorAt (list_of k x).place)) (place.Err NoEntry)) (lt-ltb i (list_of k x).count h)) ∙ in_row a x e
+  pub place-there : (a : Asked Prototype) (x : FunctionRow) → row.Ok x ≡ shown_row_answer a → i < (list_of k x).count → place.Ok (cursor_at (list_of k x).place) ≡ shown_place k i a
+  place-there a x e h = sym (ap (λ b. cond b (place.Ok (cursor_at (list_of k x).place)) (place.Err NoEntry)) (lt-ltb i (list_of k x).count h)) ∙ in_row a x e
 
-  pub place-beyond : (a : Asked Prototype) (x : FunctionRow) → row.Ok x ≡ shownRowAnswer a → (list_of k x).count ≤ i → place.Err NoEntry ≡ shownPlace k i a
-  place-beyond a x e h = sym (ap (λ b. cond b (place.Ok (cursorAt (list_of k x).place)) (place.Err NoEntry)) (le-ltb i (list_of k x).count h)) ∙ in_row a x e
+  pub place_beyond : (a : Asked Prototype) (x : FunctionRow) → row.Ok x ≡ shown_row_answer a → (list_of k x).count ≤ i → place.Err NoEntry ≡ shown_place k i a
+  place_beyond a x e h = sym (ap (λ b. cond b (place.Ok (cursor_at (list_of k x).place)) (place.Err NoEntry)) (le-ltb i (list_of k x).count h)) ∙ in_row a x e

@@ -12,16 +12,16 @@ use Rattle.format.specs.Reading.{Reading, Prototype}
 use Rattle.format.specs.GrammarChunk.{Loaded, reading}
 use Rattle.format.specs.Read.{Read, ok, refused}
 use Rattle.format.specs.ReadChunk.{main, outcome, Outcome, shown, refusal, read}
-use Rattle.format.proofs.ExactChunk.{exact-main}
+use Rattle.format.proofs.ExactChunk.{exact_main}
 use Rattle.format.proofs.Left.{left}
-use Rattle.format.proofs.Located.{Located, all-located}
-use Rattle.format.proofs.ReadChunkLaws.{read-sound, main-complete}
+use Rattle.format.proofs.Located.{Located, all_located}
+use Rattle.format.proofs.ReadChunkLaws.{read_sound, main_complete}
 
 -- of items that all have a property, each has it
-pub all-nth : {A : Type 0} (P : A → Type 0) (xs : List A) → All P xs → (i : ℕ) {x : A} → get_elem? xs i ≡ some x → P x
-all-nth P [] a i e = absurd (let z : ◌≡◌ {A = ℕ} 0 1 = cc in omega arith)
-all-nth P (y ∷ ys) a zero {x} e = let same : y ≡ x = cc in rw same at a.0
-all-nth P (y ∷ ys) a (suc i) e = all-nth P ys a.1 i e
+pub all_nth : {A : Type 0} (P : A → Type 0) (xs : List A) → All P xs → (i : ℕ) {x : A} → get_elem? xs i ≡ some x → P x
+all_nth P [] a i e = absurd (let z : ◌≡◌ {A = ℕ} 0 1 = cc in omega arith)
+all_nth P (y ∷ ys) a zero {x} e = let same : y ≡ x = cc in rw same at a.0
+all_nth P (y ∷ ys) a (suc i) e = all_nth P ys a.1 i e
 
 module _ (L : ResourceLimits) (s : Bytes) (r : Reading) where
   pub record Whole : Type 0 where
@@ -33,10 +33,10 @@ module _ (L : ResourceLimits) (s : Bytes) (r : Reading) where
       let shows : reading L m to rest ≡ r = cc in
       let functions : m.functions ≡ r.functions = ap (λ r. r.functions) shows in
       record {
-        located = rw functions at (all-located L s e);
-        trailing = sym (ap (λ r. r.trailing) shows) ∙ left (exact-main L) s 0 e ∙ ap (λ r. drop r.trailing_at s) shows;
+        located = rw functions at (all_located L s e);
+        trailing = sym (ap (λ r. r.trailing) shows) ∙ left (exact_main L) s 0 e ∙ ap (λ r. drop r.trailing_at s) shows;
       }
   from (refused q) e p = absurd (let z : ◌≡◌ {A = ℕ} 0 1 = cc in omega arith)
 
   pub whole : read L s ≡ shown r → Whole
-  whole e = from (main L 0 s) refl (main-complete L s r (read-sound L s r e))
+  whole e = from (main L 0 s) refl (main_complete L s r (read_sound L s r e))

@@ -12,19 +12,19 @@ pub data Asked (A : Type 0) : Type 0 where
   found : A → Asked A
   refused : Refusal → Asked A
 
-abbrev pub orRefuse : {A : Type 0} → Refusal → Option A → Asked A
-orRefuse q none = refused q
-orRefuse q (some x) = found x
+abbrev pub or_refuse : {A : Type 0} → Refusal → Option A → Asked A
+or_refuse q none = refused q
+or_refuse q (some x) = found x
 
 -- the function of that number, in the order their bytes begin
-abbrev pub functionOf : ℕ → Outcome → Asked Prototype
-functionOf n (shown r) = orRefuse NoFunction (get_elem? r.functions n)
-functionOf n (refusal q) = refused q
+abbrev pub function_of : ℕ → Outcome → Asked Prototype
+function_of n (shown r) = or_refuse NoFunction (get_elem? r.functions n)
+function_of n (refusal q) = refused q
 
 -- the entry of that number in a list of a function
-abbrev pub entryIn : {A : Type 0} → (Prototype → List A) → ℕ → Asked Prototype → Asked A
-entryIn list n (found p) = orRefuse NoEntry (get_elem? (list p) n)
-entryIn list n (refused q) = refused q
+abbrev pub entry_in : {A : Type 0} → (Prototype → List A) → ℕ → Asked Prototype → Asked A
+entry_in list n (found p) = or_refuse NoEntry (get_elem? (list p) n)
+entry_in list n (refused q) = refused q
 
 abbrev pub entry_of : {A : Type 0} → (Prototype → List A) → ℕ → ℕ → Outcome → Asked A
-entry_of list f n o = entryIn list n (functionOf f o)
+entry_of list f n o = entry_in list n (function_of f o)

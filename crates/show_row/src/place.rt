@@ -1,8 +1,8 @@
 // Where a function's list stands, if it has an entry of the number asked for.
 ghost use Rattle.std.specs.Prelude.{◌≡◌};
 ghost use Rattle.format.specs.ReadChunk.{read};
-ghost use Rattle.show_row.specs.Asked.{functionOf};
-ghost use Rattle.show_row.specs.Inner.Places.{list_of, shownPlace};
+ghost use Rattle.show_row.specs.Asked.{function_of};
+ghost use Rattle.show_row.specs.Inner.Places.{list_of, shown_place};
 
 use crate::row::{RowAnswer, function_row};
 use format::limits::ResourceLimits;
@@ -53,7 +53,7 @@ pub fn entry_list(
     kind: EntryKind,
     entry: usize,
 ) -> PlaceAnswer
-    ensures { result ≡ shownPlace kind entry (functionOf function (read limits s.now)) }
+    ensures { result ≡ shown_place kind entry (function_of function (read limits s.now)) }
 {
     let found = function_row(s, limits, function);
     match found {

@@ -1,8 +1,8 @@
 // A function by its number, as the walk finds it.
 ghost use Rattle.std.specs.Prelude.{◌≡◌};
 ghost use Rattle.format.specs.ReadChunk.{read};
-ghost use Rattle.show_row.specs.Asked.{functionOf};
-ghost use Rattle.show_row.specs.Inner.Places.{shownRowAnswer};
+ghost use Rattle.show_row.specs.Asked.{function_of};
+ghost use Rattle.show_row.specs.Inner.Places.{shown_row_answer};
 
 use format::limits::ResourceLimits;
 use format::refusal::Refusal;
@@ -19,7 +19,7 @@ pub enum RowAnswer {
 // The row of a function by its number: its fields, and where each of its lists begins; 23 where there is no such function.
 // Ruled out: main's row for every number, 23 before a refusal of the chunk.
 pub fn function_row(s: &[u8], limits: ResourceLimits, function: usize) -> RowAnswer
-    ensures { result ≡ shownRowAnswer (functionOf function (read limits s.now)) }
+    ensures { result ≡ shown_row_answer (function_of function (read limits s.now)) }
 {
     let decoded = decode_chunk_lua54(s, limits, function);
     match decoded {

@@ -6,7 +6,7 @@ use native.Mathlib.Omega.{arith}
 use lib.ListN.{length, take, drop, get_or}
 use Rattle.format.specs.Form.{Bytes}
 use Rattle.format.specs.GrammarFields.{little}
-use Rattle.format.proofs.Steps.{little-next, little-split}
+use Rattle.format.proofs.Steps.{little-next, little_split}
 
 module _ (at : ℕ) (s : Bytes) where
   pub one : at < length s → little (take 1 (drop at s)) ≡ get_or s at 0
@@ -20,4 +20,4 @@ module _ (at : ℕ) (s : Bytes) where
       rw (little-next 3 at s (omega arith), little-next 2 (at + 1) s (omega arith), two, little-next 1 (at + 2) s (omega arith), three, little-next 0 (at + 3) s (omega arith), ← ea, ← eb, ← ec, ← ed) (omega arith)
 
   pub eight : (low high : ℕ) → at + 8 ≤ length s → low ≡ little (take 4 (drop at s)) → high ≡ little (take 4 (drop (at + 4) s)) → low + high * 4294967296 ≡ little (take 8 (drop at s))
-  eight low high h el eh = rw (little-split 4 4 at s (omega arith), ← el, ← eh) (omega arith)
+  eight low high h el eh = rw (little_split 4 4 at s (omega arith), ← el, ← eh) (omega arith)

@@ -11,13 +11,13 @@ use lib.Dec.{eqb}
 use lib.ListN.{length, take, drop, get_or, length-drop, drop_of_length-le}
 use lib.Seq.{drop-cons}
 use Rattle.format.specs.Form.{Bytes}
-use Rattle.format.specs.ReadHeader.{sameBytes}
+use Rattle.format.specs.ReadHeader.{same_bytes}
 
 -- what is still to be compared
 abbrev pub rest : Bytes → ℕ → Bytes → ℕ → Bool
-rest s at bytes i = sameBytes (take (length bytes - i) (drop (at + i) s)) (drop i bytes)
+rest s at bytes i = same_bytes (take (length bytes - i) (drop (at + i) s)) (drop i bytes)
 
-pub start : (s : Bytes) (at : ℕ) (bytes : Bytes) → sameBytes (take (length bytes) (drop at s)) bytes ≡ rest s at bytes 0
+pub start : (s : Bytes) (at : ℕ) (bytes : Bytes) → same_bytes (take (length bytes) (drop at s)) bytes ≡ rest s at bytes 0
 start s at bytes =
     let all : length bytes - 0 ≡ length bytes = omega arith in
     let here : at + 0 ≡ at = omega arith in

@@ -2,5 +2,5 @@
 use Rattle.std.specs.Prelude.{ℕ}
 use Rattle.slice.specs.declared.cursor.Cursor.{Cursor}
 
-abbrev pub cursorAt : ℕ → Cursor
-cursorAt at = record { at = at }
+abbrev pub cursor_at : ℕ → Cursor
+cursor_at at = record { at = at }

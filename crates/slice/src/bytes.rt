@@ -1,6 +1,6 @@
 // Parts of a slice, for any place and length; and whether the bytes at a place are given ones.
 ghost use Rattle.std.specs.Prelude.{◌≡◌, ◌≤◌, length, take, drop};
-ghost use Rattle.format.specs.ReadHeader.{sameBytes};
+ghost use Rattle.format.specs.ReadHeader.{same_bytes};
 
 // The bytes of a slice from a place on; none where the place is behind its end. Ruled out: one byte too few, the front of the slice.
 pub fn bytes_from(s: &[u8], place: usize) -> &[u8]
@@ -27,7 +27,7 @@ pub fn bytes_at(s: &[u8], place: usize, len: usize) -> &[u8]
 // Whether the bytes at a place are these. Ruled out: the last of them not looked at.
 pub fn same_bytes(s: &[u8], at: usize, bytes: &[u8]) -> bool
     requires { length bytes.now ≤ length (drop at s.now) }
-    ensures { result ≡ sameBytes (take (length bytes.now) (drop at s.now)) bytes.now }
+    ensures { result ≡ same_bytes (take (length bytes.now) (drop at s.now)) bytes.now }
 {
     let mut i = 0;
     while i < bytes.len() {

@@ -1,7 +1,7 @@
 // reader.rs: the file is a slice, and a cursor by value says how far it is read. Reading a run of bytes.
 ghost use Rattle.std.specs.Prelude.{◌≡◌, length, drop};
 ghost use Rattle.format.specs.Read as read;
-ghost use Rattle.slice.specs.Inner.Results.{cursorResult};
+ghost use Rattle.slice.specs.Inner.Results.{cursor_result};
 
 use format::refusal::Refusal;
 
@@ -39,7 +39,7 @@ pub fn short(n: usize, at: usize) -> Refusal
 
 // Passes over n bytes. Ruled out: a run that ends behind the file, 1 where 2 holds.
 pub fn read_exact(s: &[u8], cursor: Cursor, n: usize) -> CursorResult
-    ensures { result ≡ cursorResult (read.run n cursor.at (drop cursor.at s.now)) }
+    ensures { result ≡ cursor_result (read.run n cursor.at (drop cursor.at s.now)) }
 {
     let at = cursor.at;
     if remaining(s, cursor) < n {

@@ -1,11 +1,11 @@
 // The stricter reading (02, item 7), which reads as Lua's own loader does: a pass judges the chunk by the stricter grammar, and keeps nothing; where it accepts, the ordinary reading shows the same reading (format_strict/proofs/StrictLaws.antt).
 ghost use Rattle.std.specs.Prelude.{◌≡◌, ◌≤◌};
 ghost use Rattle.format.specs.Limits.{DEEPEST, Walkable};
-ghost use Rattle.format_strict.specs.ReadStrict.{strictMain, strictRead};
+ghost use Rattle.format_strict.specs.ReadStrict.{strict_main, strict_read};
 ghost use Rattle.format_spelling.specs.ReadSpelling.{spelling};
-ghost use Rattle.slice.specs.Inner.Results.{cursorResult};
-ghost use Rattle.show_chunk.specs.Summaries.{shownSummary};
-ghost use Rattle.strict.specs.Inner.Opening.{strictOpening};
+ghost use Rattle.slice.specs.Inner.Results.{cursor_result};
+ghost use Rattle.show_chunk.specs.Summaries.{shown_summary};
+ghost use Rattle.strict.specs.Inner.Opening.{strict_opening};
 
 use format::limits::ResourceLimits;
 use format::refusal::Refusal;
@@ -17,7 +17,7 @@ use strict_walk::walk::pass_main;
 
 // The header, whose format byte must be 0, and the byte behind it, which is forgotten. Ruled out: the format byte looked at behind the bytes that follow it, another place than its own.
 fn pass_opening(s: &[u8]) -> CursorResult
-    ensures { result ≡ cursorResult (strictOpening 0 s.now) }
+    ensures { result ≡ cursor_result (strict_opening 0 s.now) }
 {
     let front = before_format(s, Cursor { at: 0 });
     let CursorResult::Ok(place) = front else {
@@ -37,7 +37,7 @@ fn pass_opening(s: &[u8]) -> CursorResult
 // Judges a chunk by the stricter grammar.
 fn judge(s: &[u8], limits: ResourceLimits) -> CursorResult
     requires { Walkable limits × (limits.max_nesting_depth ≤ DEEPEST) }
-    ensures { result ≡ cursorResult (strictMain limits 0 s.now) }
+    ensures { result ≡ cursor_result (strict_main limits 0 s.now) }
 {
     let opening = pass_opening(s);
     let CursorResult::Ok(first) = opening else {
@@ -60,7 +60,7 @@ fn judge(s: &[u8], limits: ResourceLimits) -> CursorResult
 
 // The summary of a chunk that is read strictly: what the ordinary call shows. Ruled out: the stricter pass left out, a chunk refused that Lua's loader takes within the limits.
 pub fn strict_summary(s: &[u8], limits: ResourceLimits) -> SummaryAnswer
-    ensures { result ≡ shownSummary (spelling limits s.now) (strictRead limits s.now) }
+    ensures { result ≡ shown_summary (spelling limits s.now) (strict_read limits s.now) }
 {
     let within = limits.within_ceilings();
     if !within {

@@ -14,22 +14,22 @@ use Rattle.format.proofs.Exact.{Exact}
 use Rattle.slice.specs.declared.cursor.Cursor.{Cursor}
 use Rattle.slice.specs.declared.cursor.CursorResult.{CursorResult}
 use Rattle.slice.specs.declared.cursor.CursorResult.TheVariants as cursor
-use Rattle.slice.specs.Inner.Results.{cursorResult}
-use Rattle.read_field.proofs.Shows.{onward, cursor-err, cursor-ok}
+use Rattle.slice.specs.Inner.Results.{cursor_result}
+use Rattle.read_field.proofs.Shows.{onward, cursor_err, cursor_ok}
 
-module _ {A B : Type 0} (r : Reader A) (f : A → Reader B) (s : Bytes) (at : ℕ) {x : CursorResult} (e : x ≡ cursorResult (r at (drop at s))) where
-  pub stops : {q : Refusal} → x ≡ cursor.Err q → x ≡ cursorResult ((r >>= f) at (drop at s))
-  stops {q} told = told ∙ sym (ap (λ o. cursorResult (next o f)) (cursor-err (r at (drop at s)) q (sym told ∙ e)))
+module _ {A B : Type 0} (r : Reader A) (f : A → Reader B) (s : Bytes) (at : ℕ) {x : CursorResult} (e : x ≡ cursor_result (r at (drop at s))) where
+  pub stops : {q : Refusal} → x ≡ cursor.Err q → x ≡ cursor_result ((r >>= f) at (drop at s))
+  stops {q} told = told ∙ sym (ap (λ o. cursor_result (next o f)) (cursor_err (r at (drop at s)) q (sym told ∙ e)))
 
-  pub passes : {F : Form A} → Exact r F → {c : Cursor} → x ≡ cursor.Ok c → {y : CursorResult} → ((v : A) → y ≡ cursorResult (f v c.at (drop c.at s))) → y ≡ cursorResult ((r >>= f) at (drop at s))
+  pub passes : {F : Form A} → Exact r F → {c : Cursor} → x ≡ cursor.Ok c → {y : CursorResult} → ((v : A) → y ≡ cursor_result (f v c.at (drop c.at s))) → y ≡ cursor_result ((r >>= f) at (drop at s))
   passes exact {c} told rest =
-      let p = cursor-ok (r at (drop at s)) c (sym told ∙ e) in
-      rest p.value ∙ sym (ap (λ o. cursorResult (next o f)) (onward exact s at p.was))
+      let p = cursor_ok (r at (drop at s)) c (sym told ∙ e) in
+      rest p.value ∙ sym (ap (λ o. cursor_result (next o f)) (onward exact s at p.was))
 
-pub value : {A B : Type 0} (o : Read A) (f : A → B) → cursorResult (next o (λ x. give (f x))) ≡ cursorResult o
+pub value : {A B : Type 0} (o : Read A) (f : A → B) → cursor_result (next o (λ x. give (f x))) ≡ cursor_result o
 value (ok x to rest) f = refl
 value (refused q) f = refl
 
-pub alike : {A B C : Type 0} (o : Read A) (f : A → Reader B) (g : A → Reader C) → ((x : A) (at : ℕ) (s : Bytes) → cursorResult (f x at s) ≡ cursorResult (g x at s)) → cursorResult (next o f) ≡ cursorResult (next o g)
+pub alike : {A B C : Type 0} (o : Read A) (f : A → Reader B) (g : A → Reader C) → ((x : A) (at : ℕ) (s : Bytes) → cursor_result (f x at s) ≡ cursor_result (g x at s)) → cursor_result (next o f) ≡ cursor_result (next o g)
 alike (ok x to rest) f g same = same x to rest
 alike (refused q) f g same = refl

@@ -19,90 +19,90 @@ use Rattle.format.specs.declared.entry.AbsLineInfo.{AbsLineInfo}
 use Rattle.format.specs.Reading.{LocalVar}
 use Rattle.format.specs.Read.{Read, ok, refused, Reader, next, ◌>>◌, ◌>>=◌, give, run}
 use Rattle.format.specs.ReadFields.{field, string}
-use Rattle.format.proofs.ExactFields.{exact-field}
-use Rattle.format_strict.specs.ReadStrict.{int, there, strictTagged, strictConstant, strictAnchor, strictLocal}
+use Rattle.format.proofs.ExactFields.{exact_field}
+use Rattle.format_strict.specs.ReadStrict.{int, there, strict_tagged, strict_constant, strict_anchor, strict_local}
 use Rattle.slice.specs.declared.cursor.Cursor.{Cursor}
 use Rattle.slice.specs.declared.cursor.CursorResult.{CursorResult}
 use Rattle.slice.specs.declared.cursor.CursorResult.TheVariants as cursor
-use Rattle.slice.specs.Shown.{cursorAt}
-use Rattle.slice.specs.Inner.Results.{cursorResult}
+use Rattle.slice.specs.Shown.{cursor_at}
+use Rattle.slice.specs.Inner.Results.{cursor_result}
 use Rattle.read_field.specs.declared.field.U8Result.TheVariants as u8
 use Rattle.read_field.specs.declared.field.U64Result.TheVariants as u64
 use Rattle.read_field.specs.declared.string.OptionString.{OptionString}
 use Rattle.read_field.specs.declared.string.OptionString.TheVariants as option
 use Rattle.read_field.specs.declared.string.StringAt.{StringAt}
 use Rattle.read_field.specs.declared.string.StringResult.TheVariants as str
-use Rattle.read_field.specs.Shown.{u8Result, u64Result, stringResult}
-use Rattle.read_field.proofs.Shows.{onward, u8-err, u8-ok, u64-err, string-err}
+use Rattle.read_field.specs.Shown.{u8_result, u64_result, string_result}
+use Rattle.read_field.proofs.Shows.{onward, u8_err, u8_ok, u64_err, string_err}
 use Rattle.strict_entry.proofs.Chains.{value, alike}
 
 -- ## Ends of what was read
-pub int-end : (o : Read ℕ) (v : ℕ) (c : Cursor) → u64.Ok v c ≡ u64Result o → cursor.Ok c ≡ cursorResult o
-int-end (ok w to rest) v c e = let same : c ≡ cursorAt to = cc in ap cursor.Ok same
+pub int-end : (o : Read ℕ) (v : ℕ) (c : Cursor) → u64.Ok v c ≡ u64_result o → cursor.Ok c ≡ cursor_result o
+int-end (ok w to rest) v c e = let same : c ≡ cursor_at to = cc in ap cursor.Ok same
 int-end (refused q) v c e = absurd (let z : ◌≡◌ {A = ℕ} 0 1 = cc in omega arith)
 
-pub int-stop : (o : Read ℕ) (q : Refusal) → u64.Err q ≡ u64Result o → cursor.Err q ≡ cursorResult o
-int-stop o q e = sym (ap cursorResult (u64-err o q e))
+pub int_stop : (o : Read ℕ) (q : Refusal) → u64.Err q ≡ u64_result o → cursor.Err q ≡ cursor_result o
+int_stop o q e = sym (ap cursor_result (u64_err o q e))
 
-pub string-end : (o : Read (Option LuaString)) (t : OptionString) (c : Cursor) → str.Ok t c ≡ stringResult o → cursor.Ok c ≡ cursorResult o
-string-end (ok w to rest) t c e = let same : c ≡ cursorAt to = cc in ap cursor.Ok same
+pub string-end : (o : Read (Option LuaString)) (t : OptionString) (c : Cursor) → str.Ok t c ≡ string_result o → cursor.Ok c ≡ cursor_result o
+string-end (ok w to rest) t c e = let same : c ≡ cursor_at to = cc in ap cursor.Ok same
 string-end (refused q) t c e = absurd (let z : ◌≡◌ {A = ℕ} 0 1 = cc in omega arith)
 
-pub string-stop : (o : Read (Option LuaString)) (q : Refusal) → str.Err q ≡ stringResult o → cursor.Err q ≡ cursorResult o
-string-stop o q e = sym (ap cursorResult (string-err o q e))
+pub string_stop : (o : Read (Option LuaString)) (q : Refusal) → str.Err q ≡ string_result o → cursor.Err q ≡ cursor_result o
+string_stop o q e = sym (ap cursor_result (string_err o q e))
 
 -- eight bytes that are passed over
-pub eight : {B : Type 0} (f : ℕ → B) (at : ℕ) (s : Bytes) → cursorResult (run 8 at s) ≡ cursorResult (next (field 8 at s) (λ n. give (f n)))
+pub eight : {B : Type 0} (f : ℕ → B) (at : ℕ) (s : Bytes) → cursor_result (run 8 at s) ≡ cursor_result (next (field 8 at s) (λ n. give (f n)))
 eight f at s = sym (value (field 8 at s) f ∙ value (run 8 at s) little)
 
 -- ## A string that must be there
 module _ (at : ℕ) where
-  pub present-stop : (o : Read (Option LuaString)) (q : Refusal) → str.Err q ≡ stringResult o → cursor.Err q ≡ cursorResult (next o (there at))
-  present-stop o q e = sym (ap (λ o. cursorResult (next o (there at))) (string-err o q e))
+  pub present_stop : (o : Read (Option LuaString)) (q : Refusal) → str.Err q ≡ string_result o → cursor.Err q ≡ cursor_result (next o (there at))
+  present_stop o q e = sym (ap (λ o. cursor_result (next o (there at))) (string_err o q e))
 
-  pub present-none : (o : Read (Option LuaString)) (c : Cursor) → str.Ok option.None c ≡ stringResult o → cursor.Err (NullString at) ≡ cursorResult (next o (there at))
+  pub present-none : (o : Read (Option LuaString)) (c : Cursor) → str.Ok option.None c ≡ string_result o → cursor.Err (NullString at) ≡ cursor_result (next o (there at))
   present-none (ok none to rest) c e = refl
   present-none (ok (some t) to rest) c e = absurd (let z : ◌≡◌ {A = ℕ} 0 1 = cc in omega arith)
   present-none (refused q) c e = absurd (let z : ◌≡◌ {A = ℕ} 0 1 = cc in omega arith)
 
-  pub present-some : (o : Read (Option LuaString)) (t : StringAt) (c : Cursor) → str.Ok (option.Some t) c ≡ stringResult o → cursor.Ok c ≡ cursorResult (next o (there at))
-  present-some (ok none to rest) t c e = absurd (let z : ◌≡◌ {A = ℕ} 0 1 = cc in omega arith)
-  present-some (ok (some u) to rest) t c e = let same : c ≡ cursorAt to = cc in ap cursor.Ok same
-  present-some (refused q) t c e = absurd (let z : ◌≡◌ {A = ℕ} 0 1 = cc in omega arith)
+  pub present_some : (o : Read (Option LuaString)) (t : StringAt) (c : Cursor) → str.Ok (option.Some t) c ≡ string_result o → cursor.Ok c ≡ cursor_result (next o (there at))
+  present_some (ok none to rest) t c e = absurd (let z : ◌≡◌ {A = ℕ} 0 1 = cc in omega arith)
+  present_some (ok (some u) to rest) t c e = let same : c ≡ cursor_at to = cc in ap cursor.Ok same
+  present_some (refused q) t c e = absurd (let z : ◌≡◌ {A = ℕ} 0 1 = cc in omega arith)
 
 -- ## A constant's tag
 module _ (s : Bytes) (limit at : ℕ) where
-  pub tag-refused : (q : Refusal) → u8.Err q ≡ u8Result (field 1 at (drop at s)) → cursor.Err q ≡ cursorResult (strictConstant limit at (drop at s))
-  tag-refused q e = rw (u8-err (field 1 at (drop at s)) q e)
+  pub tag_refused : (q : Refusal) → u8.Err q ≡ u8_result (field 1 at (drop at s)) → cursor.Err q ≡ cursor_result (strict_constant limit at (drop at s))
+  tag_refused q e = rw (u8_err (field 1 at (drop at s)) q e)
 
-  pub tag_read : (v : ℕ) (c : Cursor) → u8.Ok v c ≡ u8Result (field 1 at (drop at s)) → {r : CursorResult} → r ≡ cursorResult (strictTagged limit at v c.at (drop c.at s))
-      → r ≡ cursorResult (strictConstant limit at (drop at s))
-  tag_read v c e f = rw (onward (exact-field 1) s at (u8-ok (field 1 at (drop at s)) v c e)) f
+  pub tag_read : (v : ℕ) (c : Cursor) → u8.Ok v c ≡ u8_result (field 1 at (drop at s)) → {r : CursorResult} → r ≡ cursor_result (strict_tagged limit at v c.at (drop c.at s))
+      → r ≡ cursor_result (strict_constant limit at (drop at s))
+  tag_read v c e f = rw (onward (exact_field 1) s at (u8_ok (field 1 at (drop at s)) v c e)) f
 
 -- ## Anchors and local variables, by their parts
-abbrev pub anchorOf : ℕ → ℕ → AbsLineInfo
-anchorOf pc line = record { pc = pc; line = line }
+abbrev pub anchor_of : ℕ → ℕ → AbsLineInfo
+anchor_of pc line = record { pc = pc; line = line }
 
-abbrev localOf : LuaString → ℕ → ℕ → LocalVar
-localOf name startpc endpc = record { name = name; startpc = startpc; endpc = endpc }
+abbrev local_of : LuaString → ℕ → ℕ → LocalVar
+local_of name startpc endpc = record { name = name; startpc = startpc; endpc = endpc }
 
 -- an anchor behind its first int
-pub two : (pc at : ℕ) (s : Bytes) → cursorResult ((int >>= λ line. give (anchorOf pc line)) at s) ≡ cursorResult (int at s)
-two pc at s = value (int at s) (anchorOf pc)
+pub two : (pc at : ℕ) (s : Bytes) → cursor_result ((int >>= λ line. give (anchor_of pc line)) at s) ≡ cursor_result (int at s)
+two pc at s = value (int at s) (anchor_of pc)
 
 -- a local variable ends as a string and two ints
-pub named : (limit at : ℕ) (s : Bytes) → cursorResult (strictLocal limit at s) ≡ cursorResult ((string limit >> strictAnchor) at s)
+pub named : (limit at : ℕ) (s : Bytes) → cursor_result (strict_local limit at s) ≡ cursor_result ((string limit >> strict_anchor) at s)
 named limit at s = by (string limit at s)
   where
     behind : LuaString → Reader LocalVar
-    behind name = int >>= λ startpc. int >>= λ endpc. give (localOf name startpc endpc)
+    behind name = int >>= λ startpc. int >>= λ endpc. give (local_of name startpc endpc)
 
-    ints : (name : LuaString) (at : ℕ) (s : Bytes) → cursorResult (behind name at s) ≡ cursorResult (strictAnchor at s)
-    ints name at s = alike (int at s) (λ startpc. int >>= λ endpc. give (localOf name startpc endpc)) (λ pc. int >>= λ line. give (anchorOf pc line)) λ x at s. value (int at s) (localOf name x) ∙ sym (value (int at s) (anchorOf x))
+    ints : (name : LuaString) (at : ℕ) (s : Bytes) → cursor_result (behind name at s) ≡ cursor_result (strict_anchor at s)
+    ints name at s = alike (int at s) (λ startpc. int >>= λ endpc. give (local_of name startpc endpc)) (λ pc. int >>= λ line. give (anchor_of pc line)) λ x at s. value (int at s) (local_of name x) ∙ sym (value (int at s) (anchor_of x))
 
     spelt : Option LuaString → Reader LuaString
     spelt t at s = ok (get_or t (record { place = at; bytes = 63 ∷ [] })) at s
 
-    by : (o : Read (Option LuaString)) → cursorResult (next (next o spelt) behind) ≡ cursorResult (next o (λ _. strictAnchor))
+    by : (o : Read (Option LuaString)) → cursor_result (next (next o spelt) behind) ≡ cursor_result (next o (λ _. strict_anchor))
     by (ok t to rest) = ints (get_or t (record { place = to; bytes = 63 ∷ [] })) to rest
     by (refused q) = refl

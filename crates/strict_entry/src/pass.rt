@@ -3,7 +3,7 @@ ghost use Rattle.std.specs.Prelude.{◌≡◌, drop};
 ghost use Rattle.format.specs.Read.{many};
 ghost use Rattle.format.specs.ReadFields.{string};
 ghost use Rattle.format_strict.specs.ReadStrict as strict;
-ghost use Rattle.slice.specs.Inner.Results.{cursorResult};
+ghost use Rattle.slice.specs.Inner.Results.{cursor_result};
 
 use crate::int::pass_int;
 use format::refusal::Refusal;
@@ -13,7 +13,7 @@ use slice::cursor::{Cursor, CursorResult, read_exact};
 
 // A string that may be absent.
 pub fn pass_string(s: &[u8], cursor: Cursor, max_string_bytes: usize) -> CursorResult
-    ensures { result ≡ cursorResult (string max_string_bytes cursor.at (drop cursor.at s.now)) }
+    ensures { result ≡ cursor_result (string max_string_bytes cursor.at (drop cursor.at s.now)) }
 {
     let read = read_string_lua54(s, cursor, max_string_bytes);
     match read {
@@ -24,7 +24,7 @@ pub fn pass_string(s: &[u8], cursor: Cursor, max_string_bytes: usize) -> CursorR
 
 // A string that must be there. Ruled out: an absent one passed over, its refusal at the place behind the size.
 fn pass_present(s: &[u8], cursor: Cursor, max_string_bytes: usize) -> CursorResult
-    ensures { result ≡ cursorResult (strict.present max_string_bytes cursor.at (drop cursor.at s.now)) }
+    ensures { result ≡ cursor_result (strict.present max_string_bytes cursor.at (drop cursor.at s.now)) }
 {
     let read = read_string_lua54(s, cursor, max_string_bytes);
     match read {
@@ -44,7 +44,7 @@ fn pass_tagged(
     place: usize,
     tag: u8,
 ) -> CursorResult
-    ensures { result ≡ cursorResult (strict.strictTagged max_string_bytes place tag cursor.at (drop cursor.at s.now)) }
+    ensures { result ≡ cursor_result (strict.strict_tagged max_string_bytes place tag cursor.at (drop cursor.at s.now)) }
 {
     match tag {
         0 => CursorResult::Ok(cursor),
@@ -58,7 +58,7 @@ fn pass_tagged(
 
 // A constant: its tag, and what follows by the tag. Ruled out: a tag that is refused at the place behind it.
 fn pass_constant(s: &[u8], cursor: Cursor, max_string_bytes: usize) -> CursorResult
-    ensures { result ≡ cursorResult (strict.strictConstant max_string_bytes cursor.at (drop cursor.at s.now)) }
+    ensures { result ≡ cursor_result (strict.strict_constant max_string_bytes cursor.at (drop cursor.at s.now)) }
 {
     let read = read_u8(s, cursor);
     match read {
@@ -69,7 +69,7 @@ fn pass_constant(s: &[u8], cursor: Cursor, max_string_bytes: usize) -> CursorRes
 
 // Two ints, as of an anchor and of a local variable behind its name.
 fn pass_two(s: &[u8], cursor: Cursor) -> CursorResult
-    ensures { result ≡ cursorResult (strict.strictAnchor cursor.at (drop cursor.at s.now)) }
+    ensures { result ≡ cursor_result (strict.strict_anchor cursor.at (drop cursor.at s.now)) }
 {
     let first = pass_int(s, cursor);
     let CursorResult::Ok(next) = first else {
@@ -80,7 +80,7 @@ fn pass_two(s: &[u8], cursor: Cursor) -> CursorResult
 
 // A local variable: its name, which may be absent, and the two ints between which it is live. Ruled out: an absent name refused.
 fn pass_local(s: &[u8], cursor: Cursor, max_string_bytes: usize) -> CursorResult
-    ensures { result ≡ cursorResult (strict.strictLocal max_string_bytes cursor.at (drop cursor.at s.now)) }
+    ensures { result ≡ cursor_result (strict.strict_local max_string_bytes cursor.at (drop cursor.at s.now)) }
 {
     let name = pass_string(s, cursor, max_string_bytes);
     let CursorResult::Ok(next) = name else {
@@ -91,7 +91,7 @@ fn pass_local(s: &[u8], cursor: Cursor, max_string_bytes: usize) -> CursorResult
 
 // Passes over n constants. Ruled out: the last one left out, the first refusal not the one that is given.
 pub fn pass_constants(s: &[u8], cursor: Cursor, n: usize, max_string_bytes: usize) -> CursorResult
-    ensures { result ≡ cursorResult (many n (strict.strictConstant max_string_bytes) cursor.at (drop cursor.at s.now)) }
+    ensures { result ≡ cursor_result (many n (strict.strict_constant max_string_bytes) cursor.at (drop cursor.at s.now)) }
 {
     let mut next = cursor;
     let mut left = n;
@@ -110,7 +110,7 @@ pub fn pass_constants(s: &[u8], cursor: Cursor, n: usize, max_string_bytes: usiz
 
 // Passes over n anchors. Ruled out: one int an anchor.
 pub fn pass_anchors(s: &[u8], cursor: Cursor, n: usize) -> CursorResult
-    ensures { result ≡ cursorResult (many n strict.strictAnchor cursor.at (drop cursor.at s.now)) }
+    ensures { result ≡ cursor_result (many n strict.strict_anchor cursor.at (drop cursor.at s.now)) }
 {
     let mut next = cursor;
     let mut left = n;
@@ -129,7 +129,7 @@ pub fn pass_anchors(s: &[u8], cursor: Cursor, n: usize) -> CursorResult
 
 // Passes over n local variables. Ruled out: the name passed over without its bytes.
 pub fn pass_locals(s: &[u8], cursor: Cursor, n: usize, max_string_bytes: usize) -> CursorResult
-    ensures { result ≡ cursorResult (many n (strict.strictLocal max_string_bytes) cursor.at (drop cursor.at s.now)) }
+    ensures { result ≡ cursor_result (many n (strict.strict_local max_string_bytes) cursor.at (drop cursor.at s.now)) }
 {
     let mut next = cursor;
     let mut left = n;
@@ -148,7 +148,7 @@ pub fn pass_locals(s: &[u8], cursor: Cursor, n: usize, max_string_bytes: usize) 
 
 // Passes over n strings. Ruled out: an absent string refused.
 pub fn pass_strings(s: &[u8], cursor: Cursor, n: usize, max_string_bytes: usize) -> CursorResult
-    ensures { result ≡ cursorResult (many n (string max_string_bytes) cursor.at (drop cursor.at s.now)) }
+    ensures { result ≡ cursor_result (many n (string max_string_bytes) cursor.at (drop cursor.at s.now)) }
 {
     let mut next = cursor;
     let mut left = n;

@@ -11,73 +11,73 @@ use Rattle.format.specs.Reading.{Prototype}
 use Rattle.format.specs.GrammarChunk.{Where}
 use Rattle.format.specs.Read.{Read, ok, Reader}
 use Rattle.format.specs.ReadChunk.{forest}
-use Rattle.format.proofs.ExactChunk.{exact-forest}
-use Rattle.format_strict.specs.ReadStrict.{strictFunction}
-use Rattle.format_strict.proofs.ExactStrict.{exact-strictFunction}
+use Rattle.format.proofs.ExactChunk.{exact_forest}
+use Rattle.format_strict.specs.ReadStrict.{strict_function}
+use Rattle.format_strict.proofs.ExactStrict.{exact_strict_function}
 use Rattle.slice.specs.declared.cursor.Cursor.{Cursor}
 use Rattle.slice.specs.declared.cursor.CursorResult.TheVariants as cursor
-use Rattle.slice.specs.Inner.Results.{cursorResult}
-use Rattle.read_field.proofs.Shows.{cursor-err, cursor-ok}
+use Rattle.slice.specs.Inner.Results.{cursor_result}
+use Rattle.read_field.proofs.Shows.{cursor_err, cursor_ok}
 use Rattle.read_prototype.specs.Parts as parts
 use Rattle.read_prototype.specs.Inner.Whole.{inside}
 use Rattle.read_walk.specs.declared.walk.Skimmed.{Skimmed}
 use Rattle.read_walk.specs.declared.walk.SkimResult.TheVariants as skim
-use Rattle.read_walk.specs.Inner.Skim.{enteredBy, skimResult}
-use Rattle.read_walk.proofs.Entering.{exact-enteredBy}
-use Rattle.read_walk.proofs.OneFunction.{skim-err, Skims, skim-read, head-stops, nested-stops, tail-stops, shown_by}
+use Rattle.read_walk.specs.Inner.Skim.{entered_by, skim_result}
+use Rattle.read_walk.proofs.Entering.{exact_entered_by}
+use Rattle.read_walk.proofs.OneFunction.{skim_err, Skims, skim_read, head_stops, nested_stops, tail_stops, shown_by_lem}
 use Rattle.strict_walk.specs.declared.parts.HeadPassed.TheVariants as head
-use Rattle.strict_walk.specs.Inner.StrictParts.{strictHead, strictTail}
-use Rattle.strict_walk.specs.Inner.Results.{headPassed}
+use Rattle.strict_walk.specs.Inner.StrictParts.{strict_head, strict_tail}
+use Rattle.strict_walk.specs.Inner.Results.{head_passed}
 use Rattle.strict_walk.proofs.HeadAnswers.{head-not, HeadRead, head_ok}
 use Rattle.strict_walk.proofs.Flat as flat
 
 module _ (s : Bytes) (L : ResourceLimits) (left : ℕ) (w : Where) (at : ℕ) {before : ℕ} (so_far : before ≡ w.instructions) where
   abbrev nesting : Where → Reader (List Prototype)
-  nesting = enteredBy (strictFunction L) L left
+  nesting = entered_by (strict_function L) L left
 
   abbrev pub whole : Read (List Prototype)
-  whole = strictFunction L left w at (drop at s)
+  whole = strict_function L left w at (drop at s)
 
   abbrev pub begins : Read parts.Head
-  begins = strictHead L before at (drop at s)
+  begins = strict_head L before at (drop at s)
 
-  as-begins : strictHead L w.instructions at (drop at s) ≡ begins
-  as-begins = ap (λ n. strictHead L n at (drop at s)) (sym so_far)
+  as_begins : strict_head L w.instructions at (drop at s) ≡ begins
+  as_begins = ap (λ n. strict_head L n at (drop at s)) (sym so_far)
 
-  pub head-refused : (q : Refusal) → head.Err q ≡ headPassed begins → skim.Err q ≡ skimResult w whole
-  head-refused q e = sym (ap (skimResult w) (head-stops s nesting (strictHead L w.instructions) (strictTail L.max_string_bytes) w at (flat.by_parts L left w at (drop at s)) (as-begins ∙ head-not s L before at begins q e)))
+  pub head-refused : (q : Refusal) → head.Err q ≡ head_passed begins → skim.Err q ≡ skim_result w whole
+  head-refused q e = sym (ap (skim_result w) (head_stops s nesting (strict_head L w.instructions) (strict_tail L.max_string_bytes) w at (flat.by_parts L left w at (drop at s)) (as_begins ∙ head-not s L before at begins q e)))
 
-  module _ (n p : ℕ) (c₁ : Cursor) (e₁ : head.Ok n p c₁ ≡ headPassed begins) where
+  module _ (n p : ℕ) (c₁ : Cursor) (e₁ : head.Ok n p c₁ ≡ head_passed begins) where
     pub headed : HeadRead s L before at n p c₁
     headed = head_ok s L before at n p c₁ e₁
 
-    head-on : strictHead L w.instructions at (drop at s) ≡ ok headed.value c₁.at (drop c₁.at s)
-    head-on = as-begins ∙ headed.is
+    head-on : strict_head L w.instructions at (drop at s) ≡ ok headed.value c₁.at (drop c₁.at s)
+    head-on = as_begins ∙ headed.is
 
     -- where the first function stands that nests in it
     abbrev pub first : Where
     first = inside w headed.value
 
-    pub first-instructions : before + n ≡ first.instructions
-    first-instructions = λ i. so_far i + headed.instructions i
+    pub first_instructions : before + n ≡ first.instructions
+    first_instructions = λ i. so_far i + headed.instructions i
 
     abbrev pub inner : Read (List Prototype)
     inner = forest p nesting first c₁.at (drop c₁.at s)
 
-    pub nested-refused : (q : Refusal) → skim.Err q ≡ skimResult first inner → skim.Err q ≡ skimResult w whole
-    nested-refused q e =
-        sym (ap (skimResult w) (nested-stops s nesting (strictHead L w.instructions) (strictTail L.max_string_bytes) w at (flat.by_parts L left w at (drop at s)) head-on p headed.protos (skim-err first inner q e)))
+    pub nested_refused : (q : Refusal) → skim.Err q ≡ skim_result first inner → skim.Err q ≡ skim_result w whole
+    nested_refused q e =
+        sym (ap (skim_result w) (nested_stops s nesting (strict_head L w.instructions) (strict_tail L.max_string_bytes) w at (flat.by_parts L left w at (drop at s)) head-on p headed.protos (skim_err first inner q e)))
 
-    module _ (k : Skimmed) (e₂ : skim.Ok k ≡ skimResult first inner) where
+    module _ (k : Skimmed) (e₂ : skim.Ok k ≡ skim_result first inner) where
       nested : Skims (forest p nesting) s first c₁.at k
-      nested = skim-read (λ v. exact-forest p v (exact-enteredBy (exact-strictFunction L) L left)) s first c₁.at k e₂
+      nested = skim_read (λ v. exact_forest p v (exact_entered_by (exact_strict_function L) L left)) s first c₁.at k e₂
 
       abbrev pub ends : Read parts.Tail
-      ends = strictTail L.max_string_bytes k.next.at (drop k.next.at s)
+      ends = strict_tail L.max_string_bytes k.next.at (drop k.next.at s)
 
-      pub tail-refused : (q : Refusal) → cursor.Err q ≡ cursorResult ends → skim.Err q ≡ skimResult w whole
+      pub tail-refused : (q : Refusal) → cursor.Err q ≡ cursor_result ends → skim.Err q ≡ skim_result w whole
       tail-refused q e =
-          sym (ap (skimResult w) (tail-stops s nesting (strictHead L w.instructions) (strictTail L.max_string_bytes) w at (flat.by_parts L left w at (drop at s)) head-on p headed.protos k nested (cursor-err ends q e)))
+          sym (ap (skim_result w) (tail_stops s nesting (strict_head L w.instructions) (strict_tail L.max_string_bytes) w at (flat.by_parts L left w at (drop at s)) head-on p headed.protos k nested (cursor_err ends q e)))
 
-      pub function-shown : (c₃ : Cursor) → cursor.Ok c₃ ≡ cursorResult ends → skim.Ok (record { next = c₃; number = k.number; instructions = k.instructions }) ≡ skimResult w whole
-      function-shown c₃ e = shown_by s nesting (strictHead L w.instructions) (strictTail L.max_string_bytes) w at (flat.by_parts L left w at (drop at s)) head-on p headed.protos k nested (cursor-ok ends c₃ e).was.is
+      pub function-shown : (c₃ : Cursor) → cursor.Ok c₃ ≡ cursor_result ends → skim.Ok (record { next = c₃; number = k.number; instructions = k.instructions }) ≡ skim_result w whole
+      function-shown c₃ e = shown_by_lem s nesting (strict_head L w.instructions) (strict_tail L.max_string_bytes) w at (flat.by_parts L left w at (drop at s)) head-on p headed.protos k nested (cursor_ok ends c₃ e).was.is

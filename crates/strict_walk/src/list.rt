@@ -4,10 +4,10 @@ ghost use Rattle.format.specs.declared.refusal.Refusal.TheVariants.{Constants, U
 ghost use Rattle.format.specs.ReadFields.{string};
 ghost use Rattle.format.specs.ReadChunk.{upvalue};
 ghost use Rattle.format_strict.specs.ReadStrict as strict;
-ghost use Rattle.slice.specs.Inner.Results.{cursorResult};
-ghost use Rattle.read_field.specs.Shown.{u64Result};
-ghost use Rattle.strict_walk.specs.Inner.StrictParts.{intUpTo, strictCodeCount, strictCode, strictLineInfo};
-ghost use Rattle.strict_walk.specs.Inner.Results.{lengthResult};
+ghost use Rattle.slice.specs.Inner.Results.{cursor_result};
+ghost use Rattle.read_field.specs.Shown.{u64_result};
+ghost use Rattle.strict_walk.specs.Inner.StrictParts.{int_up_to, strict_code_count, strict_code, strict_line_info};
+ghost use Rattle.strict_walk.specs.Inner.Results.{length_result};
 
 use format::refusal::Refusal;
 use read_entry::runs::{skip_upvalues, skip_words};
@@ -18,7 +18,7 @@ use strict_entry::pass::{pass_anchors, pass_constants, pass_locals, pass_strings
 
 // An int that is at most the limit, or the refusal. Ruled out: the limit tested before the int, a count of the limit refused.
 pub fn int_up_to(s: &[u8], cursor: Cursor, limit: usize, refusal: Refusal) -> U64Result
-    ensures { result ≡ u64Result (intUpTo limit refusal cursor.at (drop cursor.at s.now)) }
+    ensures { result ≡ u64_result (int_up_to limit refusal cursor.at (drop cursor.at s.now)) }
 {
     let read = read_int(s, cursor);
     let U64Result::Ok { value, next: _ } = read else {
@@ -38,7 +38,7 @@ fn instruction_count(
     instructions_before: usize,
     max_total_instructions: usize,
 ) -> U64Result
-    ensures { result ≡ u64Result (strictCodeCount max_instructions_per_proto instructions_before max_total_instructions cursor.at (drop cursor.at s.now)) }
+    ensures { result ≡ u64_result (strict_code_count max_instructions_per_proto instructions_before max_total_instructions cursor.at (drop cursor.at s.now)) }
 {
     let first = cursor.at;
     let refusal = Refusal::Instructions(first);
@@ -63,7 +63,7 @@ pub fn pass_code(
     instructions_before: usize,
     max_total_instructions: usize,
 ) -> U64Result
-    ensures { result ≡ lengthResult (strictCode max_instructions_per_proto instructions_before max_total_instructions cursor.at (drop cursor.at s.now)) }
+    ensures { result ≡ length_result (strict_code max_instructions_per_proto instructions_before max_total_instructions cursor.at (drop cursor.at s.now)) }
 {
     let read = instruction_count(
         s,
@@ -94,7 +94,7 @@ pub fn pass_constants_list(
     max_constants: usize,
     max_string_bytes: usize,
 ) -> CursorResult
-    ensures { result ≡ cursorResult (strict.strictCountedUpTo max_constants Constants (strict.strictConstant max_string_bytes) cursor.at (drop cursor.at s.now)) }
+    ensures { result ≡ cursor_result (strict.strict_counted_up_to max_constants Constants (strict.strict_constant max_string_bytes) cursor.at (drop cursor.at s.now)) }
 {
     let read = int_up_to(s, cursor, max_constants, Refusal::Constants(cursor.at));
     match read {
@@ -105,7 +105,7 @@ pub fn pass_constants_list(
 
 // The upvalues of a function.
 pub fn pass_upvalues_list(s: &[u8], cursor: Cursor, max_upvalues: usize) -> CursorResult
-    ensures { result ≡ cursorResult (strict.strictCountedUpTo max_upvalues Upvalues upvalue cursor.at (drop cursor.at s.now)) }
+    ensures { result ≡ cursor_result (strict.strict_counted_up_to max_upvalues Upvalues upvalue cursor.at (drop cursor.at s.now)) }
 {
     let read = int_up_to(s, cursor, max_upvalues, Refusal::Upvalues(cursor.at));
     match read {
@@ -116,7 +116,7 @@ pub fn pass_upvalues_list(s: &[u8], cursor: Cursor, max_upvalues: usize) -> Curs
 
 // The line deltas of a function.
 pub fn pass_line_info_list(s: &[u8], cursor: Cursor) -> CursorResult
-    ensures { result ≡ cursorResult (strictLineInfo cursor.at (drop cursor.at s.now)) }
+    ensures { result ≡ cursor_result (strict_line_info cursor.at (drop cursor.at s.now)) }
 {
     let read = read_int(s, cursor);
     match read {
@@ -127,7 +127,7 @@ pub fn pass_line_info_list(s: &[u8], cursor: Cursor) -> CursorResult
 
 // The anchors of a function.
 pub fn pass_anchors_list(s: &[u8], cursor: Cursor) -> CursorResult
-    ensures { result ≡ cursorResult (strict.strictCounted strict.strictAnchor cursor.at (drop cursor.at s.now)) }
+    ensures { result ≡ cursor_result (strict.strict_counted strict.strict_anchor cursor.at (drop cursor.at s.now)) }
 {
     let read = read_int(s, cursor);
     match read {
@@ -138,7 +138,7 @@ pub fn pass_anchors_list(s: &[u8], cursor: Cursor) -> CursorResult
 
 // The local variables of a function.
 pub fn pass_locals_list(s: &[u8], cursor: Cursor, max_string_bytes: usize) -> CursorResult
-    ensures { result ≡ cursorResult (strict.strictCounted (strict.strictLocal max_string_bytes) cursor.at (drop cursor.at s.now)) }
+    ensures { result ≡ cursor_result (strict.strict_counted (strict.strict_local max_string_bytes) cursor.at (drop cursor.at s.now)) }
 {
     let read = read_int(s, cursor);
     match read {
@@ -149,7 +149,7 @@ pub fn pass_locals_list(s: &[u8], cursor: Cursor, max_string_bytes: usize) -> Cu
 
 // The upvalue names of a function. Ruled out: more names than upvalues refused.
 pub fn pass_names_list(s: &[u8], cursor: Cursor, max_string_bytes: usize) -> CursorResult
-    ensures { result ≡ cursorResult (strict.strictCounted (string max_string_bytes) cursor.at (drop cursor.at s.now)) }
+    ensures { result ≡ cursor_result (strict.strict_counted (string max_string_bytes) cursor.at (drop cursor.at s.now)) }
 {
     let read = read_int(s, cursor);
     match read {

@@ -1,8 +1,8 @@
 // A function before and behind the functions that nest in it, passed over.
 ghost use Rattle.std.specs.Prelude.{◌≡◌, drop};
-ghost use Rattle.slice.specs.Inner.Results.{cursorResult};
-ghost use Rattle.strict_walk.specs.Inner.StrictParts.{strictFront, strictLists, strictHead, strictTail};
-ghost use Rattle.strict_walk.specs.Inner.Results.{headPassed};
+ghost use Rattle.slice.specs.Inner.Results.{cursor_result};
+ghost use Rattle.strict_walk.specs.Inner.StrictParts.{strict_front, strict_lists, strict_head, strict_tail};
+ghost use Rattle.strict_walk.specs.Inner.Results.{head_passed};
 
 use crate::list::{
     int_up_to, pass_anchors_list, pass_code, pass_constants_list, pass_line_info_list,
@@ -29,7 +29,7 @@ pub enum HeadPassed {
 
 // A function from its source to its three bytes, which are passed over as an upvalue's three are. Ruled out: one line left out, a source that is absent refused.
 fn pass_front(s: &[u8], cursor: Cursor, max_string_bytes: usize) -> CursorResult
-    ensures { result ≡ cursorResult (strictFront max_string_bytes cursor.at (drop cursor.at s.now)) }
+    ensures { result ≡ cursor_result (strict_front max_string_bytes cursor.at (drop cursor.at s.now)) }
 {
     let source = pass_string(s, cursor, max_string_bytes);
     let CursorResult::Ok(behind) = source else {
@@ -48,7 +48,7 @@ fn pass_front(s: &[u8], cursor: Cursor, max_string_bytes: usize) -> CursorResult
 
 // The constants and the upvalues of a function. Ruled out: the limit of constants held to upvalues.
 fn pass_lists(s: &[u8], limits: ResourceLimits, cursor: Cursor) -> CursorResult
-    ensures { result ≡ cursorResult (strictLists limits cursor.at (drop cursor.at s.now)) }
+    ensures { result ≡ cursor_result (strict_lists limits cursor.at (drop cursor.at s.now)) }
 {
     let constants = pass_constants_list(
         s,
@@ -64,7 +64,7 @@ fn pass_lists(s: &[u8], limits: ResourceLimits, cursor: Cursor) -> CursorResult
 
 // A function up to those that nest in it. Ruled out: the count of constants given as that of instructions, the place of the constants as that of the nested functions' count.
 pub fn pass_head(s: &[u8], limits: ResourceLimits, before: usize, cursor: Cursor) -> HeadPassed
-    ensures { result ≡ headPassed (strictHead limits before cursor.at (drop cursor.at s.now)) }
+    ensures { result ≡ head_passed (strict_head limits before cursor.at (drop cursor.at s.now)) }
 {
     let front = pass_front(s, cursor, limits.max_string_bytes);
     let behind = match front {
@@ -100,7 +100,7 @@ pub fn pass_head(s: &[u8], limits: ResourceLimits, before: usize, cursor: Cursor
 
 // A function behind those that nest in it. Ruled out: a list left out.
 pub fn pass_tail(s: &[u8], max_string_bytes: usize, cursor: Cursor) -> CursorResult
-    ensures { result ≡ cursorResult (strictTail max_string_bytes cursor.at (drop cursor.at s.now)) }
+    ensures { result ≡ cursor_result (strict_tail max_string_bytes cursor.at (drop cursor.at s.now)) }
 {
     let deltas = pass_line_info_list(s, cursor);
     let CursorResult::Ok(behind) = deltas else {

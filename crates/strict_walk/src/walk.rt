@@ -3,8 +3,8 @@ ghost use Rattle.std.specs.Prelude.{◌≡◌, ◌≤◌, drop};
 ghost use Rattle.format.specs.Limits.{DEEPEST, MOST, Walkable};
 ghost use Rattle.format.specs.GrammarChunk as grammar;
 ghost use Rattle.format.specs.ReadChunk.{forest};
-ghost use Rattle.format_strict.specs.ReadStrict.{strictFunction};
-ghost use Rattle.read_walk.specs.Inner.Skim.{enteredBy, skimResult};
+ghost use Rattle.format_strict.specs.ReadStrict.{strict_function};
+ghost use Rattle.read_walk.specs.Inner.Skim.{entered_by, skim_result};
 
 use crate::parts::{HeadPassed, pass_head, pass_tail};
 use format::limits::ResourceLimits;
@@ -16,7 +16,7 @@ use slice::cursor::CursorResult;
 #[cycle(pass_function_pass_functions)]
 fn pass_function(s: &[u8], limits: ResourceLimits, left: usize, from: Skimmed) -> SkimResult
     requires { Walkable limits × (from.number ≤ MOST) }
-    ensures { (w : grammar.Where) → from.number ≡ w.number → from.instructions ≡ w.instructions → result ≡ skimResult w (strictFunction limits left w from.next.at (drop from.next.at s.now)) }
+    ensures { (w : grammar.Where) → from.number ≡ w.number → from.instructions ≡ w.instructions → result ≡ skim_result w (strict_function limits left w from.next.at (drop from.next.at s.now)) }
 {
     let begins = pass_head(s, limits, from.instructions, from.next);
     match begins {
@@ -63,7 +63,7 @@ fn pass_functions(
     from: Skimmed,
 ) -> SkimResult
     requires { Walkable limits }
-    ensures { (w : grammar.Where) → from.number ≡ w.number → from.instructions ≡ w.instructions → result ≡ skimResult w (forest n (enteredBy (strictFunction limits) limits left) w from.next.at (drop from.next.at s.now)) }
+    ensures { (w : grammar.Where) → from.number ≡ w.number → from.instructions ≡ w.instructions → result ≡ skim_result w (forest n (entered_by (strict_function limits) limits left) w from.next.at (drop from.next.at s.now)) }
 {
     let mut passed = from;
     let mut more = n;
@@ -90,7 +90,7 @@ fn pass_functions(
 // Passes over main and all that nest in it, at most `left` deep: as one function of a list, so that the compiler puts pass_function, which then has one caller, into the loop.
 pub fn pass_main(s: &[u8], limits: ResourceLimits, left: usize, from: Skimmed) -> SkimResult
     requires { Walkable limits × (left ≤ DEEPEST) }
-    ensures { (w : grammar.Where) → w.number ≡ 0 → from.number ≡ w.number → from.instructions ≡ w.instructions → result ≡ skimResult w (strictFunction limits left w from.next.at (drop from.next.at s.now)) }
+    ensures { (w : grammar.Where) → w.number ≡ 0 → from.number ≡ w.number → from.instructions ≡ w.instructions → result ≡ skim_result w (strict_function limits left w from.next.at (drop from.next.at s.now)) }
 {
     pass_functions(s, limits, 1, left + 1, from)
 }

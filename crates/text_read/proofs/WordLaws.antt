@@ -9,19 +9,19 @@ use borrow.Author.Tests.{eq-eqb, ne_eqb}
 use lib.Dec.{eqb}
 use lib.ListN.{length, get_or, drop, drop_of_length-le}
 use lib.Seq.{drop-cons}
-use Rattle.text_read.specs.Inner.Tokens.{starts, wordLength}
+use Rattle.text_read.specs.Inner.Tokens.{starts, word_length}
 
 module _ (s : List ℕ) (i : ℕ) where
-  pub word_end : length s ≤ i → wordLength (drop i s) ≡ 0
-  unfolding wordLength
+  pub word_end : length s ≤ i → word_length (drop i s) ≡ 0
+  unfolding word_length
   word_end h = rw (drop_of_length-le s h)
 
-  pub word-space : i < length s → get_or s i 0 ≡ 32 → wordLength (drop i s) ≡ 0
-  unfolding wordLength
-  word-space h e = rw (drop-cons s i 0, eq-eqb _ _ e)
+  pub word_space : i < length s → get_or s i 0 ≡ 32 → word_length (drop i s) ≡ 0
+  unfolding word_length
+  word_space h e = rw (drop-cons s i 0, eq-eqb _ _ e)
 
-  pub word_more : i < length s → (get_or s i 0 ≡ 32 → ⊥) → wordLength (drop i s) ≡ suc (wordLength (drop (i + 1) s))
-  unfolding wordLength
+  pub word_more : i < length s → (get_or s i 0 ≡ 32 → ⊥) → word_length (drop i s) ≡ suc (word_length (drop (i + 1) s))
+  unfolding word_length
   word_more h e = rw (add-one i, drop-cons s i 0, ne_eqb _ _ e)
 
 module _ (s t : List ℕ) (i : ℕ) where
@@ -37,12 +37,12 @@ module _ (s t : List ℕ) (i : ℕ) where
   unfolding starts
   starts_more h l e = rw (add-one i, drop-cons s i 0, drop-cons t i 0, eq-eqb _ _ e)
 
-pub starts-longer : (s t : List ℕ) → length s < length t → starts s t ≡ false
+pub starts_longer : (s t : List ℕ) → length s < length t → starts s t ≡ false
 unfolding starts
-starts-longer s [] h = absurd (omega arith)
-starts-longer [] (b ∷ t) h = refl
-starts-longer (a ∷ s) (b ∷ t) h = rw (starts-longer s t (omega arith)) (and-false (eqb a b))
+starts_longer s [] h = absurd (omega arith)
+starts_longer [] (b ∷ t) h = refl
+starts_longer (a ∷ s) (b ∷ t) h = rw (starts_longer s t (omega arith)) (and_false (eqb a b))
   where
-    and-false : (x : Bool) → x && false ≡ false
-    and-false true = refl
-    and-false false = refl
+    and_false : (x : Bool) → x && false ≡ false
+    and_false true = refl
+    and_false false = refl

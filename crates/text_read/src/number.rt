@@ -1,6 +1,6 @@
 // Numbers as a request spells them.
 ghost use Rattle.std.specs.Prelude.{◌≡◌, ◌≤◌, ◌<◌};
-ghost use Rattle.text_read.specs.Inner.Numbers.{digitOf, spelt, Most};
+ghost use Rattle.text_read.specs.Inner.Numbers.{digit_of, spelt, Most};
 
 #[derive(Drop)]
 pub enum Number {
@@ -10,7 +10,7 @@ pub enum Number {
 
 // What a byte is worth as a digit, `0` (48) to `9` or `a` (97) to `f`, and 255 where it is none.
 pub fn digit(b: u8) -> u8
-    ensures { result ≡ digitOf b }
+    ensures { result ≡ digit_of b }
 {
     if b < 48 {
         return 255;

@@ -1,7 +1,7 @@
 -- The fields of a plan and of a step in a local of a walk: where each lies, and what is read there. The machine types are long (an answer may be one of 26 refusals), so what is computed of them is computed here, once; a walk cites it and computes nothing.
---     answer_at, count_at, start-at, finding-at, next-at     where the field lies in its struct
---     answer-in, count-in, start-in, finding-in, next-in     what is read there, of the struct in entry n of a context
---     position-typed, finding-typed                          the machine value of a position, of a finding, has its type
+--     answer_at, count_at, start-at, finding_at, next-at     where the field lies in its struct
+--     answer_in, count_in, start_in_lem, finding_in, next_in     what is read there, of the struct in entry n of a context
+--     position_typed, finding_typed                          the machine value of a position, of a finding, has its type
 -- Assumes `Logic`.
 use mathlib.Core.Path.{◌≡◌, refl, sym, ◌∙◌, subst}
 use mathlib.Core.Option.{some}
@@ -47,8 +47,8 @@ count_at = refl
 pub start-at : field_of P'.mir 2 ≡ some (K'.mir, 32)
 start-at = refl
 
-pub finding-at : field_of S'.mir 0 ≡ some (T'.mir, 0)
-finding-at = refl
+pub finding_at : field_of S'.mir 0 ≡ some (T'.mir, 0)
+finding_at = refl
 
 pub next-at : field_of S'.mir 2 ≡ some (K'.mir, 40)
 next-at = refl
@@ -68,25 +68,25 @@ module _ {M : Type 1} {𝓤 : Ura M} {𝓛 : Logic 𝓤} {G : Type 0} where
     field_in k {τ} {d} f is e = subst (λ (u : Val). Reads G 𝓛 Γ τ l (0 + d) u) is (look_in t n (at_entry e (sub t k f (whole t))))
 
     module _ (p : Plan) (e : nth 𝓛 n Γ ≡ ‵ (fat full_share P'.mir l 0 (LL.val P.the_type P'.the_laws p))) where
-      pub answer-in : Reads G 𝓛 Γ R'.mir l 0 (EL.val R.the_type R'.the_laws p.answer)
-      answer-in = field_in 0 {τ = R'.mir} {d = 0} refl refl e
+      pub answer_in : Reads G 𝓛 Γ R'.mir l 0 (EL.val R.the_type R'.the_laws p.answer)
+      answer_in = field_in 0 {τ = R'.mir} {d = 0} refl refl e
 
-      pub count-in : Reads G 𝓛 Γ (ty_int w64) l 24 (vint w64 p.count)
-      count-in = field_in 1 {τ = ty_int w64} {d = 24} refl refl e
+      pub count_in : Reads G 𝓛 Γ (ty_int w64) l 24 (vint w64 p.count)
+      count_in = field_in 1 {τ = ty_int w64} {d = 24} refl refl e
 
-      pub start-in : Reads G 𝓛 Γ K'.mir l 32 (LL.val K.the_type K'.the_laws p.start)
-      start-in = field_in 2 {τ = K'.mir} {d = 32} refl refl e
+      pub start_in_lem : Reads G 𝓛 Γ K'.mir l 32 (LL.val K.the_type K'.the_laws p.start)
+      start_in_lem = field_in 2 {τ = K'.mir} {d = 32} refl refl e
 
     module _ (r : Step) (e : nth 𝓛 n Γ ≡ ‵ (fat full_share S'.mir l 0 (LL.val S.the_type S'.the_laws r))) where
-      pub finding-in : Reads G 𝓛 Γ T'.mir l 0 (LL.val T.the_type T'.the_laws r.finding)
-      finding-in = field_in 0 {τ = T'.mir} {d = 0} refl refl e
+      pub finding_in : Reads G 𝓛 Γ T'.mir l 0 (LL.val T.the_type T'.the_laws r.finding)
+      finding_in = field_in 0 {τ = T'.mir} {d = 0} refl refl e
 
-      pub next-in : Reads G 𝓛 Γ K'.mir l 40 (LL.val K.the_type K'.the_laws r.next)
-      next-in = field_in 2 {τ = K'.mir} {d = 40} refl refl e
+      pub next_in : Reads G 𝓛 Γ K'.mir l 40 (LL.val K.the_type K'.the_laws r.next)
+      next_in = field_in 2 {τ = K'.mir} {d = 40} refl refl e
 
 module _ {M : Type 1} {𝓤 : Ura M} (𝓛 : Logic 𝓤) where
-  pub position-typed : (c : Position) → Is K.the_row c (LL.val K.the_type K'.the_laws c ∷ []) → Holds (has_ty K'.mir (LL.val K.the_type K'.the_laws c)) × WT (LL.val K.the_type K'.the_laws c)
-  position-typed c is = ((LL.lawful K.the_type K'.the_laws 𝓛).typed c _ is).0
+  pub position_typed : (c : Position) → Is K.the_row c (LL.val K.the_type K'.the_laws c ∷ []) → Holds (has_ty K'.mir (LL.val K.the_type K'.the_laws c)) × WT (LL.val K.the_type K'.the_laws c)
+  position_typed c is = ((LL.lawful K.the_type K'.the_laws 𝓛).typed c _ is).0
 
-  pub finding-typed : (f : Finding) → Is T.the_row f (LL.val T.the_type T'.the_laws f ∷ []) → Holds (has_ty T'.mir (LL.val T.the_type T'.the_laws f)) × WT (LL.val T.the_type T'.the_laws f)
-  finding-typed f is = ((LL.lawful T.the_type T'.the_laws 𝓛).typed f _ is).0
+  pub finding_typed : (f : Finding) → Is T.the_row f (LL.val T.the_type T'.the_laws f ∷ []) → Holds (has_ty T'.mir (LL.val T.the_type T'.the_laws f)) × WT (LL.val T.the_type T'.the_laws f)
+  finding_typed f is = ((LL.lawful T.the_type T'.the_laws 𝓛).typed f _ is).0

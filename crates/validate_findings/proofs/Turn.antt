@@ -1,7 +1,7 @@
 -- The numbers of a turn of the writer's loop: the place i, below the count of the findings, in a list of n records of 32 bytes.
 --     none_yet     no place is below 0
 --     any          there is a place, so the count is not 0
---     goes_on      the next place is a number of 64 bits
+--     goes_on_lem      the next place is a number of 64 bits
 --     offset       and so is where the record begins
 --     inside       the place is in a list that is as long as the lent one
 -- Assumes nothing.
@@ -17,8 +17,8 @@ module _ {i count : ℕ} where
   any h = omega arith
 
   module _ {n : ℕ} where
-    pub goes_on : i < count → count ≤ n → n < 2 ^ 64 → i + 1 < 2 ^ 64
-    goes_on h w f = omega arith
+    pub goes_on_lem : i < count → count ≤ n → n < 2 ^ 64 → i + 1 < 2 ^ 64
+    goes_on_lem h w f = omega arith
 
     pub offset : i ≤ count → count ≤ n → n * 32 < 2 ^ 63 → i * 32 < 2 ^ 64
     offset h w f = omega arith

@@ -8,5 +8,5 @@ use Rattle.validate_rules.specs.declared.finding.Rule.TheVariants.{Register}
 abbrev pub LONGEST : ℕ
 LONGEST = MAX-DIAGNOSTICS + 1
 
-unfoldable pub blankList : List Finding
-blankList = replicate LONGEST (record { function = 0; pc = 0; rule = Register 0 })
+unfoldable pub blank_list : List Finding
+blank_list = replicate LONGEST (record { function = 0; pc = 0; rule = Register 0 })

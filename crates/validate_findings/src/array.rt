@@ -1,8 +1,8 @@
 // The findings of a chunk by value: a list that is long enough for all that there can be, filled by `validate_findings::validate_chunk_lua54`. Who calls this needs no walk by hand.
 ghost use Rattle.std.specs.Prelude.{◌≡◌};
 ghost use Rattle.format.specs.ReadChunk as format;
-ghost use Rattle.validate_plan.specs.Validated.{shownFindings, findingsWritten};
-ghost use Rattle.validate_findings.specs.Blank.{LONGEST, blankList};
+ghost use Rattle.validate_plan.specs.Validated.{shown_findings, findings_written};
+ghost use Rattle.validate_findings.specs.Blank.{LONGEST, blank_list};
 
 use crate::validate_chunk_lua54;
 use format::limits::ResourceLimits;
@@ -20,7 +20,7 @@ pub struct FindingArray {
 
 // Records that mean nothing.
 fn blank() -> [Finding; LONGEST]
-    ensures { result ≡ blankList }
+    ensures { result ≡ blank_list }
 {
     [Finding {
         function: 0,
@@ -32,8 +32,8 @@ fn blank() -> [Finding; LONGEST]
 // The verdict, the number of findings and the findings, in the order found, in the first places.
 // Ruled out: a list that is left blank, findings in another order.
 pub fn chunk_findings(chunk: &[u8], limits: ResourceLimits) -> FindingArray
-    ensures { (result.answer ≡ shownFindings LONGEST (format.read limits chunk.now))
-        × (result.list ≡ findingsWritten blankList (format.read limits chunk.now)) }
+    ensures { (result.answer ≡ shown_findings LONGEST (format.read limits chunk.now))
+        × (result.list ≡ findings_written blank_list (format.read limits chunk.now)) }
 {
     let mut list = blank();
     let answer = validate_chunk_lua54(chunk, limits, &mut list);

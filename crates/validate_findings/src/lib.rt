@@ -3,7 +3,7 @@ pub mod array;
 
 ghost use Rattle.std.specs.Prelude.{◌≡◌, length};
 ghost use Rattle.format.specs.ReadChunk as format;
-ghost use Rattle.validate_plan.specs.Validated.{shownFindings, findingsWritten};
+ghost use Rattle.validate_plan.specs.Validated.{shown_findings, findings_written};
 
 use format::limits::ResourceLimits;
 use validate_plan::{FindingsAnswer, forward, prepare};
@@ -16,8 +16,8 @@ pub fn validate_chunk_lua54(
     limits: ResourceLimits,
     findings: &mut [Finding],
 ) -> FindingsAnswer
-    ensures { (result ≡ shownFindings (length findings.old) (format.read limits chunk.now))
-        × (findings.new ≡ findingsWritten findings.old (format.read limits chunk.now)) }
+    ensures { (result ≡ shown_findings (length findings.old) (format.read limits chunk.now))
+        × (findings.new ≡ findings_written findings.old (format.read limits chunk.now)) }
 {
     let plan = prepare(chunk, limits, findings.len());
     let count = plan.count;

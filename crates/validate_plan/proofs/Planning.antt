@@ -16,26 +16,26 @@ use Rattle.format.specs.declared.refusal.Refusal.TheVariants.{LentSpace}
 use Rattle.format.specs.Form.{Bytes}
 use Rattle.format.specs.Reading.{Reading}
 use Rattle.format.specs.ReadChunk.{shown, refusal, read}
-use Rattle.validate_rules.specs.Findings.{MAX-DIAGNOSTICS, Listing, chunkFindings, verdict}
+use Rattle.validate_rules.specs.Findings.{MAX-DIAGNOSTICS, Listing, chunk_findings, verdict}
 use Rattle.validate_search.specs.Inner.Position.{out_of}
-use Rattle.validate_verdict.specs.Inner.Totals.{tallied, verdictShown}
+use Rattle.validate_verdict.specs.Inner.Totals.{tallied, verdict_shown}
 use Rattle.validate_rules.specs.declared.finding.Finding.{Finding}
 use Rattle.validate_rules.specs.declared.finding.Verdict.{Verdict}
 use Rattle.validate_search.specs.declared.search.Position.{Position}
 use Rattle.validate_verdict.specs.declared.tally.Totals.{Totals}
 use Rattle.validate_plan.specs.declared.FindingsAnswer.TheVariants as answer
 use Rattle.slice.specs.Over.{over}
-use Rattle.validate_plan.specs.Validated.{listingAnswer, shownFindings, findingsWritten}
-use Rattle.validate_plan.specs.Inner.Found.{foundIn}
-use Rattle.validate_plan.specs.Inner.Plan.{refusedPlan, plan_of, written, Planned}
+use Rattle.validate_plan.specs.Validated.{listing_answer, shown_findings, findings_written}
+use Rattle.validate_plan.specs.Inner.Found.{found_in}
+use Rattle.validate_plan.specs.Inner.Plan.{refused_plan, plan_of, written, Planned}
 
 module _ (L : ResourceLimits) (s : Bytes) (room : ℕ) (start : Position) where
-  pub plan-refused : (q : Refusal) → read L s ≡ refusal q → Planned L s room (refusedPlan q start)
+  pub plan_refused : (q : Refusal) → read L s ≡ refusal q → Planned L s room (refused_plan q start)
   unfolding written
-  plan-refused q is = record {
-    answers = ap (shownFindings room) (sym is);
-    leaves = λ old e. ap (findingsWritten old) (sym is);
-    found = ap (foundIn room) (sym is);
+  plan_refused q is = record {
+    answers = ap (shown_findings room) (sym is);
+    leaves = λ old e. ap (findings_written old) (sym is);
+    found = ap (found_in room) (sym is);
     within = omega arith;
     there = omega arith;
     limited = λ h. absurd (omega arith);
@@ -44,49 +44,49 @@ module _ (L : ResourceLimits) (s : Bytes) (room : ℕ) (start : Position) where
   abbrev all : Listing
   all = out_of L s MAX-DIAGNOSTICS start
 
-  module _ (r : Reading) (is : read L s ≡ shown r) (same : all ≡ chunkFindings r) (few : L.max_total_instructions ≤ MOST) where
-    answer-is : shownFindings room (read L s) ≡ listingAnswer room all
-    answer-is = ap (shownFindings room) is ∙ ap (listingAnswer room) (sym same)
+  module _ (r : Reading) (is : read L s ≡ shown r) (same : all ≡ chunk_findings r) (few : L.max_total_instructions ≤ MOST) where
+    answer_is : shown_findings room (read L s) ≡ listing_answer room all
+    answer_is = ap (shown_findings room) is ∙ ap (listing_answer room) (sym same)
 
-    list-is : (old : List Finding) → findingsWritten old (read L s) ≡ over all.findings old
-    list-is old = ap (findingsWritten old) is ∙ ap (λ l. over l.findings old) (sym same)
+    list_is : (old : List Finding) → findings_written old (read L s) ≡ over all.findings old
+    list_is old = ap (findings_written old) is ∙ ap (λ l. over l.findings old) (sym same)
 
-    found-is : foundIn room (read L s) ≡ cond (leb (length all.findings) room) all.findings []
-    found-is = ap (foundIn room) is ∙ ap (λ l. cond (leb (length l.findings) room) l.findings []) (sym same)
+    found-is : found_in room (read L s) ≡ cond (leb (length all.findings) room) all.findings []
+    found-is = ap (found_in room) is ∙ ap (λ l. cond (leb (length l.findings) room) l.findings []) (sym same)
 
-    by-room : (b : Bool) → leb (length all.findings) room ≡ b
-        → Planned L s room (cond b (record { answer = answer.Ok (verdict all) (length all.findings); count = length all.findings; start = start }) (refusedPlan LentSpace start))
+    by_room : (b : Bool) → leb (length all.findings) room ≡ b
+        → Planned L s room (cond b (record { answer = answer.Ok (verdict all) (length all.findings); count = length all.findings; start = start }) (refused_plan LentSpace start))
     unfolding written
-    by-room true e = record {
-      answers = sym (answer-is ∙ rw e);
-      leaves = λ old z. rw (take-length) (sym (list-is old ∙ rw (z, e)));
+    by_room true e = record {
+      answers = sym (answer_is ∙ rw e);
+      leaves = λ old z. rw (take-length) (sym (list_is old ∙ rw (z, e)));
       found = rw (take-length) (sym (found-is ∙ rw e));
       within = leb-true (length all.findings) room e;
       there = omega arith;
       limited = λ h. few;
     }
-    by-room false e = record {
-      answers = sym (answer-is ∙ rw e);
-      leaves = λ old z. sym (list-is old ∙ rw (z, e));
+    by_room false e = record {
+      answers = sym (answer_is ∙ rw e);
+      leaves = λ old z. sym (list_is old ∙ rw (z, e));
       found = sym (found-is ∙ rw e);
       within = omega arith;
       there = omega arith;
       limited = λ h. few;
     }
 
-    pub plan-made : Planned L s room (plan_of all room start)
-    plan-made = by-room (leb (length all.findings) room) refl
+    pub plan_made : Planned L s room (plan_of all room start)
+    plan_made = by_room (leb (length all.findings) room) refl
 
 -- ## The plan, of what was counted
 module _ (l : Listing) (room : ℕ) (start first : Position) (begins : first ≡ start) (t : Totals) (counted : t ≡ tallied l) where
   count-is : t.count ≡ length l.findings
   count-is = ap (λ t. t.count) counted
 
-  pub too_many : room < t.count → refusedPlan LentSpace first ≡ plan_of l room start
-  too_many h = let z : room < length l.findings = omega (arith, count-is) in ap (refusedPlan LentSpace) begins ∙ rw (lt-leb (length l.findings) room z)
+  pub too_many : room < t.count → refused_plan LentSpace first ≡ plan_of l room start
+  too_many h = let z : room < length l.findings = omega (arith, count-is) in ap (refused_plan LentSpace) begins ∙ rw (lt-leb (length l.findings) room z)
 
-  pub all_fit : t.count ≤ room → (v : Verdict) → v ≡ verdictShown t → record { answer = answer.Ok v t.count; count = t.count; start = first } ≡ plan_of l room start
+  pub all_fit : t.count ≤ room → (v : Verdict) → v ≡ verdict_shown t → record { answer = answer.Ok v t.count; count = t.count; start = first } ≡ plan_of l room start
   all_fit h v is-v =
       let z : length l.findings ≤ room = omega (arith, count-is) in
-      let judged : v ≡ verdict l = is-v ∙ ap verdictShown counted in
+      let judged : v ≡ verdict l = is-v ∙ ap verdict_shown counted in
       (λ i. record { answer = answer.Ok (judged i) (count-is i); count = count-is i; start = begins i }) ∙ rw (le-leb (length l.findings) room z)

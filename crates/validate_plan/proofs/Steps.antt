@@ -1,6 +1,6 @@
 -- The steps of a search, one after the other: after k of them, what is left is the list without its first k.
 --     After l k rest       after k steps through l, rest is left
---     step-found           where there are more than k, step k has finding k
+--     step_found           where there are more than k, step k has finding k
 -- Assumes nothing.
 use mathlib.Core.Path.{◌≡◌, refl, sym, ap, ◌∙◌}
 use mathlib.Core.Bool.{Bool}
@@ -13,7 +13,7 @@ use lib.Seq.{drop-cons}
 use Rattle.format.specs.declared.limits.ResourceLimits.{ResourceLimits}
 use Rattle.format.specs.Form.{Bytes}
 use Rattle.validate_rules.specs.Findings.{Listing, ended, prepend}
-use Rattle.validate_search.specs.Inner.Position.{out_of, stepIs, stepped}
+use Rattle.validate_search.specs.Inner.Position.{out_of, step_is, stepped}
 use Rattle.validate_rules.specs.declared.finding.Finding.{Finding}
 use Rattle.validate_search.specs.declared.search.Position.{Position}
 use Rattle.validate_search.specs.declared.search.State.{State}
@@ -38,8 +38,8 @@ module _ (l : Listing) (k : ℕ) (rest : Listing) (a : After l k rest) where
     split : f ∷ next.findings ≡ get_or l.findings k f ∷ drop (suc k) l.findings
     split = sym (ap (λ (x : Listing). x.findings) e) ∙ a.findings ∙ drop-cons l.findings k f more
 
-    finding-is : f ≡ get_or l.findings k f
-    finding-is = let p = split in cc
+    finding_is : f ≡ get_or l.findings k f
+    finding_is = let p = split in cc
 
     after_more : After l (k + 1) next
     after_more = record { within = omega (arith, more); findings = let p = split in rw (add-one k) (cc) }
@@ -49,9 +49,9 @@ module _ (l : Listing) (k : ℕ) (rest : Listing) (a : After l k rest) where
   all b e = omega (arith, left_over, ap (λ (x : Listing). length x.findings) e)
 
   module _ (L : ResourceLimits) (s : Bytes) (max : ℕ) (h : k < length l.findings) where
-    step_is : (t : State) (f : Finding) (next : Position) → rest ≡ stepIs L s max t f next → (f ≡ get_or l.findings k f) × After l (k + 1) (out_of L s max next)
-    step_is state.Found f next e = (finding-is f _ e, after_more f _ e)
-    step_is (state.Done b) f next e = absurd (omega (arith, all b e))
+    step_is_lem : (t : State) (f : Finding) (next : Position) → rest ≡ step_is L s max t f next → (f ≡ get_or l.findings k f) × After l (k + 1) (out_of L s max next)
+    step_is_lem state.Found f next e = (finding_is f _ e, after_more f _ e)
+    step_is_lem (state.Done b) f next e = absurd (omega (arith, all b e))
 
-    pub step-found : (r : Step) → rest ≡ stepped L s max r → (r.finding ≡ get_or l.findings k r.finding) × After l (k + 1) (out_of L s max r.next)
-    step-found r e = step_is r.state r.finding r.next e
+    pub step_found : (r : Step) → rest ≡ stepped L s max r → (r.finding ≡ get_or l.findings k r.finding) × After l (k + 1) (out_of L s max r.next)
+    step_found r e = step_is_lem r.state r.finding r.next e

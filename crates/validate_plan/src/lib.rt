@@ -3,8 +3,8 @@ ghost use Rattle.std.specs.Prelude.{◌≡◌, ◌<◌, ◌≤◌};
 ghost use Rattle.format.specs.Limits.{MOST};
 ghost use Rattle.format.specs.ReadChunk as format;
 ghost use Rattle.validate_rules.specs.Findings.{MAX-DIAGNOSTICS};
-ghost use Rattle.validate_search.specs.Inner.Position.{out_of, stepped, startPosition};
-ghost use Rattle.validate_plan.specs.Inner.Plan.{plan_of, refusedPlan, Planned};
+ghost use Rattle.validate_search.specs.Inner.Position.{out_of, stepped, start_position};
+ghost use Rattle.validate_plan.specs.Inner.Plan.{plan_of, refused_plan, Planned};
 
 use format::limits::ResourceLimits;
 use format::refusal::Refusal;
@@ -33,7 +33,7 @@ pub struct Plan {
 
 // On a refusal nothing is written.
 fn refused(refusal: Refusal) -> Plan
-    ensures { result ≡ refusedPlan refusal (startPosition 0 0) }
+    ensures { result ≡ refused_plan refusal (start_position 0 0) }
 {
     Plan {
         answer: FindingsAnswer::Err(refusal),
@@ -45,7 +45,7 @@ fn refused(refusal: Refusal) -> Plan
 // All findings where there is room for them, and else none.
 fn decide(s: &[u8], limits: ResourceLimits, room: usize, place: Cursor, kept: u64) -> Plan
     requires { limits.max_total_instructions ≤ MOST }
-    ensures { result ≡ plan_of (out_of limits s.now MAX-DIAGNOSTICS (startPosition place.at kept)) room (startPosition place.at kept) }
+    ensures { result ≡ plan_of (out_of limits s.now MAX-DIAGNOSTICS (start_position place.at kept)) room (start_position place.at kept) }
 {
     let first = start(place, kept);
     let totals = tally(s, limits, MAX_DIAGNOSTICS, place, kept);

@@ -14,14 +14,14 @@ use borrow.Author.Tests.{ltb-true, ltb-false, lt-leb}
 use Rattle.word_opcodes.specs.Lopcodes.{SIZE-OP, SIZE-A, SIZE-Bx}
 use Rattle.word_opcodes.specs.declared.opcode.Opcode54.{Opcode54}
 use Rattle.word_opcodes.specs.declared.opcode.OptionOpcode54.TheVariants.{Some}
-use Rattle.word_opcodes.specs.Table.{opcodeAt}
+use Rattle.word_opcodes.specs.Table.{opcode_at}
 use Rattle.word_fields.specs.Word.{decoded}
 use Rattle.validate_rules.specs.declared.finding.Bounds.{Bounds}
 use Rattle.validate_rules.specs.declared.finding.Rule.TheVariants.{Register}
 use Rattle.validate_rules.specs.declared.judge.Check.{Check}
 use Rattle.validate_rules.specs.declared.judge.Check.TheVariants as check
-use Rattle.validate_rules.specs.Rules.{usesRegisterA, checkOf, brokenRule, operandRule, ifAny, rules, at, instruction}
-use Rattle.validate_rules.specs.Inner.Glance.{classBy, class_of, doubled, glanceOf}
+use Rattle.validate_rules.specs.Rules.{uses_registerA, check_of, broken_rule, operand_rule, if_any, rules, at, instruction}
+use Rattle.validate_rules.specs.Inner.Glance.{class_by, class_of, doubled, glance_of}
 
 -- B with the bit below it, against twice a number
 half : (x n : ℕ) → bit_and (x / 2 ^ 15) 511 < doubled n → x / 2 ^ 16 % 2 ^ 8 < n
@@ -36,33 +36,33 @@ module _ (word : ℕ) (b : Bounds) (pc : ℕ) where
   abbrev pub Below : List ℕ → List ℕ → List ℕ → ℕ → Type 0
   Below registers masks limits c = (bit_and (word / 2 ^ 7) 255 < get_or registers c 0) × (bit_and (word / 2 ^ 15) (get_or masks c 0) < get_or limits c 0)
 
-  register : bit_and (word / 2 ^ 7) 255 < b.maxstacksize → brokenRule (decoded word).a b.maxstacksize (Register (decoded word).a) ≡ none
+  register : bit_and (word / 2 ^ 7) 255 < b.maxstacksize → broken_rule (decoded word).a b.maxstacksize (Register (decoded word).a) ≡ none
   unfolding decoded
   register h = let a : word / 2 ^ 7 % 2 ^ 8 < b.maxstacksize = rw (and_mask (word / 2 ^ 7) SIZE-A) at h in rw (lt-leb _ _ a)
 
-  by-class : (uses : Bool) (k : Check) → Below (glanceOf b).registers (glanceOf b).masks (glanceOf b).limits (classBy uses k)
-      → (cond uses (brokenRule (decoded word).a b.maxstacksize (Register (decoded word).a)) none ≡ none) × (operandRule k (decoded word) b pc ≡ none)
+  by_class : (uses : Bool) (k : Check) → Below (glance_of b).registers (glance_of b).masks (glance_of b).limits (class_by uses k)
+      → (cond uses (broken_rule (decoded word).a b.maxstacksize (Register (decoded word).a)) none ≡ none) × (operand_rule k (decoded word) b pc ≡ none)
   unfolding decoded
-  by-class true check.Nothing (a, x) = (register a, refl)
-  by-class true check.Constant (a, x) = let bx : word / 2 ^ 15 % 2 ^ 17 < b.constants = rw (and_mask (word / 2 ^ 15) SIZE-Bx) at x in (register a, rw (lt-leb _ _ bx))
-  by-class true check.Upvalue (a, x) = (register a, rw (lt-leb _ _ (half word b.upvalues x)))
-  by-class true check.TableUpvalueB (a, x) = (register a, rw (lt-leb _ _ (half word b.upvalues x)))
-  by-class true check.TableUpvalueA (a, x) = absurd (omega arith)
-  by-class true check.Prototype (a, x) = let bx : word / 2 ^ 15 % 2 ^ 17 < b.protos = rw (and_mask (word / 2 ^ 15) SIZE-Bx) at x in (register a, rw (lt-leb _ _ bx))
-  by-class true check.Jump (a, x) = absurd (omega arith)
-  by-class false check.Nothing (a, x) = (refl, refl)
-  by-class false check.Constant (a, x) = absurd (omega arith)
-  by-class false check.Upvalue (a, x) = absurd (omega arith)
-  by-class false check.TableUpvalueB (a, x) = absurd (omega arith)
-  by-class false check.TableUpvalueA (a, x) = absurd (omega arith)
-  by-class false check.Prototype (a, x) = absurd (omega arith)
-  by-class false check.Jump (a, x) = absurd (omega arith)
+  by_class true check.Nothing (a, x) = (register a, refl)
+  by_class true check.Constant (a, x) = let bx : word / 2 ^ 15 % 2 ^ 17 < b.constants = rw (and_mask (word / 2 ^ 15) SIZE-Bx) at x in (register a, rw (lt-leb _ _ bx))
+  by_class true check.Upvalue (a, x) = (register a, rw (lt-leb _ _ (half word b.upvalues x)))
+  by_class true check.TableUpvalueB (a, x) = (register a, rw (lt-leb _ _ (half word b.upvalues x)))
+  by_class true check.TableUpvalueA (a, x) = absurd (omega arith)
+  by_class true check.Prototype (a, x) = let bx : word / 2 ^ 15 % 2 ^ 17 < b.protos = rw (and_mask (word / 2 ^ 15) SIZE-Bx) at x in (register a, rw (lt-leb _ _ bx))
+  by_class true check.Jump (a, x) = absurd (omega arith)
+  by_class false check.Nothing (a, x) = (refl, refl)
+  by_class false check.Constant (a, x) = absurd (omega arith)
+  by_class false check.Upvalue (a, x) = absurd (omega arith)
+  by_class false check.TableUpvalueB (a, x) = absurd (omega arith)
+  by_class false check.TableUpvalueA (a, x) = absurd (omega arith)
+  by_class false check.Prototype (a, x) = absurd (omega arith)
+  by_class false check.Jump (a, x) = absurd (omega arith)
 
-  pub at-a-glance : (k : ℕ) (o : Opcode54) → opcodeAt (bit_and word 127) ≡ Some o → (c : ℕ) → c ≡ class_of o
-      → (registers masks limits : List ℕ) → registers ≡ (glanceOf b).registers → masks ≡ (glanceOf b).masks → limits ≡ (glanceOf b).limits → Below registers masks limits c
+  pub at_a_glance : (k : ℕ) (o : Opcode54) → opcode_at (bit_and word 127) ≡ Some o → (c : ℕ) → c ≡ class_of o
+      → (registers masks limits : List ℕ) → registers ≡ (glance_of b).registers → masks ≡ (glance_of b).masks → limits ≡ (glance_of b).limits → Below registers masks limits c
       → instruction k b pc word ≡ []
   unfolding instruction decoded
-  at-a-glance k o named c is registers masks limits of-a of_mask of-limit below =
+  at_a_glance k o named c is registers masks limits of-a of_mask of-limit below =
       let low = and_mask word SIZE-OP ∙ ap (λ x. x % 2 ^ SIZE-OP) (sym (div-one word)) in
-      let both = by-class (usesRegisterA o) (checkOf o) (rw (of-a, of_mask, of-limit, is) at below) in
-      ap (λ n. at k pc (rules n (decoded word) b pc)) (ap opcodeAt (sym low) ∙ named) ∙ (λ i. at k pc (ifAny (both.0 i) ++ ifAny (both.1 i)))
+      let both = by_class (uses_registerA o) (check_of o) (rw (of-a, of_mask, of-limit, is) at below) in
+      ap (λ n. at k pc (rules n (decoded word) b pc)) (ap opcode_at (sym low) ∙ named) ∙ (λ i. at k pc (if_any (both.0 i) ++ if_any (both.1 i)))

@@ -11,14 +11,14 @@ use Rattle.word_fields.specs.Word.{decoded}
 use Rattle.validate_rules.specs.declared.finding.Rule.{Rule}
 use Rattle.validate_rules.specs.declared.finding.Bounds.{Bounds}
 use Rattle.validate_rules.specs.declared.judge.Check.{Check}
-use Rattle.validate_rules.specs.Rules.{checkOf, registerRule, operandRule, ifAny, rules, at, instruction}
+use Rattle.validate_rules.specs.Rules.{check_of, register_rule, operand_rule, if_any, rules, at, instruction}
 
-pub with-opcode : (k pc word : ℕ) (b : Bounds) (raw : RawInstruction54) → raw ≡ decoded word → (o : Opcode54) → raw.opcode ≡ Some o
-    → (first : Option Rule) → first ≡ registerRule o raw.a b.maxstacksize → (check : Check) → check ≡ checkOf o
-    → (second : Option Rule) → second ≡ operandRule check raw b pc → at k pc (ifAny first ++ ifAny second) ≡ instruction k b pc word
+pub with_opcode : (k pc word : ℕ) (b : Bounds) (raw : RawInstruction54) → raw ≡ decoded word → (o : Opcode54) → raw.opcode ≡ Some o
+    → (first : Option Rule) → first ≡ register_rule o raw.a b.maxstacksize → (check : Check) → check ≡ check_of o
+    → (second : Option Rule) → second ≡ operand_rule check raw b pc → at k pc (if_any first ++ if_any second) ≡ instruction k b pc word
 unfolding instruction
-with-opcode k pc word b raw is o named first one check of second two =
-    (λ i. at k pc (ifAny (one i) ++ ifAny (two i)))
-    ∙ ap (λ c. at k pc (ifAny (registerRule o raw.a b.maxstacksize) ++ ifAny (operandRule c raw b pc))) of
+with_opcode k pc word b raw is o named first one check of second two =
+    (λ i. at k pc (if_any (one i) ++ if_any (two i)))
+    ∙ ap (λ c. at k pc (if_any (register_rule o raw.a b.maxstacksize) ++ if_any (operand_rule c raw b pc))) of
     ∙ ap (λ n. at k pc (rules n raw b pc)) (sym named)
     ∙ ap (λ r. at k pc (rules r.opcode r b pc)) is

@@ -1,10 +1,10 @@
 -- EVERY RULE of validator.rs (01 'validator.rs') by a word: at the bound it is broken, one below it is not. Words and the rules that they break in a list, and one theorem over the list, which antt computes.
---     words-hold       told apart: another bound or operand, above for at, SETTABUP's A a register or its B checked, the operand's finding first, function and pc exchanged
---     exempt-are       of the 83 opcodes, those whose A is no register: SETTABUP, JMP, RETURN0, VARARGPREP, EXTRAARG
---     checked-are      of the 128 opcode numbers, those that are held against a list's bound or have no opcode, with their rule
---     bounds-are       what a function's words are held against: its stack and the lengths of its lists
---     offending-holds  the number that breaks each rule
---     severities-hold  of each rule: only a register is a warning; and the verdict on a chunk with that one finding
+--     words_hold       told apart: another bound or operand, above for at, SETTABUP's A a register or its B checked, the operand's finding first, function and pc exchanged
+--     exempt_are       of the 83 opcodes, those whose A is no register: SETTABUP, JMP, RETURN0, VARARGPREP, EXTRAARG
+--     checked_are      of the 128 opcode numbers, those that are held against a list's bound or have no opcode, with their rule
+--     bounds_are       what a function's words are held against: its stack and the lengths of its lists
+--     offending_holds  the number that breaks each rule
+--     severities_hold  of each rule: only a register is a warning; and the verdict on a chunk with that one finding
 -- Assumes nothing.
 use mathlib.Core.Path.{◌≡◌, refl}
 use mathlib.Core.Bool.{Bool, true, false}
@@ -63,9 +63,9 @@ words =
     ∷ (abc 83 255 255 255, found (Opcode 83) ∷ []) ∷ (abc 127 255 255 255, found (Opcode 127) ∷ [])
     ∷ []
 
-words-hold : map (λ c. instruction 5 bounds 7 c.0) words ≡ map (λ c. c.1) words
+words_hold : map (λ c. instruction 5 bounds 7 c.0) words ≡ map (λ c. c.1) words
 unfolding words instruction decoded
-words-hold = refl
+words_hold = refl
 
 -- ## All opcodes
 -- n + 1 numbers, from 0 up
@@ -74,13 +74,13 @@ up_to zero = 0 ∷ []
 up_to (suc n) = up_to n ++ (suc n ∷ [])
 
 -- the rules that a word breaks, each with the word's opcode
-abbrev rulesIn : ℕ → List Finding → List (ℕ × Rule)
-rulesIn op [] = []
-rulesIn op (f ∷ fs) = (op, f.rule) ∷ rulesIn op fs
+abbrev rules_in : ℕ → List Finding → List (ℕ × Rule)
+rules_in op [] = []
+rules_in op (f ∷ fs) = (op, f.rule) ∷ rules_in op fs
 
 swept : (ℕ → List Finding) → List ℕ → List (ℕ × Rule)
 swept findings [] = []
-swept findings (op ∷ ops) = rulesIn op (findings op) ++ swept findings ops
+swept findings (op ∷ ops) = rules_in op (findings op) ++ swept findings ops
 
 -- opcodes for which a word breaks nothing
 fine : (ℕ → List Finding) → List ℕ → List ℕ
@@ -92,25 +92,25 @@ fine findings (op ∷ ops) = none (findings op) ++ fine findings ops
     none (f ∷ fs) = []
 
 -- A is 10, the stack 10, the lists long
-exempt-are : fine (λ op. instruction 0 (record { maxstacksize = 10; instructions = 16777216; constants = 255; upvalues = 255; protos = 255 }) 16777214 (abc op 10 0 0)) (up_to 82) ≡ 15 ∷ 56 ∷ 71 ∷ 81 ∷ 82 ∷ []
+exempt_are : fine (λ op. instruction 0 (record { maxstacksize = 10; instructions = 16777216; constants = 255; upvalues = 255; protos = 255 }) 16777214 (abc op 10 0 0)) (up_to 82) ≡ 15 ∷ 56 ∷ 71 ∷ 81 ∷ 82 ∷ []
 unfolding fine up_to instruction decoded
-exempt-are = refl
+exempt_are = refl
 
 -- A is 0, the stack 1, the lists empty; JMP jumps to −16,777,214
-checked-are : swept (λ op. instruction 0 (record { maxstacksize = 1; instructions = 1; constants = 0; upvalues = 0; protos = 0 }) 0 op) (up_to 127)
+checked_are : swept (λ op. instruction 0 (record { maxstacksize = 1; instructions = 1; constants = 0; upvalues = 0; protos = 0 }) 0 op) (up_to 127)
     ≡ ((3, Constant 0) ∷ (9, Upvalue 0) ∷ (10, Upvalue 0) ∷ (11, TableUpvalue 0) ∷ (15, TableUpvalue 0) ∷ (56, Jump (negsuc 16777213)) ∷ (79, Prototype 0) ∷ []) ++ map (λ n. (83 + n, Opcode (83 + n))) (up_to 44)
 unfolding swept up_to instruction decoded
-checked-are = refl
+checked_are = refl
 
 -- ## Bounds
-bounds-are : bounds_of fourth ≡ record { maxstacksize = 17; instructions = 5; constants = 7; upvalues = 6; protos = 4 }
+bounds_are : bounds_of fourth ≡ record { maxstacksize = 17; instructions = 5; constants = 7; upvalues = 6; protos = 4 }
 unfolding fourth
-bounds-are = refl
+bounds_are = refl
 
 -- ## Offending numbers
-offending-holds : map offending (Opcode 1 ∷ Register 2 ∷ Constant 3 ∷ Upvalue 4 ∷ TableUpvalue 5 ∷ Prototype 6 ∷ Jump (pos 7) ∷ Jump (negsuc 8) ∷ [])
+offending_holds : map offending (Opcode 1 ∷ Register 2 ∷ Constant 3 ∷ Upvalue 4 ∷ TableUpvalue 5 ∷ Prototype 6 ∷ Jump (pos 7) ∷ Jump (negsuc 8) ∷ [])
     ≡ pos 1 ∷ pos 2 ∷ pos 3 ∷ pos 4 ∷ pos 5 ∷ pos 6 ∷ pos 7 ∷ negsuc 8 ∷ []
-offending-holds = refl
+offending_holds = refl
 
 -- ## Severities and verdicts
 -- a rule's severity, the verdict on a chunk with this finding alone, and on one that was stopped
@@ -128,6 +128,6 @@ severities =
     ∷ (Jump (pos 20), (Error, Invalid, Invalid))
     ∷ []
 
-severities-hold : map (λ c. judged c.0) severities ≡ map (λ c. c.1) severities
+severities_hold : map (λ c. judged c.0) severities ≡ map (λ c. c.1) severities
 unfolding severities
-severities-hold = refl
+severities_hold = refl

@@ -14,7 +14,7 @@ use mir.Facts.{to_z_pos, to_z-of_z, Fits-nat_abs}
 use borrow.Author.Tests.{ltb-true, le-leb, lt-leb}
 use Rattle.word_fields.proofs.Signs.{not_negative, wide, wide_fits}
 use Rattle.validate_rules.specs.declared.finding.Rule.TheVariants.{Jump}
-use Rattle.validate_rules.specs.Rules.{outside, jumpRule}
+use Rattle.validate_rules.specs.Rules.{outside, jump_rule}
 
 apart : (a b : ℕ) → a < 2 ^ 33 → b < 2 ^ 31 → mag (sub_ℕ a (suc b)) < 2 ^ 63
 apart a b ha hb = go (ltb a (suc b)) refl
@@ -60,14 +60,14 @@ module _ (pc : ℕ) (z : ℤ) (low : pc < 2 ^ 32) (h : SFits w32 z) where
   natural e = (not_negative target e, rw is (Fits-nat_abs {w = w64} {z = pos (pc + 1) +ℤ z} tt fits))
 
   module _ (count : ℕ) where
-    same : outside target count ≡ jumpRule pc z count
+    same : outside target count ≡ jump_rule pc z count
     same = ap (λ x. outside x count) is
 
-    pub negative : lt_z target (pos 0) ≡ true → some (Jump target) ≡ jumpRule pc z count
+    pub negative : lt_z target (pos 0) ≡ true → some (Jump target) ≡ jump_rule pc z count
     negative e = below target count e ∙ same
 
-    pub behind : lt_z target (pos 0) ≡ false → count ≤ nat_abs target → some (Jump target) ≡ jumpRule pc z count
+    pub behind : lt_z target (pos 0) ≡ false → count ≤ nat_abs target → some (Jump target) ≡ jump_rule pc z count
     behind e l = above target count e l ∙ same
 
-    pub allowed : lt_z target (pos 0) ≡ false → nat_abs target < count → none ≡ jumpRule pc z count
+    pub allowed : lt_z target (pos 0) ≡ false → nat_abs target < count → none ≡ jump_rule pc z count
     allowed e l = inside target count e l ∙ same

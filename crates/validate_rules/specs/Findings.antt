@@ -1,7 +1,7 @@
 -- THE FINDINGS OF A CHUNK by groups (validator.rs, `validate_chunk_lua54`). Its functions in order give groups of findings: an empty one for a function itself, and
 -- one for each of its instructions. Before each group comes the Rust's test whether there are enough diagnostics already.
 --     limited max n gs     the findings of groups, where there are n diagnostics already
---     chunkFindings r      of a reading, whose warnings count
+--     chunk_findings r      of a reading, whose warnings count
 --     verdict              on findings
 use Rattle.std.specs.Prelude.{Bool, true, false, cond, List, [], ◌∷◌, ◌++◌, ℕ, zero, suc, ◌+◌, length, leb, ltb}
 use Rattle.format.specs.Any.{any}
@@ -30,14 +30,14 @@ bounds_of p = record {
 }
 
 -- the groups of the words of function k from pc on
-unfoldable pub codeGroups : ℕ → Bounds → List ℕ → ℕ → List (List Finding)
-codeGroups k b [] pc = []
-codeGroups k b (word ∷ words) pc = instruction k b pc word ∷ codeGroups k b words (pc + 1)
+unfoldable pub code_groups : ℕ → Bounds → List ℕ → ℕ → List (List Finding)
+code_groups k b [] pc = []
+code_groups k b (word ∷ words) pc = instruction k b pc word ∷ code_groups k b words (pc + 1)
 
 -- the groups of functions, of which the first has the number k
 unfoldable pub groups : ℕ → List Prototype → List (List Finding)
 groups k [] = []
-groups k (p ∷ ps) = [] ∷ (codeGroups k (bounds_of p) p.instructions 0 ++ groups (k + 1) ps)
+groups k (p ∷ ps) = [] ∷ (code_groups k (bounds_of p) p.instructions 0 ++ groups (k + 1) ps)
 
 -- findings, and whether the search was stopped: `limit_reached`
 pub record Listing : Type 0 where
@@ -55,23 +55,23 @@ unfoldable pub limited : ℕ → ℕ → List (List Finding) → Listing
 limited max n [] = ended (ltb max n)
 limited max n (g ∷ gs) = cond (leb max n) (ended true) (prepend g (limited max (n + length g) gs))
 
-unfoldable pub chunkFindings : Reading → Listing
-chunkFindings r = limited MAX-DIAGNOSTICS (length r.warnings) (groups 0 r.functions)
+unfoldable pub chunk_findings : Reading → Listing
+chunk_findings r = limited MAX-DIAGNOSTICS (length r.warnings) (groups 0 r.functions)
 
 -- ## The verdict
-abbrev pub isError : Severity → Bool
-isError Error = true
-isError Warning = false
+abbrev pub is_error : Severity → Bool
+is_error Error = true
+is_error Warning = false
 
 -- `has_errors`: the warnings of the reading are none
-abbrev pub anyError : List Finding → Bool
-anyError fs = any (λ f. isError (severity f.rule)) fs
+abbrev pub any_error : List Finding → Bool
+any_error fs = any (λ f. is_error (severity f.rule)) fs
 
 abbrev pub verdict : Listing → Verdict
-verdict l = cond (anyError l.findings) Invalid (cond l.stopped Incomplete ValidForAnalysis)
+verdict l = cond (any_error l.findings) Invalid (cond l.stopped Incomplete ValidForAnalysis)
 
 -- 01's word for each
-abbrev pub verdictWord : Verdict → List ℕ
-verdictWord ValidForAnalysis = ascii "valid-for-analysis"
-verdictWord Invalid = ascii "invalid"
-verdictWord Incomplete = ascii "incomplete"
+abbrev pub verdict_word : Verdict → List ℕ
+verdict_word ValidForAnalysis = ascii "valid-for-analysis"
+verdict_word Invalid = ascii "invalid"
+verdict_word Incomplete = ascii "incomplete"

@@ -1,8 +1,8 @@
 -- THE RULES of validator.rs (01 'validator.rs'), and the findings of one instruction.
 --     severity r           whether breaking r is an error or a warning
 --     offending r          the number that breaks r: an opcode, a register, an index or a jump's target
---     usesRegisterA        `uses_register_a`
---     checkOf              which operand the Rust's `match op` holds against a bound
+--     uses_registerA        `uses_register_a`
+--     check_of              which operand the Rust's `match op` holds against a bound
 --     instruction k b pc w     the findings of the word w, instruction pc of function k: the register's warning first, then the opcode's error
 use Rattle.std.specs.Prelude.{Bool, true, false, not, ◌||◌, cond, List, [], ◌∷◌, ◌++◌, ℕ, ◌+◌, eqb, leb, ℤ, pos, negsuc, ◌+ℤ◌}
 use Rattle.std.proofs.Math.Option.{Option, none, some}
@@ -46,11 +46,11 @@ among n [] = false
 among n (o ∷ os) = eqb n (number_of o) || among n os
 
 -- by an opcode's number
-abbrev pub usesRegisterAt : ℕ → Bool
-usesRegisterAt n = not (among n (op.Jmp ∷ op.Extraarg ∷ op.Settabup ∷ op.Return0 ∷ op.Varargprep ∷ []))
+abbrev pub uses_register_at : ℕ → Bool
+uses_register_at n = not (among n (op.Jmp ∷ op.Extraarg ∷ op.Settabup ∷ op.Return0 ∷ op.Varargprep ∷ []))
 
-abbrev pub checkAt : ℕ → Check
-checkAt n =
+abbrev pub check_at : ℕ → Check
+check_at n =
     cond (among n (op.Loadk ∷ [])) check.Constant
     (cond (among n (op.Getupval ∷ op.Setupval ∷ [])) check.Upvalue
     (cond (among n (op.Gettabup ∷ [])) check.TableUpvalueB
@@ -59,45 +59,45 @@ checkAt n =
     (cond (among n (op.Jmp ∷ [])) check.Jump
     check.Nothing)))))
 
-abbrev pub usesRegisterA : Opcode54 → Bool
-usesRegisterA o = usesRegisterAt (number_of o)
+abbrev pub uses_registerA : Opcode54 → Bool
+uses_registerA o = uses_register_at (number_of o)
 
-abbrev pub checkOf : Opcode54 → Check
-checkOf o = checkAt (number_of o)
+abbrev pub check_of : Opcode54 → Check
+check_of o = check_at (number_of o)
 
 -- at or above its bound
-abbrev pub brokenRule : ℕ → ℕ → Rule → Option Rule
-brokenRule index bound rule = cond (leb bound index) (some rule) none
+abbrev pub broken_rule : ℕ → ℕ → Rule → Option Rule
+broken_rule index bound rule = cond (leb bound index) (some rule) none
 
 -- `target_pc`: negative, or at least the number of instructions
 abbrev pub outside : ℤ → ℕ → Option Rule
-outside (pos m) count = brokenRule m count (Jump (pos m))
+outside (pos m) count = broken_rule m count (Jump (pos m))
 outside (negsuc m) count = some (Jump (negsuc m))
 
 -- pc + 1 + sJ. (An i32 in the Rust: both are below 2^25 there.)
-abbrev pub jumpRule : ℕ → ℤ → ℕ → Option Rule
-jumpRule pc sj count = outside (pos (pc + 1) +ℤ sj) count
+abbrev pub jump_rule : ℕ → ℤ → ℕ → Option Rule
+jump_rule pc sj count = outside (pos (pc + 1) +ℤ sj) count
 
-abbrev pub registerRule : Opcode54 → ℕ → ℕ → Option Rule
-registerRule o a size = cond (usesRegisterA o) (brokenRule a size (Register a)) none
+abbrev pub register_rule : Opcode54 → ℕ → ℕ → Option Rule
+register_rule o a size = cond (uses_registerA o) (broken_rule a size (Register a)) none
 
-abbrev pub operandRule : Check → RawInstruction54 → Bounds → ℕ → Option Rule
-operandRule check.Nothing r b pc = none
-operandRule check.Constant r b pc = brokenRule r.bx b.constants (Constant r.bx)
-operandRule check.Upvalue r b pc = brokenRule r.b b.upvalues (Upvalue r.b)
-operandRule check.TableUpvalueB r b pc = brokenRule r.b b.upvalues (TableUpvalue r.b)
-operandRule check.TableUpvalueA r b pc = brokenRule r.a b.upvalues (TableUpvalue r.a)
-operandRule check.Prototype r b pc = brokenRule r.bx b.protos (Prototype r.bx)
-operandRule check.Jump r b pc = jumpRule pc r.sj b.instructions
+abbrev pub operand_rule : Check → RawInstruction54 → Bounds → ℕ → Option Rule
+operand_rule check.Nothing r b pc = none
+operand_rule check.Constant r b pc = broken_rule r.bx b.constants (Constant r.bx)
+operand_rule check.Upvalue r b pc = broken_rule r.b b.upvalues (Upvalue r.b)
+operand_rule check.TableUpvalueB r b pc = broken_rule r.b b.upvalues (TableUpvalue r.b)
+operand_rule check.TableUpvalueA r b pc = broken_rule r.a b.upvalues (TableUpvalue r.a)
+operand_rule check.Prototype r b pc = broken_rule r.bx b.protos (Prototype r.bx)
+operand_rule check.Jump r b pc = jump_rule pc r.sj b.instructions
 
-abbrev pub ifAny : Option Rule → List Rule
-ifAny none = []
-ifAny (some rule) = rule ∷ []
+abbrev pub if_any : Option Rule → List Rule
+if_any none = []
+if_any (some rule) = rule ∷ []
 
 -- the rules that an instruction breaks: where there is no opcode, nothing else of it is checked
 abbrev pub rules : OptionOpcode54 → RawInstruction54 → Bounds → ℕ → List Rule
 rules option.None r b pc = Opcode r.opcode_num ∷ []
-rules (option.Some o) r b pc = ifAny (registerRule o r.a b.maxstacksize) ++ ifAny (operandRule (checkOf o) r b pc)
+rules (option.Some o) r b pc = if_any (register_rule o r.a b.maxstacksize) ++ if_any (operand_rule (check_of o) r b pc)
 
 abbrev pub at : ℕ → ℕ → List Rule → List Finding
 at k pc [] = []

@@ -20,26 +20,26 @@ module _ (max warnings : ℕ) where
   len so_far = warnings + length so_far.findings
 
   -- `for inst in &proto.instructions`
-  unfoldable pub overCode : ℕ → Bounds → List ℕ → ℕ → Listing → Listing
-  overCode k b [] pc so_far = so_far
-  overCode k b (word ∷ words) pc so_far =
+  unfoldable pub over_code : ℕ → Bounds → List ℕ → ℕ → Listing → Listing
+  over_code k b [] pc so_far = so_far
+  over_code k b (word ∷ words) pc so_far =
       cond (leb max (len so_far)) (halt so_far)
-      (overCode k b words (pc + 1) (push so_far (instruction k b pc word)))
+      (over_code k b words (pc + 1) (push so_far (instruction k b pc word)))
 
   -- `validate_proto_lua54`, function after function
-  unfoldable pub overFunctions : ℕ → List Prototype → Listing → Listing
-  overFunctions k [] so_far = so_far
-  overFunctions k (p ∷ ps) so_far =
+  unfoldable pub over_functions : ℕ → List Prototype → Listing → Listing
+  over_functions k [] so_far = so_far
+  over_functions k (p ∷ ps) so_far =
       cond (so_far.stopped || leb max (len so_far)) (halt so_far)
-      (overFunctions (k + 1) ps (overCode k (bounds_of p) p.instructions 0 so_far))
+      (over_functions (k + 1) ps (over_code k (bounds_of p) p.instructions 0 so_far))
 
   -- `limit_reached || diagnostics.len() > MAX_DIAGNOSTICS`
   abbrev pub closed : Listing → Listing
   closed all = record { findings = all.findings; stopped = all.stopped || ltb max (len all) }
 
   -- `let mut limit_reached = diagnostics.len() >= MAX_DIAGNOSTICS; if !limit_reached { .. }`
-  unfoldable pub overChunk : List Prototype → Listing
-  overChunk ps = closed (cond (leb max warnings) (record { findings = []; stopped = true }) (overFunctions 0 ps (record { findings = []; stopped = false })))
+  unfoldable pub over_chunk : List Prototype → Listing
+  over_chunk ps = closed (cond (leb max warnings) (record { findings = []; stopped = true }) (over_functions 0 ps (record { findings = []; stopped = false })))
 
 unfoldable pub validate : Reading → Listing
-validate r = overChunk MAX-DIAGNOSTICS (length r.warnings) r.functions
+validate r = over_chunk MAX-DIAGNOSTICS (length r.warnings) r.functions

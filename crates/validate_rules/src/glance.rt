@@ -1,6 +1,6 @@
 // A quick test of an instruction, without a jump for its opcode, so that words of any kind pass at one speed: what they are held against stands in lists, by the opcode's class.
 ghost use Rattle.std.specs.Prelude.{◌≡◌, ◌<◌};
-ghost use Rattle.validate_rules.specs.Inner.Glance.{Fine, class_of, doubled, glanceOf};
+ghost use Rattle.validate_rules.specs.Inner.Glance.{Fine, class_of, doubled, glance_of};
 
 use crate::finding::Bounds;
 use word_opcodes::opcode::{Opcode54, OptionOpcode54};
@@ -26,7 +26,7 @@ fn double(upvalues: usize) -> usize
 
 // What the words of a function are held against.
 pub fn glance_of(bounds: Bounds) -> Glance
-    ensures { result ≡ glanceOf bounds }
+    ensures { result ≡ glance_of bounds }
 {
     let size = bounds.maxstacksize as u32;
     let upvalues = double(bounds.upvalues);

@@ -1,7 +1,7 @@
 // validator.rs, the loop's body in `validate_proto_lua54`: the findings of one instruction.
 ghost use Rattle.std.specs.Prelude.{◌≡◌, ◌++◌};
-ghost use Rattle.validate_rules.specs.Rules.{usesRegisterA, checkOf, operandRule, registerRule, brokenRule, jumpRule, ifAny, at, instruction};
-ghost use Rattle.validate_rules.specs.Inner.Judged.{group_of, asList, ruleOf};
+ghost use Rattle.validate_rules.specs.Rules.{uses_registerA, check_of, operand_rule, register_rule, broken_rule, jump_rule, if_any, at, instruction};
+ghost use Rattle.validate_rules.specs.Inner.Judged.{group_of, as_list, rule_of};
 
 use crate::finding::{Bounds, Finding, OptionFinding, Rule};
 use word_fields::instruction::RawInstruction54;
@@ -34,7 +34,7 @@ pub enum Judged {
 
 // Whether A is a register.
 fn uses_register_a(op: Opcode54) -> bool
-    ensures { result ≡ usesRegisterA op }
+    ensures { result ≡ uses_registerA op }
 {
     match op {
         Opcode54::Settabup
@@ -48,7 +48,7 @@ fn uses_register_a(op: Opcode54) -> bool
 
 // Which operand is checked. Ruled out: SETTABUP's B, LOADKX's Bx.
 fn check_of(op: Opcode54) -> Check
-    ensures { result ≡ checkOf op }
+    ensures { result ≡ check_of op }
 {
     match op {
         Opcode54::Loadk => Check::Constant,
@@ -63,7 +63,7 @@ fn check_of(op: Opcode54) -> Check
 
 // The rule, where an index is at or above its bound.
 fn broken(index: usize, bound: usize, rule: Rule) -> OptionRule
-    ensures { ruleOf result ≡ brokenRule index bound rule }
+    ensures { rule_of result ≡ broken_rule index bound rule }
 {
     if bound <= index {
         return OptionRule::Some(rule);
@@ -73,7 +73,7 @@ fn broken(index: usize, bound: usize, rule: Rule) -> OptionRule
 
 // The jump's target, where it is below 0 or not below the number of instructions. Ruled out: a jump to just behind the last one.
 fn jump_rule(pc: u32, sj: i32, count: u32) -> OptionRule
-    ensures { ruleOf result ≡ jumpRule pc sj count }
+    ensures { rule_of result ≡ jump_rule pc sj count }
 {
     let next = pc as u64 + 1;
     let target = next as i64 + sj as i64;
@@ -88,7 +88,7 @@ fn jump_rule(pc: u32, sj: i32, count: u32) -> OptionRule
 
 // The rule that A breaks as a register.
 fn register_rule(op: Opcode54, a: u8, maxstacksize: u8) -> OptionRule
-    ensures { ruleOf result ≡ registerRule op a maxstacksize }
+    ensures { rule_of result ≡ register_rule op a maxstacksize }
 {
     if uses_register_a(op) {
         return broken(a as usize, maxstacksize as usize, Rule::Register(a));
@@ -98,7 +98,7 @@ fn register_rule(op: Opcode54, a: u8, maxstacksize: u8) -> OptionRule
 
 // The rule that an operand breaks. Ruled out: an index equal to the length of its list taken.
 fn operand_rule(check: Check, raw: RawInstruction54, bounds: Bounds, pc: u32) -> OptionRule
-    ensures { ruleOf result ≡ operandRule check raw bounds pc }
+    ensures { rule_of result ≡ operand_rule check raw bounds pc }
 {
     match check {
         Check::Nothing => OptionRule::None,
@@ -113,7 +113,7 @@ fn operand_rule(check: Check, raw: RawInstruction54, bounds: Bounds, pc: u32) ->
 
 // The findings of two rules that an instruction may break.
 fn both(function: usize, pc: u32, first: OptionRule, second: OptionRule) -> Judged
-    ensures { group_of result ≡ at function pc (ifAny (ruleOf first) ++ ifAny (ruleOf second)) }
+    ensures { group_of result ≡ at function pc (if_any (rule_of first) ++ if_any (rule_of second)) }
 {
     let later = found(function, pc, second);
     match first {
@@ -127,7 +127,7 @@ fn both(function: usize, pc: u32, first: OptionRule, second: OptionRule) -> Judg
 
 // The finding of a rule that an instruction may break.
 fn found(function: usize, pc: u32, rule: OptionRule) -> OptionFinding
-    ensures { asList result ≡ at function pc (ifAny (ruleOf rule)) }
+    ensures { as_list result ≡ at function pc (if_any (rule_of rule)) }
 {
     match rule {
         OptionRule::Some(rule) => OptionFinding::Some(Finding { function, pc, rule }),

@@ -15,23 +15,23 @@ use Rattle.read_next.specs.declared.Row.{Row}
 use Rattle.read_next.specs.Inner.Rows.{rows_from}
 use Rattle.validate_rules.specs.declared.finding.Finding.{Finding}
 use Rattle.validate_search.specs.declared.scan.Code.{Code}
-use Rattle.validate_rules.proofs.FewFindings.{Few, few-code}
+use Rattle.validate_rules.proofs.FewFindings.{Few, few_code}
 use Rattle.format.specs.Reading.{Prototype, Reading}
-use Rattle.validate_rules.specs.Findings.{MAX-DIAGNOSTICS, bounds_of, codeGroups, groups, Listing, ended, prepend, limited, chunkFindings}
+use Rattle.validate_rules.specs.Findings.{MAX-DIAGNOSTICS, bounds_of, code_groups, groups, Listing, ended, prepend, limited, chunk_findings}
 use Rattle.validate_rules.specs.declared.finding.OptionFinding.{OptionFinding}
 use Rattle.validate_rules.specs.declared.finding.OptionFinding.TheVariants as finding
 use Rattle.validate_search.specs.declared.search.Position.{Position}
-use Rattle.validate_rules.specs.Inner.Judged.{asList}
-use Rattle.validate_search.specs.Inner.Position.{wordsAt, codeLeft, rowBounds, nextNumber, rowGroups, groupsLeft, goesOn, out_of}
+use Rattle.validate_rules.specs.Inner.Judged.{as_list}
+use Rattle.validate_search.specs.Inner.Position.{words_at, code_left, row_bounds, next_number, row_groups, groups_left, goes_on, out_of}
 
-few-rows : (s : Bytes) (k : ℕ) (rows : List Row) → All Few (rowGroups s k rows)
-unfolding rowGroups
-few-rows s k [] = tt
-few-rows s k (row ∷ rows) = (omega arith, all_append Few (codeGroups k (rowBounds row) (wordsAt s row.instructions row.instructions_at) 0) (rowGroups s (nextNumber k) rows) (few-code k (rowBounds row) _ 0) (few-rows s (nextNumber k) rows))
+few_rows : (s : Bytes) (k : ℕ) (rows : List Row) → All Few (row_groups s k rows)
+unfolding row_groups
+few_rows s k [] = tt
+few_rows s k (row ∷ rows) = (omega arith, all_append Few (code_groups k (row_bounds row) (words_at s row.instructions row.instructions_at) 0) (row_groups s (next_number k) rows) (few_code k (row_bounds row) _ 0) (few_rows s (next_number k) rows))
 
-pub few-left : (s : Bytes) (c : Code) (k : ℕ) (rows : List Row) → All Few (codeLeft s c ++ rowGroups s k rows)
-unfolding codeLeft
-few-left s c k rows = all_append Few (codeGroups c.function c.bounds (wordsAt s (c.bounds.instructions - c.pc) c.place.at) c.pc) (rowGroups s k rows) (few-code c.function c.bounds _ c.pc) (few-rows s k rows)
+pub few_left : (s : Bytes) (c : Code) (k : ℕ) (rows : List Row) → All Few (code_left s c ++ row_groups s k rows)
+unfolding code_left
+few_left s c k rows = all_append Few (code_groups c.function c.bounds (words_at s (c.bounds.instructions - c.pc) c.place.at) c.pc) (row_groups s k rows) (few_code c.function c.bounds _ c.pc) (few_rows s k rows)
 
 up_to : (max n : ℕ) (gs : List (List Finding)) → All Few gs → n ≤ max + 1 → length (limited max n gs).findings + n ≤ max + 1
 unfolding limited
@@ -56,23 +56,23 @@ at_most max n gs few = go (leb n (max + 1)) refl gs few
     go false e [] few = omega arith
     go false e (g ∷ gs) few = let more = leb-false n (max + 1) e in rw (le-leb max n (omega arith)) (omega arith)
 
-listed-one : (w : OptionFinding) → length (asList w) ≤ 1
+listed-one : (w : OptionFinding) → length (as_list w) ≤ 1
 listed-one finding.None = omega arith
 listed-one (finding.Some f) = omega arith
 
 -- for whatever position
-pub few-out : (L : ResourceLimits) (s : Bytes) (max : ℕ) (p : Position) → length (out_of L s max p).findings ≤ max + 2
+pub few_out : (L : ResourceLimits) (s : Bytes) (max : ℕ) (p : Position) → length (out_of L s max p).findings ≤ max + 2
 unfolding out_of
-few-out L s max p =
+few_out L s max p =
     let one = listed-one p.waiting in
-    let rest = at_most max p.found (groupsLeft L s p) (few-left s p.code p.number (rows_from L s p.left p.depth p.at.at)) in
-    omega (arith, length-append (asList p.waiting) (goesOn L s max p).findings)
+    let rest = at_most max p.found (groups_left L s p) (few_left s p.code p.number (rows_from L s p.left p.depth p.at.at)) in
+    omega (arith, length-append (as_list p.waiting) (goes_on L s max p).findings)
 
-few-groups : (k : ℕ) (ps : List Prototype) → All Few (groups k ps)
+few_groups : (k : ℕ) (ps : List Prototype) → All Few (groups k ps)
 unfolding groups
-few-groups k [] = tt
-few-groups k (p ∷ ps) = (omega arith, all_append Few (codeGroups k (bounds_of p) p.instructions 0) (groups (k + 1) ps) (few-code k (bounds_of p) p.instructions 0) (few-groups (k + 1) ps))
+few_groups k [] = tt
+few_groups k (p ∷ ps) = (omega arith, all_append Few (code_groups k (bounds_of p) p.instructions 0) (groups (k + 1) ps) (few_code k (bounds_of p) p.instructions 0) (few_groups (k + 1) ps))
 
-pub findings-few : (r : Reading) → length (chunkFindings r).findings ≤ 10001
-unfolding chunkFindings
-findings-few r = at_most MAX-DIAGNOSTICS (length r.warnings) (groups 0 r.functions) (few-groups 0 r.functions)
+pub findings_few : (r : Reading) → length (chunk_findings r).findings ≤ 10001
+unfolding chunk_findings
+findings_few r = at_most MAX-DIAGNOSTICS (length r.warnings) (groups 0 r.functions) (few_groups 0 r.functions)

@@ -1,6 +1,6 @@
 // The instructions of one function, up to the next that is not fine.
 ghost use Rattle.std.specs.Prelude.{◌≡◌, ◌+◌, length};
-ghost use Rattle.validate_search.specs.Inner.Position.{codeLeft, skip, scanned};
+ghost use Rattle.validate_search.specs.Inner.Position.{code_left, skip, scanned};
 
 use slice::cursor::{Cursor, remaining};
 use slice::little::u32_at;
@@ -26,7 +26,7 @@ pub enum Scanned {
 
 // The number behind that of the last instruction left: fewer than the function has where the file ends first.
 fn code_end(s: &[u8], c: Code) -> u32
-    ensures { result ≡ c.pc + length (codeLeft s.now c) }
+    ensures { result ≡ c.pc + length (code_left s.now c) }
 {
     let bounds = c.bounds;
     let size = bounds.instructions;
@@ -42,7 +42,7 @@ fn code_end(s: &[u8], c: Code) -> u32
 
 // The first instruction from here on that is not fine: most are seen to be at a glance. Ruled out: one that is passed over, the last one left out.
 pub fn scan(s: &[u8], c: Code) -> Scanned
-    ensures { skip (codeLeft s.now c) ≡ scanned s.now result }
+    ensures { skip (code_left s.now c) ≡ scanned s.now result }
 {
     let end = code_end(s, c);
     if end <= c.pc {

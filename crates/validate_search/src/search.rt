@@ -1,9 +1,9 @@
 // The findings of a chunk, one at a time, by value: a position goes in, and a finding and the next position come out.
 ghost use Rattle.std.specs.Prelude.{◌≡◌, ℕ, ◌<◌, ◌+◌, ◌≤◌, List, ◌||◌, ltb, length};
 ghost use Rattle.format.specs.Limits.{MOST};
-ghost use Rattle.validate_rules.specs.Inner.Judged.{asList};
+ghost use Rattle.validate_rules.specs.Inner.Judged.{as_list};
 ghost use Rattle.validate_search.specs.declared.search.State.TheVariants.{Done};
-ghost use Rattle.validate_search.specs.Inner.Position.{code_at, nextNumber, rowBounds, groupsLeft, anyLeft, ofRows, out_of, goesOn, stepped, startPosition};
+ghost use Rattle.validate_search.specs.Inner.Position.{code_at, next_number, row_bounds, groups_left, any_left, of_rows, out_of, goes_on, stepped, start_position};
 
 use crate::scan::{Code, Scanned, scan};
 use format::limits::ResourceLimits;
@@ -44,7 +44,7 @@ pub struct Step {
 
 // The number behind k. (It stays at the largest, which no chunk reaches.)
 fn next_number(k: usize) -> usize
-    ensures { result ≡ nextNumber k }
+    ensures { result ≡ next_number k }
 {
     if k < 18446744073709551615 {
         return k + 1;
@@ -55,7 +55,7 @@ fn next_number(k: usize) -> usize
 // What a function's instructions are held against.
 fn bounds_of(row: Row) -> Bounds
     requires { row.instructions ≤ MOST }
-    ensures { result ≡ rowBounds row }
+    ensures { result ≡ row_bounds row }
 {
     Bounds {
         maxstacksize: row.sizes.maxstacksize,
@@ -69,7 +69,7 @@ fn bounds_of(row: Row) -> Bounds
 // The number of diagnostics with one more and with what waits.
 fn counted(n: u64, w: OptionFinding) -> u64
     requires { n < 4294967296 }
-    ensures { result ≡ n + (1 + length (asList w)) }
+    ensures { result ≡ n + (1 + length (as_list w)) }
 {
     match w {
         OptionFinding::None => n + 1,
@@ -99,7 +99,7 @@ fn done(stopped: bool, p: Position) -> Step
 
 // Whether there is a function left.
 fn function_left(s: &[u8], limits: ResourceLimits, p: Position) -> bool
-    ensures { result ≡ anyLeft (ofRows limits s.now p) }
+    ensures { result ≡ any_left (of_rows limits s.now p) }
 {
     let left = p.left;
     let at = p.at;
@@ -108,7 +108,7 @@ fn function_left(s: &[u8], limits: ResourceLimits, p: Position) -> bool
 
 // Whether there is an instruction or a function left.
 fn any_left(s: &[u8], limits: ResourceLimits, p: Position) -> bool
-    ensures { result ≡ anyLeft (groupsLeft limits s.now p) }
+    ensures { result ≡ any_left (groups_left limits s.now p) }
 {
     let code = p.code;
     let bounds = code.bounds;
@@ -129,7 +129,7 @@ fn any_left(s: &[u8], limits: ResourceLimits, p: Position) -> bool
 // The next finding, where nothing waits and there is room for one.
 fn search(s: &[u8], limits: ResourceLimits, max: u32, p: Position) -> Step
     requires { (p.found < max) × (limits.max_total_instructions ≤ MOST) }
-    ensures { goesOn limits s.now max p ≡ stepped limits s.now max result }
+    ensures { goes_on limits s.now max p ≡ stepped limits s.now max result }
 {
     let mut left = p.left;
     let mut depth = p.depth;
@@ -170,7 +170,7 @@ fn search(s: &[u8], limits: ResourceLimits, max: u32, p: Position) -> Step
 // Before the first instruction of a function.
 fn enter(row: Row, function: usize) -> Code
     requires { row.instructions ≤ MOST }
-    ensures { result ≡ code_at (rowBounds row) function row.instructions_at 0 }
+    ensures { result ≡ code_at (row_bounds row) function row.instructions_at 0 }
 {
     let bounds = bounds_of(row);
     Code {
@@ -221,7 +221,7 @@ pub fn advance(s: &[u8], limits: ResourceLimits, max: u32, p: Position) -> Step
 
 // Whether a search that has reached the maximum stops: something is left, or there are more than that.
 fn stops(s: &[u8], limits: ResourceLimits, max: u32, p: Position) -> bool
-    ensures { result ≡ anyLeft (groupsLeft limits s.now p) || ltb max p.found }
+    ensures { result ≡ any_left (groups_left limits s.now p) || ltb max p.found }
 {
     if any_left(s, limits, p) {
         return true;
@@ -231,7 +231,7 @@ fn stops(s: &[u8], limits: ResourceLimits, max: u32, p: Position) -> bool
 
 // The position before everything: main is left at the top level, at a place, behind so many diagnostics.
 pub fn start(place: Cursor, kept: u64) -> Position
-    ensures { result ≡ startPosition place.at kept }
+    ensures { result ≡ start_position place.at kept }
 {
     let mut left = [0; COUNTS];
     left[0] = 1;

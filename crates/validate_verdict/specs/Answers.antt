@@ -5,12 +5,12 @@ use Rattle.validate_verdict.specs.declared.verdict.VerdictAnswer.{VerdictAnswer}
 use Rattle.validate_verdict.specs.declared.verdict.VerdictAnswer.TheVariants as verdicts
 use Rattle.validate_verdict.specs.declared.verdict.CountAnswer.{CountAnswer}
 use Rattle.validate_verdict.specs.declared.verdict.CountAnswer.TheVariants as counts
-use Rattle.validate_rules.specs.Findings.{chunkFindings, verdict}
+use Rattle.validate_rules.specs.Findings.{chunk_findings, verdict}
 
 abbrev pub shownVerdict : Outcome → VerdictAnswer
-shownVerdict (shown r) = verdicts.Ok (verdict (chunkFindings r))
+shownVerdict (shown r) = verdicts.Ok (verdict (chunk_findings r))
 shownVerdict (refusal q) = verdicts.Err q
 
 abbrev pub shownCount : Outcome → CountAnswer
-shownCount (shown r) = counts.Ok (length (chunkFindings r).findings)
+shownCount (shown r) = counts.Ok (length (chunk_findings r).findings)
 shownCount (refusal q) = counts.Err q

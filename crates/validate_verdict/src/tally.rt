@@ -3,8 +3,8 @@ ghost use Rattle.std.specs.Prelude.{◌≡◌, ◌||◌, ◌≤◌};
 ghost use Rattle.format.specs.Limits.{MOST};
 ghost use Rattle.validate_rules.specs.Rules as rules;
 ghost use Rattle.validate_rules.specs.Findings as findings;
-ghost use Rattle.validate_search.specs.Inner.Position.{out_of, startPosition};
-ghost use Rattle.validate_verdict.specs.Inner.Totals.{tallied, verdictShown};
+ghost use Rattle.validate_search.specs.Inner.Position.{out_of, start_position};
+ghost use Rattle.validate_verdict.specs.Inner.Totals.{tallied, verdict_shown};
 
 use format::limits::ResourceLimits;
 use slice::cursor::Cursor;
@@ -35,7 +35,7 @@ pub fn severity(rule: Rule) -> Severity
 
 // Whether there was an error, or the rule is one.
 fn or_error(before: bool, rule: Rule) -> bool
-    ensures { result ≡ before || findings.isError (rules.severity rule) }
+    ensures { result ≡ before || findings.is_error (rules.severity rule) }
 {
     if before {
         return true;
@@ -49,7 +49,7 @@ fn or_error(before: bool, rule: Rule) -> bool
 // All findings, one after the other.
 pub fn tally(s: &[u8], limits: ResourceLimits, max: u32, place: Cursor, kept: u64) -> Totals
     requires { limits.max_total_instructions ≤ MOST }
-    ensures { result ≡ tallied (out_of limits s.now max (startPosition place.at kept)) }
+    ensures { result ≡ tallied (out_of limits s.now max (start_position place.at kept)) }
 {
     let mut p = start(place, kept);
     let mut count = 0;
@@ -77,7 +77,7 @@ pub fn tally(s: &[u8], limits: ResourceLimits, max: u32, place: Cursor, kept: u6
 
 // The verdict on findings of which these are the totals. Ruled out: incomplete where an error was found, incomplete at the first finding.
 pub fn verdict_of(t: Totals) -> Verdict
-    ensures { result ≡ verdictShown t }
+    ensures { result ≡ verdict_shown t }
 {
     if t.errors {
         return Verdict::Invalid;

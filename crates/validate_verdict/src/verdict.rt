@@ -2,7 +2,7 @@
 ghost use Rattle.std.specs.Prelude.{◌≡◌, ◌<◌};
 ghost use Rattle.format.specs.ReadChunk as format;
 ghost use Rattle.validate_verdict.specs.Answers.{shownVerdict, shownCount};
-ghost use Rattle.validate_verdict.specs.Inner.Counts.{totalsResult, warningCount};
+ghost use Rattle.validate_verdict.specs.Inner.Counts.{totals_result, warning_count};
 
 use crate::tally::{Totals, tally, verdict_of};
 use format::limits::ResourceLimits;
@@ -33,7 +33,7 @@ pub enum CountAnswer {
 
 // How many of a reading's warnings were kept; and that its number of functions is one of 64 bits.
 pub fn kept_count(summary: Summary) -> u64
-    ensures { (result ≡ warningCount summary.warnings) × (summary.functions < 18446744073709551616) }
+    ensures { (result ≡ warning_count summary.warnings) × (summary.functions < 18446744073709551616) }
 {
     let warnings = summary.warnings;
     let second = warnings.second;
@@ -51,7 +51,7 @@ pub fn kept_count(summary: Summary) -> u64
 
 // All findings of a chunk, counted. The first pass judges, the second searches. Ruled out: dropped warnings that count.
 fn chunk_totals(s: &[u8], limits: ResourceLimits) -> TotalsResult
-    ensures { result ≡ totalsResult (format.read limits s.now) }
+    ensures { result ≡ totals_result (format.read limits s.now) }
 {
     let judged = judge_chunk(s, limits);
     match judged {

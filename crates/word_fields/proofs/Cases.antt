@@ -20,7 +20,7 @@ use Rattle.word_fields.specs.Word.{decoded, encoded}
 pub data Question : Type 0 where
   opcode_of : ℕ → Question
   word_of : RawInstruction54 → Question
-  backFrom : ℕ → Question
+  back_from : ℕ → Question
 
 pub data Answer : Type 0 where
   opcode : OptionOpcode54 → Answer
@@ -29,7 +29,7 @@ pub data Answer : Type 0 where
 abbrev pub answer : Question → Answer
 answer (opcode_of w) = opcode (decoded w).opcode
 answer (word_of r) = word (encoded r)
-answer (backFrom w) = word (encoded (decoded w))
+answer (back_from w) = word (encoded (decoded w))
 
 -- LOADI, A 1, sBx -1
 unfoldable pub loadi : RawInstruction54 → RawInstruction54
@@ -70,7 +70,7 @@ cases r =
     (word_of (loadi r), word (Word 0x7fff0081)) ∷
     (word_of (jmp r), word (Word 0x7fffff38)) ∷
     (opcode_of 0x00000053, opcode None) ∷
-    (backFrom 0x00000053, word (Refused NoOpcode)) ∷ []
+    (back_from 0x00000053, word (Refused NoOpcode)) ∷ []
 
 pub all_hold : (r : RawInstruction54) → map (λ c. answer c.0) (cases r) ≡ map (λ c. c.1) (cases r)
 unfolding cases loadi jmp decoded encoded

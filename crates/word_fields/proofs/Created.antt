@@ -20,11 +20,11 @@ use Rattle.word_fields.specs.declared.instruction.RawInstruction54.{RawInstructi
 use Rattle.word_fields.specs.declared.instruction.Encoded.{Encoded}
 use Rattle.word_fields.specs.declared.instruction.Encoded.TheVariants.{Word, Refused}
 use Rattle.word_fields.specs.declared.instruction.Unbiased.TheVariants.{In, Out}
-use Rattle.word_opcodes.specs.Lopcodes.{◌<<◌, ◌∣◌, cast-uint, CREATE-ABCk, CREATE-ABx, CREATE-Ax, CREATE-sJ}
+use Rattle.word_opcodes.specs.Lopcodes.{◌<<◌, ◌∣◌, cast_uint, CREATE-ABCk, CREATE-ABx, CREATE-Ax, CREATE-sJ}
 use Rattle.word_opcodes.specs.Lopcodes.{POS-OP, POS-A, POS-k, POS-B, POS-C, POS-Bx, POS-Ax, SIZE-OP, SIZE-A, SIZE-B, SIZE-C, SIZE-Bx, SIZE-Ax, SIZE-sJ}
 use Rattle.word_opcodes.specs.Lopcodes.{OFFSET-sBx, OFFSET-sJ}
 use Rattle.word_opcodes.specs.Table.{number_of, mode_of}
-use Rattle.word_fields.specs.Word.{at, unbiased, withUnbiased, encodedIABx, encodedIAx, byMode, encoded}
+use Rattle.word_fields.specs.Word.{at, unbiased, with_unbiased, encodedIABx, encodedIAx, by_mode, encoded}
 use Rattle.word_opcodes.proofs.Opcodes.{number_lt}
 use Rattle.word_fields.proofs.Words.{Built, add, chosen}
 
@@ -32,9 +32,9 @@ use Rattle.word_fields.proofs.Words.{Built, add, chosen}
 abbrev pub created : OpMode54 → ℕ → RawInstruction54 → ℕ
 created IABC o r = CREATE-ABCk o r.a r.b r.c r.k
 created IABx o r = CREATE-ABx o r.a r.bx
-created IAsBx o r = CREATE-ABx o r.a (cast-uint (r.sbx +ℤ pos OFFSET-sBx))
+created IAsBx o r = CREATE-ABx o r.a (cast_uint (r.sbx +ℤ pos OFFSET-sBx))
 created IAx o r = CREATE-Ax o r.ax
-created IsJ o r = CREATE-sJ o (cast-uint (r.sj +ℤ pos OFFSET-sJ)) 0
+created IsJ o r = CREATE-sJ o (cast_uint (r.sj +ℤ pos OFFSET-sJ)) 0
 
 -- A, B and C are bytes
 pub record Bytes (r : RawInstruction54) : Type 0 where
@@ -46,17 +46,17 @@ module _ (o : ℕ) (ho : o < 2 ^ SIZE-OP) where
   opcode : Built (o << POS-OP) o SIZE-OP
   opcode = record { is = omega arith; below = ho }
 
-  of-ax : (v : ℕ) → v < 2 ^ SIZE-Ax → CREATE-Ax o v ≡ o + at POS-Ax v
-  of-ax v hv = (add SIZE-Ax v opcode hv tt).is
+  of_ax : (v : ℕ) → v < 2 ^ SIZE-Ax → CREATE-Ax o v ≡ o + at POS-Ax v
+  of_ax v hv = (add SIZE-Ax v opcode hv tt).is
 
   module _ (a : ℕ) (ha : a < 2 ^ SIZE-A) where
-    of-abx : (v : ℕ) → v < 2 ^ SIZE-Bx → CREATE-ABx o a v ≡ o + at POS-A a + at POS-Bx v
-    of-abx v hv = (add SIZE-Bx v (add SIZE-A a opcode ha tt) hv tt).is
+    of_abx : (v : ℕ) → v < 2 ^ SIZE-Bx → CREATE-ABx o a v ≡ o + at POS-A a + at POS-Bx v
+    of_abx v hv = (add SIZE-Bx v (add SIZE-A a opcode ha tt) hv tt).is
 
     -- the macro has k last, below B and C: these and the bits below k are or-ed apart
-    of-abc : (b c k : ℕ) → b < 2 ^ SIZE-B → c < 2 ^ SIZE-C → k < 2
+    of_abc : (b c k : ℕ) → b < 2 ^ SIZE-B → c < 2 ^ SIZE-C → k < 2
         → CREATE-ABCk o a b c k ≡ o + at POS-A a + at POS-k k + at POS-B b + at POS-C c
-    of-abc b c k hb hc hk =
+    of_abc b c k hb hc hk =
         let low = add SIZE-A a opcode ha tt in
         let s = o + at POS-A a in
         let wide : Built ((o << POS-OP) ∣ (a << POS-A)) s POS-B = record { is = low.is; below = omega (arith, low.below) } in
@@ -74,13 +74,13 @@ picked true s e = (refl, cc)
 picked false s e = let z : ◌≡◌ {A = ℕ} 0 1 = cc in absurd (omega arith)
 
 -- with a signed field in it
-unpicked : (z : ℤ) (limit : ℕ) (f : ℕ → Encoded) {w : ℕ} → withUnbiased (unbiased z limit) f ≡ Word w → (n : ℕ) × (z ≡ pos n) × (f n ≡ Word w)
+unpicked : (z : ℤ) (limit : ℕ) (f : ℕ → Encoded) {w : ℕ} → with_unbiased (unbiased z limit) f ≡ Word w → (n : ℕ) × (z ≡ pos n) × (f n ≡ Word w)
 unpicked (pos n) limit f {w} e = go (ltb n limit) refl
   where
     go : (t : Bool) → ltb n limit ≡ t → (m : ℕ) × (pos n ≡ pos m) × (f m ≡ Word w)
-    go true s = (n, refl, sym (ap (λ x. withUnbiased (cond x (In n) Out) f) s) ∙ e)
+    go true s = (n, refl, sym (ap (λ x. with_unbiased (cond x (In n) Out) f) s) ∙ e)
     go false s =
-        let none : Refused FieldRange ≡ Word w = sym (ap (λ x. withUnbiased (cond x (In n) Out) f) s) ∙ e in
+        let none : Refused FieldRange ≡ Word w = sym (ap (λ x. with_unbiased (cond x (In n) Out) f) s) ∙ e in
         let z : ◌≡◌ {A = ℕ} 0 1 = cc in
         absurd (omega arith)
 unpicked (negsuc n) limit f e = let z : ◌≡◌ {A = ℕ} 0 1 = cc in absurd (omega arith)
@@ -89,33 +89,33 @@ module _ (o : Opcode54) where
   low : number_of o < 2 ^ SIZE-OP
   low = omega (arith, number_lt o)
 
-  is-abx : {w : ℕ} (a v : ℕ) → a < 2 ^ 8 → encodedIABx o a v ≡ Word w → (w ≡ CREATE-ABx (number_of o) a v) × (v < 2 ^ SIZE-Bx)
-  is-abx a v ha e =
+  is_abx : {w : ℕ} (a v : ℕ) → a < 2 ^ 8 → encodedIABx o a v ≡ Word w → (w ≡ CREATE-ABx (number_of o) a v) × (v < 2 ^ SIZE-Bx)
+  is_abx a v ha e =
       let p = picked (ltb v (2 ^ SIZE-Bx)) _ e in
       let hv = ltb-true v (2 ^ SIZE-Bx) p.0 in
-      (sym (of-abx (number_of o) low a ha v hv ∙ p.1), hv)
+      (sym (of_abx (number_of o) low a ha v hv ∙ p.1), hv)
 
-  is-ax : {w : ℕ} (v : ℕ) → encodedIAx o v ≡ Word w → (w ≡ CREATE-Ax (number_of o) v) × (v < 2 ^ SIZE-Ax)
-  is-ax v e =
+  is_ax : {w : ℕ} (v : ℕ) → encodedIAx o v ≡ Word w → (w ≡ CREATE-Ax (number_of o) v) × (v < 2 ^ SIZE-Ax)
+  is_ax v e =
       let p = picked (ltb v (2 ^ SIZE-Ax)) _ e in
       let hv = ltb-true v (2 ^ SIZE-Ax) p.0 in
-      (sym (of-ax (number_of o) low v hv ∙ p.1), hv)
+      (sym (of_ax (number_of o) low v hv ∙ p.1), hv)
 
-  by_mode : {w : ℕ} (r : RawInstruction54) → Bytes r → (m : OpMode54) → byMode m o r ≡ Word w → w ≡ created m (number_of o) r
-  by_mode r h IABC e =
+  by_mode_lem : {w : ℕ} (r : RawInstruction54) → Bytes r → (m : OpMode54) → by_mode m o r ≡ Word w → w ≡ created m (number_of o) r
+  by_mode_lem r h IABC e =
       let p = picked (ltb r.k 2) _ e in
-      sym (of-abc (number_of o) low r.a h.a r.b r.c r.k h.b h.c (ltb-true r.k 2 p.0) ∙ p.1)
-  by_mode r h IABx e = (is-abx r.a r.bx h.a e).0
-  by_mode r h IAsBx e =
+      sym (of_abc (number_of o) low r.a h.a r.b r.c r.k h.b h.c (ltb-true r.k 2 p.0) ∙ p.1)
+  by_mode_lem r h IABx e = (is_abx r.a r.bx h.a e).0
+  by_mode_lem r h IAsBx e =
       let u = unpicked (r.sbx +ℤ pos OFFSET-sBx) (2 ^ SIZE-Bx) (encodedIABx o r.a) e in
-      let p = is-abx r.a u.0 h.a u.2 in
-      p.0 ∙ ap (CREATE-ABx (number_of o) r.a) (sym (ap cast-uint u.1 ∙ mod-eq_of_lt (omega arith)))
-  by_mode r h IAx e = (is-ax r.ax e).0
-  by_mode r h IsJ e =
+      let p = is_abx r.a u.0 h.a u.2 in
+      p.0 ∙ ap (CREATE-ABx (number_of o) r.a) (sym (ap cast_uint u.1 ∙ mod-eq_of_lt (omega arith)))
+  by_mode_lem r h IAx e = (is_ax r.ax e).0
+  by_mode_lem r h IsJ e =
       let u = unpicked (r.sj +ℤ pos OFFSET-sJ) (2 ^ SIZE-sJ) (encodedIAx o) e in
-      let p = is-ax u.0 u.2 in
+      let p = is_ax u.0 u.2 in
       p.0 ∙ sym (or_zero_r (CREATE-Ax (number_of o) u.0))
-      ∙ ap (λ v. CREATE-sJ (number_of o) v 0) (sym (ap cast-uint u.1 ∙ mod-eq_of_lt (omega arith)))
+      ∙ ap (λ v. CREATE-sJ (number_of o) v 0) (sym (ap cast_uint u.1 ∙ mod-eq_of_lt (omega arith)))
 
 pub words : (r : RawInstruction54) → Bytes r → (o : Opcode54) (w : ℕ) → r.opcode ≡ Some o → encoded r ≡ Word w → w ≡ created (mode_of o) (number_of o) r
-words r h o w f e = by_mode o r h (mode_of o) (chosen r f refl refl refl ∙ e)
+words r h o w f e = by_mode_lem o r h (mode_of o) (chosen r f refl refl refl ∙ e)

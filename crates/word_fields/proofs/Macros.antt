@@ -12,14 +12,14 @@ use Rattle.word_opcodes.specs.Lopcodes.{POS-OP, POS-A, POS-k, POS-B, POS-C, POS-
 use Rattle.word_opcodes.specs.Lopcodes.{SIZE-OP, SIZE-A, SIZE-B, SIZE-C, SIZE-Bx, SIZE-Ax, SIZE-sJ, OFFSET-sC, OFFSET-sBx, OFFSET-sJ}
 use Rattle.word_opcodes.specs.Lopcodes.{MASK1, getarg, GET-OPCODE, GETARG-A, GETARG-k, GETARG-B, GETARG-sB, GETARG-C, GETARG-sC}
 use Rattle.word_opcodes.specs.Lopcodes.{GETARG-Bx, GETARG-sBx, GETARG-Ax, GETARG-sJ}
-use Rattle.word_opcodes.specs.Table.{opcodeAt}
+use Rattle.word_opcodes.specs.Table.{opcode_at}
 use Rattle.word_fields.specs.Word.{bits, decoded}
 use Rattle.word_opcodes.proofs.Tests.{at}
 
-abbrev pub byMacros : ℕ → RawInstruction54
-byMacros i = record {
+abbrev pub by_macros : ℕ → RawInstruction54
+by_macros i = record {
   opcode_num = GET-OPCODE i;
-  opcode = opcodeAt (GET-OPCODE i);
+  opcode = opcode_at (GET-OPCODE i);
   a = GETARG-A i;
   k = GETARG-k i;
   b = GETARG-B i;
@@ -40,12 +40,12 @@ mask n h = eqb→eq _ _ (at 33 (λ n. eqb (MASK1 n 0) (2 ^ n - 1)) tt n h)
 pub read : (i p n : ℕ) → n < 33 → bits p n i ≡ getarg i p n
 read i p n h = sym (ap (bit_and (i / 2 ^ p)) (mask n h) ∙ and_mask (i / 2 ^ p) n)
 
-pub fields : (i : ℕ) → decoded i ≡ byMacros i
+pub fields : (i : ℕ) → decoded i ≡ by_macros i
 unfolding decoded
 fields i =
     λ t. record {
       opcode_num = read i POS-OP SIZE-OP (lit< tt) t;
-      opcode = opcodeAt (read i POS-OP SIZE-OP (lit< tt) t);
+      opcode = opcode_at (read i POS-OP SIZE-OP (lit< tt) t);
       a = read i POS-A SIZE-A (lit< tt) t;
       k = read i POS-k 1 (lit< tt) t;
       b = read i POS-B SIZE-B (lit< tt) t;

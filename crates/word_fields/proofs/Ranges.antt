@@ -21,7 +21,7 @@ use Rattle.word_fields.specs.declared.instruction.Encoded.TheVariants.{Word, Ref
 use Rattle.word_fields.specs.declared.instruction.Unbiased.{Unbiased}
 use Rattle.word_fields.specs.declared.instruction.Unbiased.TheVariants.{In, Out}
 use Rattle.word_opcodes.specs.Table.{mode_of}
-use Rattle.word_fields.specs.Word.{unbiased, withUnbiased, encodedIABx, encodedIAx, byMode, encoded}
+use Rattle.word_fields.specs.Word.{unbiased, with_unbiased, encodedIABx, encodedIAx, by_mode, encoded}
 use Rattle.word_fields.proofs.Words.{chosen}
 
 -- k is 0 or 1. `negsuc n` is -(n + 1)
@@ -32,53 +32,53 @@ in_range IAsBx r = le_z (negsuc 65534) r.sbx && le_z r.sbx (pos 65536)
 in_range IAx r = ltb r.ax (2 ^ 25)
 in_range IsJ r = le_z (negsuc 16777214) r.sj && le_z r.sj (pos 16777216)
 
-abbrev pub isWord : Encoded → Bool
-isWord (Word w) = true
-isWord (Refused x) = false
+abbrev pub is_word : Encoded → Bool
+is_word (Word w) = true
+is_word (Refused x) = false
 
-abbrev isIn : Unbiased → Bool
-isIn (In n) = true
-isIn Out = false
+abbrev is_in : Unbiased → Bool
+is_in (In n) = true
+is_in Out = false
 
-of-pick : (t : Bool) (n : ℕ) → isIn (cond t (In n) Out) ≡ t
-of-pick true n = refl
-of-pick false n = refl
+of_pick : (t : Bool) (n : ℕ) → is_in (cond t (In n) Out) ≡ t
+of_pick true n = refl
+of_pick false n = refl
 
 -- an offset k + 1 and twice as many numbers reach from -(k + 1) to k + 2
-signed : (k : ℕ) (z : ℤ) → isIn (unbiased (z +ℤ pos (suc k)) (suc k + suc k + 2)) ≡ le_z (negsuc k) z && le_z z (pos (suc k + 1))
-signed k (pos n) = of-pick (ltb (n + suc k) (suc k + suc k + 2)) (n + suc k) ∙ go (leb n (suc k + 1)) refl
+signed : (k : ℕ) (z : ℤ) → is_in (unbiased (z +ℤ pos (suc k)) (suc k + suc k + 2)) ≡ le_z (negsuc k) z && le_z z (pos (suc k + 1))
+signed k (pos n) = of_pick (ltb (n + suc k) (suc k + suc k + 2)) (n + suc k) ∙ go (leb n (suc k + 1)) refl
   where
     go : (t : Bool) → leb n (suc k + 1) ≡ t → ltb (n + suc k) (suc k + suc k + 2) ≡ leb n (suc k + 1)
     go true e = lt-ltb (n + suc k) (suc k + suc k + 2) (omega (arith, leb-true n (suc k + 1) e)) ∙ sym e
     go false e = le-ltb (n + suc k) (suc k + suc k + 2) (omega (arith, leb-false n (suc k + 1) e)) ∙ sym e
 signed k (negsuc n) = go (leb n k) refl
   where
-    go : (t : Bool) → leb n k ≡ t → isIn (unbiased (sub_ℕ (suc k) (suc n)) (suc k + suc k + 2)) ≡ leb n k && true
+    go : (t : Bool) → leb n k ≡ t → is_in (unbiased (sub_ℕ (suc k) (suc n)) (suc k + suc k + 2)) ≡ leb n k && true
     go true e =
         let h : n ≤ k = leb-true n k e in
         rw (le-ltb (suc k) (suc n) (omega arith), e)
-        (of-pick (ltb (suc k - suc n) (suc k + suc k + 2)) (suc k - suc n) ∙ lt-ltb (suc k - suc n) (suc k + suc k + 2) (omega arith))
+        (of_pick (ltb (suc k - suc n) (suc k + suc k + 2)) (suc k - suc n) ∙ lt-ltb (suc k - suc n) (suc k + suc k + 2) (omega arith))
     go false e = rw (lt-ltb (suc k) (suc n) (omega (arith, leb-false n k e)), e)
 
 -- what is handed on makes a word
-handed : (z : ℤ) (limit : ℕ) (f : ℕ → Encoded) → ((n : ℕ) → isWord (f n) ≡ ltb n limit) → isWord (withUnbiased (unbiased z limit) f) ≡ isIn (unbiased z limit)
+handed : (z : ℤ) (limit : ℕ) (f : ℕ → Encoded) → ((n : ℕ) → is_word (f n) ≡ ltb n limit) → is_word (with_unbiased (unbiased z limit) f) ≡ is_in (unbiased z limit)
 handed (pos n) limit f h = go (ltb n limit) refl
   where
-    go : (t : Bool) → ltb n limit ≡ t → isWord (withUnbiased (cond (ltb n limit) (In n) Out) f) ≡ isIn (cond (ltb n limit) (In n) Out)
+    go : (t : Bool) → ltb n limit ≡ t → is_word (with_unbiased (cond (ltb n limit) (In n) Out) f) ≡ is_in (cond (ltb n limit) (In n) Out)
     go true e = rw e (h n ∙ e)
     go false e = rw e
 handed (negsuc n) limit f h = refl
 
-of_word : (t : Bool) (s : ℕ) → isWord (cond t (Word s) (Refused FieldRange)) ≡ t
+of_word : (t : Bool) (s : ℕ) → is_word (cond t (Word s) (Refused FieldRange)) ≡ t
 of_word true s = refl
 of_word false s = refl
 
-by_mode : (m : OpMode54) (o : Opcode54) (r : RawInstruction54) → isWord (byMode m o r) ≡ in_range m r
-by_mode IABC o r = of_word (ltb r.k 2) _
-by_mode IABx o r = of_word (ltb r.bx 131072) _
-by_mode IAsBx o r = handed (r.sbx +ℤ pos 65535) 131072 (encodedIABx o r.a) (λ n. of_word (ltb n 131072) _) ∙ signed 65534 r.sbx
-by_mode IAx o r = of_word (ltb r.ax (2 ^ 25)) _
-by_mode IsJ o r = handed (r.sj +ℤ pos 16777215) (2 ^ 25) (encodedIAx o) (λ n. of_word (ltb n (2 ^ 25)) _) ∙ signed 16777214 r.sj
+by_mode_lem : (m : OpMode54) (o : Opcode54) (r : RawInstruction54) → is_word (by_mode m o r) ≡ in_range m r
+by_mode_lem IABC o r = of_word (ltb r.k 2) _
+by_mode_lem IABx o r = of_word (ltb r.bx 131072) _
+by_mode_lem IAsBx o r = handed (r.sbx +ℤ pos 65535) 131072 (encodedIABx o r.a) (λ n. of_word (ltb n 131072) _) ∙ signed 65534 r.sbx
+by_mode_lem IAx o r = of_word (ltb r.ax (2 ^ 25)) _
+by_mode_lem IsJ o r = handed (r.sj +ℤ pos 16777215) (2 ^ 25) (encodedIAx o) (λ n. of_word (ltb n (2 ^ 25)) _) ∙ signed 16777214 r.sj
 
-pub ranges : (r : RawInstruction54) (o : Opcode54) → r.opcode ≡ Some o → isWord (encoded r) ≡ in_range (mode_of o) r
-ranges r o f = ap isWord (sym (chosen r f refl refl refl)) ∙ by_mode (mode_of o) o r
+pub ranges : (r : RawInstruction54) (o : Opcode54) → r.opcode ≡ Some o → is_word (encoded r) ≡ in_range (mode_of o) r
+ranges r o f = ap is_word (sym (chosen r f refl refl refl)) ∙ by_mode_lem (mode_of o) o r

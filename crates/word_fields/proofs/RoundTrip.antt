@@ -25,7 +25,7 @@ use Rattle.word_opcodes.specs.Lopcodes.{POS-OP, POS-A, POS-k, POS-B, POS-C, POS-
 use Rattle.word_opcodes.specs.Lopcodes.{SIZE-OP, SIZE-A, SIZE-B, SIZE-C, SIZE-Bx, SIZE-Ax, SIZE-sJ}
 use Rattle.word_opcodes.specs.Lopcodes.{OFFSET-sBx, OFFSET-sJ}
 use Rattle.word_opcodes.specs.Table.{opcodes, number_of, mode_of}
-use Rattle.word_fields.specs.Word.{at, bits, unbiased, withUnbiased, encodedIABx, encodedIAx, byMode, byOpcode, decoded, encoded}
+use Rattle.word_fields.specs.Word.{at, bits, unbiased, with_unbiased, encodedIABx, encodedIAx, by_mode, by_opcode, decoded, encoded}
 use Rattle.word_opcodes.proofs.Opcodes.{number_at}
 use Rattle.word_fields.proofs.Words.{low_bits, chosen}
 
@@ -38,13 +38,13 @@ module _ (w : ℕ) (fits : w < 2 ^ 32) where
     lowest : number_of o ≡ w % 2 ^ SIZE-OP
     lowest = no ∙ ap (λ x. x % 2 ^ SIZE-OP) (div-one w)
 
-    with-a : number_of o + at POS-A (bits POS-A SIZE-A w) ≡ w % 2 ^ POS-k
-    with-a = ap (λ x. x + at POS-A (bits POS-A SIZE-A w)) lowest ∙ low_bits POS-A SIZE-A w
+    with_a : number_of o + at POS-A (bits POS-A SIZE-A w) ≡ w % 2 ^ POS-k
+    with_a = ap (λ x. x + at POS-A (bits POS-A SIZE-A w)) lowest ∙ low_bits POS-A SIZE-A w
 
     abc : number_of o + at POS-A (bits POS-A SIZE-A w) + at POS-k (bits POS-k 1 w) + at POS-B (bits POS-B SIZE-B w) + at POS-C (bits POS-C SIZE-C w)
         ≡ w
     abc =
-        ap (λ x. x + at POS-k (bits POS-k 1 w) + at POS-B (bits POS-B SIZE-B w) + at POS-C (bits POS-C SIZE-C w)) with-a
+        ap (λ x. x + at POS-k (bits POS-k 1 w) + at POS-B (bits POS-B SIZE-B w) + at POS-C (bits POS-C SIZE-C w)) with_a
         ∙ ap (λ x. x + at POS-B (bits POS-B SIZE-B w) + at POS-C (bits POS-C SIZE-C w)) (low_bits POS-k 1 w)
         ∙ ap (λ x. x + at POS-C (bits POS-C SIZE-C w)) (low_bits POS-B SIZE-B w)
         ∙ low_bits POS-C SIZE-C w
@@ -53,7 +53,7 @@ module _ (w : ℕ) (fits : w < 2 ^ 32) where
     abx : encodedIABx o (bits POS-A SIZE-A w) (bits POS-Bx SIZE-Bx w) ≡ Word w
     abx =
         rw (small POS-Bx SIZE-Bx w)
-        (ap Word (ap (λ x. x + at POS-Bx (bits POS-Bx SIZE-Bx w)) with-a ∙ low_bits POS-Bx SIZE-Bx w ∙ mod-eq_of_lt fits))
+        (ap Word (ap (λ x. x + at POS-Bx (bits POS-Bx SIZE-Bx w)) with_a ∙ low_bits POS-Bx SIZE-Bx w ∙ mod-eq_of_lt fits))
 
     ax : encodedIAx o (bits POS-Ax SIZE-Ax w) ≡ Word w
     ax =
@@ -62,12 +62,12 @@ module _ (w : ℕ) (fits : w < 2 ^ 32) where
 
     -- a signed field, with its offset taken off and added again
     signed : (p n offset : ℕ) (f : ℕ → Encoded)
-        → withUnbiased (unbiased (pos (bits p n w) -ℤ pos offset +ℤ pos offset) (2 ^ n)) f ≡ f (bits p n w)
+        → with_unbiased (unbiased (pos (bits p n w) -ℤ pos offset +ℤ pos offset) (2 ^ n)) f ≡ f (bits p n w)
     signed p n offset f =
-        ap (λ z. withUnbiased (unbiased z (2 ^ n)) f) (-ℤ-+ℤ_cancel (pos (bits p n w)) (pos offset))
-        ∙ ap (λ t. withUnbiased (cond t (In (bits p n w)) Out) f) (small p n w)
+        ap (λ z. with_unbiased (unbiased z (2 ^ n)) f) (-ℤ-+ℤ_cancel (pos (bits p n w)) (pos offset))
+        ∙ ap (λ t. with_unbiased (cond t (In (bits p n w)) Out) f) (small p n w)
 
-    back : (m : OpMode54) → byMode m o (decoded w) ≡ Word w
+    back : (m : OpMode54) → by_mode m o (decoded w) ≡ Word w
     unfolding decoded
     back IABC = rw (small POS-k 1 w) (ap Word abc)
     back IABx = abx
@@ -95,7 +95,7 @@ module _ (w : ℕ) (fits : w < 2 ^ 32) where
       go true s = omega (arith, ltb-true num 83 s)
       go false s =
           let refused : Refused NoOpcode ≡ Word w
-          = sym (ap (λ t. byOpcode (cond t (Some (get_or opcodes num Move)) None) (decoded w)) s) ∙ e in
+          = sym (ap (λ t. by_opcode (cond t (Some (get_or opcodes num Move)) None) (decoded w)) s) ∙ e in
           let z : ◌≡◌ {A = ℕ} 0 1 = cc in
           absurd (omega arith)
 

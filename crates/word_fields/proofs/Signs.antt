@@ -1,8 +1,8 @@
 -- Signed fields, as the machine has them.
---     mask-signed, less-fits, less-is      n bits of w, less an offset, fit an i32, and it is their number less the offset
+--     mask_signed, less_fits, less_is      n bits of w, less an offset, fit an i32, and it is their number less the offset
 --     wide_fits, sum_fits      the sum of two i32 fits an i64
---     natural, negative, in-range, too_large       what `unbiased` is of it, by the tests on it
---     signed-field     what a field is coded as, by what `unbias` answers
+--     natural, negative, in_range_lem, too_large       what `unbiased` is of it, by the tests on it
+--     signed_field     what a field is coded as, by what `unbias` answers
 -- Assumes nothing.
 use mathlib.Core.Path.{◌≡◌, refl, sym, ap, ap₂, ◌∙◌}
 use mathlib.Core.Bool.{Bool, true, false, true≢false}
@@ -21,7 +21,7 @@ use borrow.Author.Tests.{ltb-true, lt-ltb, le-ltb}
 use Rattle.word_fields.specs.declared.instruction.Encoded.{Encoded}
 use Rattle.word_fields.specs.declared.instruction.Unbiased.{Unbiased}
 use Rattle.word_fields.specs.declared.instruction.Unbiased.TheVariants.{In, Out}
-use Rattle.word_fields.specs.Word.{unbiased, withUnbiased}
+use Rattle.word_fields.specs.Word.{unbiased, with_unbiased}
 
 -- a less b + 1, of two numbers below 2 ^ 31
 apart : (a b : ℕ) → a < 2 ^ 31 → b < 2 ^ 31 → mag (sub_ℕ a (suc b)) < 2 ^ 31
@@ -36,16 +36,16 @@ module _ (w n : ℕ) (few : T (leb n 31)) where
   small : bit_and w (2 ^ n - 1) < 2 ^ 31
   small = lt_of_lt_of_le (mask_lt w n) (pow_mono (leb→le n 31 few))
 
-  pub mask-signed : SFits w32 (pos (bit_and w (2 ^ n - 1)))
-  mask-signed = record { sfits = small }
+  pub mask_signed : SFits w32 (pos (bit_and w (2 ^ n - 1)))
+  mask_signed = record { sfits = small }
 
 module _ (w n m : ℕ) (few : T (leb n 31)) (hm : m < 2 ^ 31) where
-  pub less-fits : SFits w32 (to_z w32 (bit_and w (2 ^ n - 1)) -ℤ pos (suc m))
-  less-fits = rw (to_z_pos w32 (small w n few)) (record { sfits = apart (bit_and w (2 ^ n - 1)) m (small w n few) hm })
+  pub less_fits : SFits w32 (to_z w32 (bit_and w (2 ^ n - 1)) -ℤ pos (suc m))
+  less_fits = rw (to_z_pos w32 (small w n few)) (record { sfits = apart (bit_and w (2 ^ n - 1)) m (small w n few) hm })
 
-  pub less-is : to_z w32 (of_z w32 (to_z w32 (bit_and w (2 ^ n - 1)) -ℤ pos (suc m))) ≡ pos (w % 2 ^ n) -ℤ pos (suc m)
-  less-is =
-      to_z-of_z {w = w32} less-fits
+  pub less_is : to_z w32 (of_z w32 (to_z w32 (bit_and w (2 ^ n - 1)) -ℤ pos (suc m))) ≡ pos (w % 2 ^ n) -ℤ pos (suc m)
+  less_is =
+      to_z-of_z {w = w32} less_fits
       ∙ ap (λ (z : ℤ). z -ℤ pos (suc m)) (to_z_pos w32 (small w n few) ∙ ap pos (and_mask w n))
 
 -- ---- the sum of two i32, in 64 bits
@@ -76,13 +76,13 @@ pub not_negative : (z : ℤ) → lt_z z (pos 0) ≡ false → T (non_neg z)
 not_negative (pos n) e = tt
 not_negative (negsuc n) e = absurd (true≢false e)
 
-below-limit : (z : ℤ) (limit : ℕ) → lt_z z (pos 0) ≡ false → nat_abs z < limit → In (nat_abs z) ≡ unbiased z limit
-below-limit (pos n) limit e h = simp (lt-ltb n limit h)
-below-limit (negsuc n) limit e h = absurd (true≢false e)
+below_limit : (z : ℤ) (limit : ℕ) → lt_z z (pos 0) ≡ false → nat_abs z < limit → In (nat_abs z) ≡ unbiased z limit
+below_limit (pos n) limit e h = simp (lt-ltb n limit h)
+below_limit (negsuc n) limit e h = absurd (true≢false e)
 
-from-limit : (z : ℤ) (limit : ℕ) → lt_z z (pos 0) ≡ false → limit ≤ nat_abs z → Out ≡ unbiased z limit
-from-limit (pos n) limit e h = simp (le-ltb n limit h)
-from-limit (negsuc n) limit e h = absurd (true≢false e)
+from_limit : (z : ℤ) (limit : ℕ) → lt_z z (pos 0) ≡ false → limit ≤ nat_abs z → Out ≡ unbiased z limit
+from_limit (pos n) limit e h = simp (le-ltb n limit h)
+from_limit (negsuc n) limit e h = absurd (true≢false e)
 
 module _ {z k : ℤ} (h : SFits w32 z) (g : SFits w32 k) where
   pub sum_fits : SFits w64 (wide z +ℤ wide k)
@@ -104,14 +104,14 @@ module _ {z k : ℤ} (h : SFits w32 z) (g : SFits w32 k) where
     pub negative : lt_z (total z k) (pos 0) ≡ true → Out ≡ unbiased (z +ℤ k) limit
     negative e = below-zero (total z k) limit e ∙ same
 
-    pub in-range : lt_z (total z k) (pos 0) ≡ false → nat_abs (total z k) < limit → In (nat_abs (total z k)) ≡ unbiased (z +ℤ k) limit
-    in-range e l = below-limit (total z k) limit e l ∙ same
+    pub in_range_lem : lt_z (total z k) (pos 0) ≡ false → nat_abs (total z k) < limit → In (nat_abs (total z k)) ≡ unbiased (z +ℤ k) limit
+    in_range_lem e l = below_limit (total z k) limit e l ∙ same
 
     pub too_large : lt_z (total z k) (pos 0) ≡ false → limit ≤ nat_abs (total z k) → Out ≡ unbiased (z +ℤ k) limit
-    too_large e l = from-limit (total z k) limit e l ∙ same
+    too_large e l = from_limit (total z k) limit e l ∙ same
 
 -- ---- by what `unbias` answers, u: the match says that it is v
-pub signed-field : {z : ℤ} → SFits w32 z → (offset limit : ℕ) (f : ℕ → Encoded) {u v : Unbiased}
-    → u ≡ unbiased (to_z w32 (of_z w32 z) +ℤ pos offset) limit → u ≡ v → withUnbiased v f ≡ withUnbiased (unbiased (z +ℤ pos offset) limit) f
-signed-field h offset limit f answered told =
-    ap (λ x. withUnbiased x f) (sym told ∙ answered ∙ ap (λ z. unbiased (z +ℤ pos offset) limit) (to_z-of_z {w = w32} h))
+pub signed_field : {z : ℤ} → SFits w32 z → (offset limit : ℕ) (f : ℕ → Encoded) {u v : Unbiased}
+    → u ≡ unbiased (to_z w32 (of_z w32 z) +ℤ pos offset) limit → u ≡ v → with_unbiased v f ≡ with_unbiased (unbiased (z +ℤ pos offset) limit) f
+signed_field h offset limit f answered told =
+    ap (λ x. with_unbiased x f) (sym told ∙ answered ∙ ap (λ z. unbiased (z +ℤ pos offset) limit) (to_z-of_z {w = w32} h))

@@ -18,7 +18,7 @@ use Rattle.word_opcodes.specs.declared.opcode.OpMode54.{OpMode54}
 use Rattle.word_fields.specs.declared.instruction.RawInstruction54.{RawInstruction54}
 use Rattle.word_fields.specs.declared.instruction.Encoded.{Encoded}
 use Rattle.word_opcodes.specs.Table.{mode_of}
-use Rattle.word_fields.specs.Word.{at, bits, byMode, byOpcode, encoded}
+use Rattle.word_fields.specs.Word.{at, bits, by_mode, by_opcode, encoded}
 
 pub record Built (x s p : ℕ) : Type 0 where
   pub is : x ≡ s
@@ -41,20 +41,20 @@ module _ (o : ℕ) (ho : o < 2 ^ SIZE-OP) where
   ax v hv = (add SIZE-Ax v opcode hv tt).is
 
   module _ (a : ℕ) (ha : a < 2 ^ SIZE-A) where
-    with-a : Built (o ∣ (a << POS-A)) (o + at POS-A a) POS-k
-    with-a = add SIZE-A a opcode ha tt
+    with_a : Built (o ∣ (a << POS-A)) (o + at POS-A a) POS-k
+    with_a = add SIZE-A a opcode ha tt
 
     pub abx : (v : ℕ) → v < 2 ^ SIZE-Bx → o ∣ (a << POS-A) ∣ (v << POS-Bx) ≡ o + at POS-A a + at POS-Bx v
-    abx v hv = (add SIZE-Bx v with-a hv tt).is
+    abx v hv = (add SIZE-Bx v with_a hv tt).is
 
     pub abc : (k b c : ℕ) → k < 2 → b < 2 ^ SIZE-B → c < 2 ^ SIZE-C
         → o ∣ (a << POS-A) ∣ (k << POS-k) ∣ (b << POS-B) ∣ (c << POS-C) ≡ o + at POS-A a + at POS-k k + at POS-B b + at POS-C c
-    abc k b c hk hb hc = (add SIZE-C c (add SIZE-B b (add 1 k with-a hk tt) hb tt) hc tt).is
+    abc k b c hk hb hc = (add SIZE-C c (add SIZE-B b (add 1 k with_a hk tt) hb tt) hc tt).is
 
 pub low_bits : (p n w : ℕ) → w % 2 ^ p + at p (bits p n w) ≡ w % 2 ^ (n + p)
 low_bits p n w = add_comm (w % 2 ^ p) (at p (bits p n w)) ∙ sym (mod-pow-add w n p)
 
 pub chosen : (r : RawInstruction54) {o : Opcode54} {m m' : OpMode54} {u : Encoded}
-    → r.opcode ≡ Some o → m ≡ mode_of o → m ≡ m' → u ≡ byMode m' o r → u ≡ encoded r
+    → r.opcode ≡ Some o → m ≡ mode_of o → m ≡ m' → u ≡ by_mode m' o r → u ≡ encoded r
 unfolding encoded
-chosen r {o} f e k u = u ∙ ap (λ x. byMode x o r) (sym k ∙ e) ∙ ap (λ x. byOpcode x r) (sym f)
+chosen r {o} f e k u = u ∙ ap (λ x. by_mode x o r) (sym k ∙ e) ∙ ap (λ x. by_opcode x r) (sym f)

@@ -2,7 +2,7 @@
 --     bits p n w       the number that n bits of w spell, from bit p on.        at p v       v from bit p on
 --     decoded w        the fields of w
 --     unbiased z limit     z, a signed field with its offset added, where it is a natural below the limit
---     encodedIABC, encodedIABx, encodedIAsBx, encodedIAx, encodedIsJ       the word of each mode, or refusal 27 where a field is out of range
+--     encodedIABC, encodedIABx, encodedIAs_bx, encodedIAx, encoded_isJ       the word of each mode, or refusal 27 where a field is out of range
 --     encoded r        the word of r's opcode and of the fields that its mode uses, or refusal 28 where r has no opcode
 use Rattle.std.specs.Prelude.{cond, ℕ, ◌+◌, ◌*◌, ◌/◌, ◌%◌, ◌^◌, ltb, ℤ, pos, negsuc, ◌+ℤ◌, ◌-ℤ◌}
 use Rattle.format.specs.declared.refusal.Refusal.TheVariants.{FieldRange, NoOpcode}
@@ -18,7 +18,7 @@ use Rattle.word_fields.specs.declared.instruction.Unbiased.{Unbiased}
 use Rattle.word_fields.specs.declared.instruction.Unbiased.TheVariants.{In, Out}
 use Rattle.word_opcodes.specs.Lopcodes.{SIZE-OP, SIZE-A, SIZE-B, SIZE-C, SIZE-Bx, SIZE-Ax, SIZE-sJ}
 use Rattle.word_opcodes.specs.Lopcodes.{POS-OP, POS-A, POS-k, POS-B, POS-C, POS-Bx, POS-Ax, POS-sJ, OFFSET-sC, OFFSET-sBx, OFFSET-sJ}
-use Rattle.word_opcodes.specs.Table.{opcodeAt, number_of, mode_of}
+use Rattle.word_opcodes.specs.Table.{opcode_at, number_of, mode_of}
 
 abbrev pub bits : ℕ → ℕ → ℕ → ℕ
 bits p n w = w / 2 ^ p % 2 ^ n
@@ -29,7 +29,7 @@ at p v = v * 2 ^ p
 unfoldable pub decoded : ℕ → RawInstruction54
 decoded w = record {
   opcode_num = bits POS-OP SIZE-OP w;
-  opcode = opcodeAt (bits POS-OP SIZE-OP w);
+  opcode = opcode_at (bits POS-OP SIZE-OP w);
   a = bits POS-A SIZE-A w;
   k = bits POS-k 1 w;
   b = bits POS-B SIZE-B w;
@@ -47,9 +47,9 @@ unbiased (pos m) limit = cond (ltb m limit) (In m) Out
 unbiased (negsuc m) limit = Out
 
 -- what a signed field stands for, handed on, if it is in range
-abbrev pub withUnbiased : Unbiased → (ℕ → Encoded) → Encoded
-withUnbiased (In n) f = f n
-withUnbiased Out f = Refused FieldRange
+abbrev pub with_unbiased : Unbiased → (ℕ → Encoded) → Encoded
+with_unbiased (In n) f = f n
+with_unbiased Out f = Refused FieldRange
 
 abbrev pub encodedIABC : Opcode54 → ℕ → ℕ → ℕ → ℕ → Encoded
 encodedIABC o a b c k =
@@ -58,25 +58,25 @@ encodedIABC o a b c k =
 abbrev pub encodedIABx : Opcode54 → ℕ → ℕ → Encoded
 encodedIABx o a bx = cond (ltb bx (2 ^ SIZE-Bx)) (Word (number_of o + at POS-A a + at POS-Bx bx)) (Refused FieldRange)
 
-abbrev pub encodedIAsBx : Opcode54 → ℕ → ℤ → Encoded
-encodedIAsBx o a sbx = withUnbiased (unbiased (sbx +ℤ pos OFFSET-sBx) (2 ^ SIZE-Bx)) (encodedIABx o a)
+abbrev pub encodedIAs_bx : Opcode54 → ℕ → ℤ → Encoded
+encodedIAs_bx o a sbx = with_unbiased (unbiased (sbx +ℤ pos OFFSET-sBx) (2 ^ SIZE-Bx)) (encodedIABx o a)
 
 abbrev pub encodedIAx : Opcode54 → ℕ → Encoded
 encodedIAx o ax = cond (ltb ax (2 ^ SIZE-Ax)) (Word (number_of o + at POS-Ax ax)) (Refused FieldRange)
 
-abbrev pub encodedIsJ : Opcode54 → ℤ → Encoded
-encodedIsJ o sj = withUnbiased (unbiased (sj +ℤ pos OFFSET-sJ) (2 ^ SIZE-sJ)) (encodedIAx o)
+abbrev pub encoded_isJ : Opcode54 → ℤ → Encoded
+encoded_isJ o sj = with_unbiased (unbiased (sj +ℤ pos OFFSET-sJ) (2 ^ SIZE-sJ)) (encodedIAx o)
 
-abbrev pub byMode : OpMode54 → Opcode54 → RawInstruction54 → Encoded
-byMode IABC o r = encodedIABC o r.a r.b r.c r.k
-byMode IABx o r = encodedIABx o r.a r.bx
-byMode IAsBx o r = encodedIAsBx o r.a r.sbx
-byMode IAx o r = encodedIAx o r.ax
-byMode IsJ o r = encodedIsJ o r.sj
+abbrev pub by_mode : OpMode54 → Opcode54 → RawInstruction54 → Encoded
+by_mode IABC o r = encodedIABC o r.a r.b r.c r.k
+by_mode IABx o r = encodedIABx o r.a r.bx
+by_mode IAsBx o r = encodedIAs_bx o r.a r.sbx
+by_mode IAx o r = encodedIAx o r.ax
+by_mode IsJ o r = encoded_isJ o r.sj
 
-abbrev pub byOpcode : OptionOpcode54 → RawInstruction54 → Encoded
-byOpcode (Some o) r = byMode (mode_of o) o r
-byOpcode None r = Refused NoOpcode
+abbrev pub by_opcode : OptionOpcode54 → RawInstruction54 → Encoded
+by_opcode (Some o) r = by_mode (mode_of o) o r
+by_opcode None r = Refused NoOpcode
 
 unfoldable pub encoded : RawInstruction54 → Encoded
-encoded r = byOpcode r.opcode r
+encoded r = by_opcode r.opcode r

@@ -1,6 +1,6 @@
 // opcodes.rs: an instruction word's fields, and the word of its fields.
 ghost use Rattle.std.specs.Prelude.{◌≡◌, ◌+ℤ◌};
-ghost use Rattle.word_fields.specs.Word.{decoded, unbiased, encodedIABC, encodedIABx, encodedIAsBx, encodedIAx, encodedIsJ, encoded};
+ghost use Rattle.word_fields.specs.Word.{decoded, unbiased, encodedIABC, encodedIABx, encodedIAs_bx, encodedIAx, encoded_isJ, encoded};
 
 use format::refusal::Refusal;
 use word_opcodes::opcode::{OpMode54, Opcode54, OptionOpcode54};
@@ -99,9 +99,9 @@ impl RawInstruction54 {
         Encoded::Refused(Refusal::FieldRange)
     }
 
-    // The word of mode iAsBx. Ruled out: a refusal where sBx is 65,536; a word where it is -65,536.
+    // The word of mode i_as_bx. Ruled out: a refusal where sBx is 65,536; a word where it is -65,536.
     pub fn encode_iasbx(opcode: Opcode54, a: u8, sbx: i32) -> Encoded
-        ensures { result ≡ encodedIAsBx opcode a sbx }
+        ensures { result ≡ encodedIAs_bx opcode a sbx }
     {
         let Unbiased::In(bx) = unbias(sbx, Self::OFFSET_SBX, 131072) else {
             return Encoded::Refused(Refusal::FieldRange);
@@ -109,7 +109,7 @@ impl RawInstruction54 {
         Self::encode_iabx(opcode, a, bx)
     }
 
-    // The word of mode iAx. Ruled out: a word where Ax is 33,554,432; Ax from bit 15 on.
+    // The word of mode i_ax. Ruled out: a word where Ax is 33,554,432; Ax from bit 15 on.
     pub fn encode_iax(opcode: Opcode54, ax: u32) -> Encoded
         ensures { result ≡ encodedIAx opcode ax }
     {
@@ -122,7 +122,7 @@ impl RawInstruction54 {
 
     // The word of mode isJ. Ruled out: a refusal where sJ is 16,777,216; a word where it is -16,777,216.
     pub fn encode_isj(opcode: Opcode54, sj: i32) -> Encoded
-        ensures { result ≡ encodedIsJ opcode sj }
+        ensures { result ≡ encoded_isJ opcode sj }
     {
         let Unbiased::In(ax) = unbias(sj, Self::OFFSET_SJ, 33554432) else {
             return Encoded::Refused(Refusal::FieldRange);

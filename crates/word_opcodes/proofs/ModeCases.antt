@@ -1,7 +1,7 @@
 -- The opcodes of each mode but iABC, by number (lopcodes.c, luaP_opmodes), and the names of some numbers (lopcodes.h, OpCode); antt computes each.
---     modes-hold       LOADI, LOADF; LOADK, LOADKX, FORLOOP, FORPREP, TFORPREP, TFORLOOP, CLOSURE; EXTRAARG; JMP: all other opcodes are iABC
---     names-hold       the opcodes that validation names, and the last of all
---     all-names-hold   every opcode, by number
+--     modes_hold       LOADI, LOADF; LOADK, LOADKX, FORLOOP, FORPREP, TFORPREP, TFORLOOP, CLOSURE; EXTRAARG; JMP: all other opcodes are iABC
+--     names_hold       the opcodes that validation names, and the last of all
+--     all_names_hold   every opcode, by number
 -- Told apart: an opcode of another mode, two modes exchanged, two names exchanged, one number too many.
 -- Assumes nothing.
 use mathlib.Core.Path.{◌≡◌, refl}
@@ -12,31 +12,31 @@ use lib.Dec.{eqb}
 use Rattle.word_opcodes.specs.declared.opcode.OptionOpcode54.{OptionOpcode54}
 use Rattle.word_opcodes.specs.declared.opcode.OptionOpcode54.TheVariants.{Some, None}
 use Rattle.word_opcodes.specs.declared.opcode.Opcode54.TheVariants as op
-use Rattle.word_opcodes.specs.Table.{opcodeAt, mode_of, modeNumber}
+use Rattle.word_opcodes.specs.Table.{opcode_at, mode_of, mode_number}
 
 -- the mode of a number; 5 where it is no opcode's
 abbrev mode : OptionOpcode54 → ℕ
-mode (Some o) = modeNumber (mode_of o)
+mode (Some o) = mode_number (mode_of o)
 mode None = 5
 
-abbrev ifTrue : Bool → ℕ → List ℕ
-ifTrue true n = n ∷ []
-ifTrue false n = []
+abbrev if_true : Bool → ℕ → List ℕ
+if_true true n = n ∷ []
+if_true false n = []
 
 -- the numbers below n that have this mode
-ofMode : ℕ → ℕ → List ℕ
-ofMode m zero = []
-ofMode m (suc n) = ofMode m n ++ ifTrue (eqb (mode (opcodeAt n)) m) n
+of_mode : ℕ → ℕ → List ℕ
+of_mode m zero = []
+of_mode m (suc n) = of_mode m n ++ if_true (eqb (mode (opcode_at n)) m) n
 
--- iABx, iAsBx, iAx, isJ; and no opcode
-modes-hold : map (λ m. ofMode m 86) (1 ∷ 2 ∷ 3 ∷ 4 ∷ 5 ∷ [])
+-- iABx, i_as_bx, i_ax, isJ; and no opcode
+modes_hold : map (λ m. of_mode m 86) (1 ∷ 2 ∷ 3 ∷ 4 ∷ 5 ∷ [])
     ≡ (3 ∷ 4 ∷ 73 ∷ 74 ∷ 75 ∷ 77 ∷ 79 ∷ []) ∷ (1 ∷ 2 ∷ []) ∷ (82 ∷ []) ∷ (56 ∷ []) ∷ (83 ∷ 84 ∷ 85 ∷ []) ∷ []
-unfolding ofMode
-modes-hold = refl
+unfolding of_mode
+modes_hold = refl
 
-names-hold : map opcodeAt (0 ∷ 3 ∷ 9 ∷ 10 ∷ 11 ∷ 15 ∷ 56 ∷ 71 ∷ 79 ∷ 81 ∷ 82 ∷ [])
+names_hold : map opcode_at (0 ∷ 3 ∷ 9 ∷ 10 ∷ 11 ∷ 15 ∷ 56 ∷ 71 ∷ 79 ∷ 81 ∷ 82 ∷ [])
     ≡ Some op.Move ∷ Some op.Loadk ∷ Some op.Getupval ∷ Some op.Setupval ∷ Some op.Gettabup ∷ Some op.Settabup ∷ Some op.Jmp ∷ Some op.Return0 ∷ Some op.Closure ∷ Some op.Varargprep ∷ Some op.Extraarg ∷ []
-names-hold = refl
+names_hold = refl
 
 -- ## All names
 -- n + 1 numbers, from 0 up
@@ -45,7 +45,7 @@ up_to zero = 0 ∷ []
 up_to (suc n) = up_to n ++ (suc n ∷ [])
 
 -- as the Rust's `from_u8` has them
-all-names-hold : map opcodeAt (up_to 82) ≡ map Some (
+all_names_hold : map opcode_at (up_to 82) ≡ map Some (
     op.Move ∷ op.Loadi ∷ op.Loadf ∷ op.Loadk ∷ op.Loadkx ∷ op.Loadfalse ∷ op.Lfalseskip ∷ op.Loadtrue ∷ op.Loadnil ∷
     op.Getupval ∷ op.Setupval ∷ op.Gettabup ∷ op.Gettable ∷ op.Geti ∷ op.Getfield ∷ op.Settabup ∷ op.Settable ∷ op.Seti ∷
     op.Setfield ∷ op.Newtable ∷ op.SelfOp ∷ op.Addi ∷ op.Addk ∷ op.Subk ∷ op.Mulk ∷ op.Modk ∷ op.Powk ∷
@@ -58,4 +58,4 @@ all-names-hold : map opcodeAt (up_to 82) ≡ map Some (
     op.Varargprep ∷ op.Extraarg ∷ []
     )
 unfolding up_to
-all-names-hold = refl
+all_names_hold = refl

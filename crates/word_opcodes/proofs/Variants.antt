@@ -1,5 +1,5 @@
 -- An enum whose variants hold nothing.
---     of-every     what a test that antt computes finds of each variant holds of every value: no proof goes through the variants one by one
+--     of_every     what a test that antt computes finds of each variant holds of every value: no proof goes through the variants one by one
 --     same         two values of one tag are one value
 -- Assumes nothing.
 use mathlib.Core.Path.{◌≡◌, refl, subst, ap}
@@ -37,8 +37,8 @@ one_tag ([] ∷ Fss) t (inr c) (inr e) p =
 one_tag ((F ∷ Fs) ∷ Fss) t c e p = absurd t
 
 module _ (N : Record) where
-  pub of-every : (f : N.D → Bool) → T (variants N.parts (λ c. f (N.make c))) → (d : N.D) → T (f d)
-  of-every f t d = subst (λ (x : N.D). T (f x)) (N.eta d) (passed N.parts (λ c. f (N.make c)) t (N.as_values d))
+  pub of_every : (f : N.D → Bool) → T (variants N.parts (λ c. f (N.make c))) → (d : N.D) → T (f d)
+  of_every f t d = subst (λ (x : N.D). T (f x)) (N.eta d) (passed N.parts (λ c. f (N.make c)) t (N.as_values d))
 
   pub same : T (variants N.parts (λ c. true)) → (x y : N.D) → T (eqb (tag_of (declared N) x) (tag_of (declared N) y)) → x ≡ y
   same t x y e = values_one N x y (one_tag N.parts t (N.as_values x) (N.as_values y) (eqb→eq _ _ e))

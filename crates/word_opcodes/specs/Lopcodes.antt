@@ -25,18 +25,18 @@ i & m = bit_and i m
 abbrev pub ◌∣◌ : ℕ → ℕ → ℕ
 i ∣ j = bit_or i j
 
--- ---- enum OpMode {iABC, iABx, iAsBx, iAx, isJ}
+-- ---- enum OpMode {iABC, iABx, i_as_bx, i_ax, isJ}
 abbrev pub iABC : ℕ
 iABC = 0
 
 abbrev pub iABx : ℕ
 iABx = 1
 
-abbrev pub iAsBx : ℕ
-iAsBx = 2
+abbrev pub i_as_bx : ℕ
+i_as_bx = 2
 
-abbrev pub iAx : ℕ
-iAx = 3
+abbrev pub i_ax : ℕ
+i_ax = 3
 
 abbrev pub isJ : ℕ
 isJ = 4
@@ -173,19 +173,19 @@ abbrev pub CREATE-sJ : ℕ → ℕ → ℕ → ℕ
 CREATE-sJ o j k = (o << POS-OP) ∣ (j << POS-sJ) ∣ (k << POS-k)
 
 -- llimits.h, cast_uint: an int, as an unsigned number of 32 bits
-abbrev pub cast-uint : ℤ → ℕ
-cast-uint (pos n) = n % 2 ^ 32
-cast-uint (negsuc n) = 2 ^ 32 - 1 - n % 2 ^ 32
+abbrev pub cast_uint : ℤ → ℕ
+cast_uint (pos n) = n % 2 ^ 32
+cast_uint (negsuc n) = 2 ^ 32 - 1 - n % 2 ^ 32
 
 -- ---- NUM_OPCODES: the number of OP_EXTRAARG, and 1
 abbrev pub NUM-OPCODES : ℕ
 NUM-OPCODES = 82 + 1
 
 -- ---- luaP_opmodes: the column `mode`, in the order of the opcodes
-abbrev pub luaP-opmodes : List ℕ
-luaP-opmodes =
+abbrev pub luaP_opmodes : List ℕ
+luaP_opmodes =
     -- OP_MOVE OP_LOADI OP_LOADF OP_LOADK OP_LOADKX OP_LOADFALSE OP_LFALSESKIP OP_LOADTRUE OP_LOADNIL OP_GETUPVAL
-    iABC ∷ iAsBx ∷ iAsBx ∷ iABx ∷ iABx ∷ iABC ∷ iABC ∷ iABC ∷ iABC ∷ iABC ∷
+    iABC ∷ i_as_bx ∷ i_as_bx ∷ iABx ∷ iABx ∷ iABC ∷ iABC ∷ iABC ∷ iABC ∷ iABC ∷
     -- OP_SETUPVAL OP_GETTABUP OP_GETTABLE OP_GETI OP_GETFIELD OP_SETTABUP OP_SETTABLE OP_SETI OP_SETFIELD OP_NEWTABLE
     iABC ∷ iABC ∷ iABC ∷ iABC ∷ iABC ∷ iABC ∷ iABC ∷ iABC ∷ iABC ∷ iABC ∷
     -- OP_SELF OP_ADDI OP_ADDK OP_SUBK OP_MULK OP_MODK OP_POWK OP_DIVK OP_IDIVK OP_BANDK
@@ -201,4 +201,4 @@ luaP-opmodes =
     -- OP_RETURN OP_RETURN0 OP_RETURN1 OP_FORLOOP OP_FORPREP OP_TFORPREP OP_TFORCALL OP_TFORLOOP OP_SETLIST OP_CLOSURE
     iABC ∷ iABC ∷ iABC ∷ iABx ∷ iABx ∷ iABx ∷ iABC ∷ iABx ∷ iABC ∷ iABx ∷
     -- OP_VARARG OP_VARARGPREP OP_EXTRAARG
-    iABC ∷ iABC ∷ iAx ∷ []
+    iABC ∷ iABC ∷ i_ax ∷ []

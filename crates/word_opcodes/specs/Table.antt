@@ -1,8 +1,8 @@
 -- The table of the opcodes (lopcodes.h, OpCode, with the names of the Rust).
 --     opcodes         the 83 opcodes, by number
---     opcodeAt n      the opcode of number n, if there is one
+--     opcode_at n      the opcode of number n, if there is one
 --     number_of        an opcode's number
---     modes, modeNumber       the five modes, and a mode's number
+--     modes, mode_number       the five modes, and a mode's number
 --     mode_of          an opcode's mode
 use Rattle.std.specs.Prelude.{cond, ℕ, List, [], ◌∷◌, ltb, get_or}
 use Rattle.word_opcodes.specs.declared.opcode.Opcode54.{Opcode54}
@@ -11,7 +11,7 @@ use Rattle.word_opcodes.specs.declared.opcode.OptionOpcode54.{OptionOpcode54}
 use Rattle.word_opcodes.specs.declared.opcode.OptionOpcode54.TheVariants.{Some, None}
 use Rattle.word_opcodes.specs.declared.opcode.OpMode54.{OpMode54}
 use Rattle.word_opcodes.specs.declared.opcode.OpMode54.TheVariants.{IABC, IABx, IAsBx, IAx, IsJ}
-use Rattle.word_opcodes.specs.Lopcodes.{iABC, iABx, iAsBx, iAx, isJ, NUM-OPCODES, luaP-opmodes}
+use Rattle.word_opcodes.specs.Lopcodes.{iABC, iABx, i_as_bx, i_ax, isJ, NUM-OPCODES, luaP_opmodes}
 
 abbrev pub opcodes : List Opcode54
 opcodes =
@@ -25,8 +25,8 @@ opcodes =
     op.Return0 ∷ op.Return1 ∷ op.Forloop ∷ op.Forprep ∷ op.Tforprep ∷ op.Tforcall ∷ op.Tforloop ∷ op.Setlist ∷
     op.Closure ∷ op.Vararg ∷ op.Varargprep ∷ op.Extraarg ∷ []
 
-abbrev pub opcodeAt : ℕ → OptionOpcode54
-opcodeAt n = cond (ltb n NUM-OPCODES) (Some (get_or opcodes n op.Move)) None
+abbrev pub opcode_at : ℕ → OptionOpcode54
+opcode_at n = cond (ltb n NUM-OPCODES) (Some (get_or opcodes n op.Move)) None
 
 abbrev pub number_of : Opcode54 → ℕ
 number_of op.Move = 0
@@ -117,13 +117,13 @@ number_of op.Extraarg = 82
 abbrev pub modes : List OpMode54
 modes = IABC ∷ IABx ∷ IAsBx ∷ IAx ∷ IsJ ∷ []
 
-abbrev pub modeNumber : OpMode54 → ℕ
-modeNumber IABC = iABC
-modeNumber IABx = iABx
-modeNumber IAsBx = iAsBx
-modeNumber IAx = iAx
-modeNumber IsJ = isJ
+abbrev pub mode_number : OpMode54 → ℕ
+mode_number IABC = iABC
+mode_number IABx = iABx
+mode_number IAsBx = i_as_bx
+mode_number IAx = i_ax
+mode_number IsJ = isJ
 
 -- the mode that lopcodes.c has at the opcode's number
 abbrev pub mode_of : Opcode54 → OpMode54
-mode_of o = get_or modes (get_or luaP-opmodes (number_of o) iABC) IABC
+mode_of o = get_or modes (get_or luaP_opmodes (number_of o) iABC) IABC

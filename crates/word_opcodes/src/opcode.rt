@@ -1,7 +1,7 @@
 // opcodes.rs: the opcodes of Lua 5.4, their numbers and their modes.
 ghost use Rattle.std.specs.Borrow.{Bor};
 ghost use Rattle.std.specs.Prelude.{◌≡◌, get_or};
-ghost use Rattle.word_opcodes.specs.Table.{opcodes, opcodeAt, number_of, mode_of};
+ghost use Rattle.word_opcodes.specs.Table.{opcodes, opcode_at, number_of, mode_of};
 
 // The 83 opcodes, in the order of their numbers (lopcodes.h, OpCode).
 #[derive(Drop)]
@@ -111,7 +111,7 @@ pub enum OpMode54 {
 impl Opcode54 {
     // The opcode of a number, if there is one. Ruled out: an opcode for 83; MOVE for every number.
     pub fn from_u8(op: u8) -> OptionOpcode54
-        ensures { result ≡ opcodeAt op }
+        ensures { result ≡ opcode_at op }
     {
         if op < 83 {
             return OptionOpcode54::Some(Self::at_number(op));

@@ -3,11 +3,11 @@ use mathlib.Core.Path.{refl, ◌∙◌, ap}
 use borrow.Author.Rules.{rules}
 use lib.ListN.{drop}
 use Rattle.format.specs.ReadChunk.{constant}
-use Rattle.read_entry.specs.Shown.{constantResult}
-use Rattle.c_boundary.specs.Status.{limitsOf}
-use Rattle.c_boundary.proofs.Calls.{call-refuses, call-answers}
-use Rattle.c_entries_at.specs.EntryNumbers.{up_to, ofConstantAt}
-use Rattle.c_boundary.proofs.Admitted.{stops, goes_on}
+use Rattle.read_entry.specs.Shown.{constant_result}
+use Rattle.c_boundary.specs.Status.{limits_of}
+use Rattle.c_boundary.proofs.Calls.{call_refuses, call_answers}
+use Rattle.c_entries_at.specs.EntryNumbers.{up_to, of_constant_at}
+use Rattle.c_boundary.proofs.Admitted.{stops, goes_on_lem}
 use Rattle.c_entries_at.proofs.constant_at.Statement.{statement}
 use Rattle.c_entries_at.proofs.constant_at.Tie as tie
 
@@ -18,17 +18,17 @@ constant-at-spec =
     (λ c κs. search rules)
     (λ c.
     let a = c.before.before.before.args in
-    stops (limitsOf a.limits.now) a.chunk.now c.before.tested.ensures _ a.out.now c.if1.true)
+    stops (limits_of a.limits.now) a.chunk.now c.before.tested.ensures _ a.out.now c.if1.true)
     (λ c κs. search rules) (λ c κs. search rules) (λ c. search rules) (λ c κs. search rules) (λ c. search rules) (λ c κs. search rules) (λ c κs. search rules)
     (λ c.
     let k = c.before.before.before.before in
     let t = k.before.before.before in
     let a = t.before.before.args in
-    goes_on (limitsOf a.limits.now) a.chunk.now t.tested.ensures _ a.out.now k.before.before.if1.false
-    (call-refuses ofConstantAt (λ L. constantResult (constant L.max_string_bytes a.place (drop a.place a.chunk.now))) a.out.now k.before.Limits-of.ensures k.read-constant.ensures c.before.before.answer.given.1 refl c.refused.ensures))
+    goes_on_lem (limits_of a.limits.now) a.chunk.now t.tested.ensures _ a.out.now k.before.before.if1.false
+    (call_refuses of_constant_at (λ L. constant_result (constant L.max_string_bytes a.place (drop a.place a.chunk.now))) a.out.now k.before.Limits-of.ensures k.read-constant.ensures c.before.before.answer.given.1 refl c.refused.ensures))
     (λ c.
     let k = c.before.before.before.before.before in
     let t = k.before.before.before in
     let a = t.before.before.args in
-    goes_on (limitsOf a.limits.now) a.chunk.now t.tested.ensures _ a.out.now k.before.before.if1.false
-    (call-answers ofConstantAt (λ L. constantResult (constant L.max_string_bytes a.place (drop a.place a.chunk.now))) a.out.now k.before.Limits-of.ensures k.read-constant.ensures c.before.before.before.answer2.given.1 refl (c.up-to-three.ensures ∙ ap (λ l. up_to l c.before.before.before.answer2.given.0.1.0.at) c.before.constant-numbers.ensures))))
+    goes_on_lem (limits_of a.limits.now) a.chunk.now t.tested.ensures _ a.out.now k.before.before.if1.false
+    (call_answers of_constant_at (λ L. constant_result (constant L.max_string_bytes a.place (drop a.place a.chunk.now))) a.out.now k.before.Limits-of.ensures k.read-constant.ensures c.before.before.before.answer2.given.1 refl (c.up_to_three.ensures ∙ ap (λ l. up_to l c.before.before.before.answer2.given.0.1.0.at) c.before.constant_numbers_lem.ensures))))

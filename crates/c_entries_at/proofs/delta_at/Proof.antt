@@ -4,11 +4,11 @@ use mathlib.Core.List.{[], ◌∷◌}
 use borrow.Author.Rules.{rules}
 use lib.ListN.{drop}
 use Rattle.format.specs.ReadFields.{field}
-use Rattle.read_field.specs.Shown.{u8Result}
-use Rattle.c_boundary.specs.Status.{limitsOf}
-use Rattle.c_boundary.proofs.Calls.{call-refuses, call-answers}
-use Rattle.c_entries_at.specs.EntryNumbers.{ofDeltaAt}
-use Rattle.c_boundary.proofs.Admitted.{stops, goes_on}
+use Rattle.read_field.specs.Shown.{u8_result}
+use Rattle.c_boundary.specs.Status.{limits_of}
+use Rattle.c_boundary.proofs.Calls.{call_refuses, call_answers}
+use Rattle.c_entries_at.specs.EntryNumbers.{of_delta_at}
+use Rattle.c_boundary.proofs.Admitted.{stops, goes_on_lem}
 use Rattle.c_entries_at.proofs.delta_at.Statement.{statement}
 use Rattle.c_entries_at.proofs.delta_at.Tie as tie
 
@@ -19,17 +19,17 @@ delta-at-spec =
     (λ c κs. search rules)
     (λ c.
     let a = c.before.before.before.args in
-    stops (limitsOf a.limits.now) a.chunk.now c.before.tested.ensures _ a.out.now c.if1.true)
+    stops (limits_of a.limits.now) a.chunk.now c.before.tested.ensures _ a.out.now c.if1.true)
     (λ c κs. search rules) (λ c. search rules) (λ c κs. search rules) (λ c. search rules) (λ c κs. search rules) (λ c κs. search rules)
     (λ c.
     let k = c.before.before.before.before in
     let t = k.before.before in
     let a = t.before.before.args in
-    goes_on (limitsOf a.limits.now) a.chunk.now t.tested.ensures _ a.out.now k.before.if1.false
-    (call-refuses ofDeltaAt (λ L. u8Result (field 1 a.place (drop a.place a.chunk.now))) a.out.now (λ i. limitsOf a.limits.now) k.read-u8.ensures c.before.before.answer.given.1 refl c.refused.ensures))
+    goes_on_lem (limits_of a.limits.now) a.chunk.now t.tested.ensures _ a.out.now k.before.if1.false
+    (call_refuses of_delta_at (λ L. u8_result (field 1 a.place (drop a.place a.chunk.now))) a.out.now (λ i. limits_of a.limits.now) k.read-u8.ensures c.before.before.answer.given.1 refl c.refused.ensures))
     (λ c.
     let k = c.before.before.before.before.before in
     let t = k.before.before in
     let a = t.before.before.args in
-    goes_on (limitsOf a.limits.now) a.chunk.now t.tested.ensures _ a.out.now k.before.if1.false
-    (call-answers ofDeltaAt (λ L. u8Result (field 1 a.place (drop a.place a.chunk.now))) a.out.now (λ i. limitsOf a.limits.now) k.read-u8.ensures c.before.before.before.answer2.given.1 refl (c.two.ensures ∙ ap (λ n. n ∷ c.before.before.before.answer2.given.0.1.0.at ∷ []) c.before.delta-number.ensures))))
+    goes_on_lem (limits_of a.limits.now) a.chunk.now t.tested.ensures _ a.out.now k.before.if1.false
+    (call_answers of_delta_at (λ L. u8_result (field 1 a.place (drop a.place a.chunk.now))) a.out.now (λ i. limits_of a.limits.now) k.read-u8.ensures c.before.before.before.answer2.given.1 refl (c.two.ensures ∙ ap (λ n. n ∷ c.before.before.before.answer2.given.0.1.0.at ∷ []) c.before.delta-number.ensures))))

@@ -2,12 +2,12 @@
 use mathlib.Core.Path.{refl}
 use borrow.Author.Rules.{rules}
 use lib.ListN.{drop}
-use Rattle.read_entry.specs.Readers.{rawLocal}
-use Rattle.read_entry.specs.Shown.{localResult}
-use Rattle.c_boundary.specs.Status.{limitsOf}
-use Rattle.c_boundary.proofs.Calls.{call-refuses, call-answers}
-use Rattle.c_entries_at.specs.EntryNumbers.{ofLocalAt}
-use Rattle.c_boundary.proofs.Admitted.{stops, goes_on}
+use Rattle.read_entry.specs.Readers.{raw_local}
+use Rattle.read_entry.specs.Shown.{local_result}
+use Rattle.c_boundary.specs.Status.{limits_of}
+use Rattle.c_boundary.proofs.Calls.{call_refuses, call_answers}
+use Rattle.c_entries_at.specs.EntryNumbers.{of_local_at}
+use Rattle.c_boundary.proofs.Admitted.{stops, goes_on_lem}
 use Rattle.c_entries_at.proofs.local_at.Statement.{statement}
 use Rattle.c_entries_at.proofs.local_at.Tie as tie
 
@@ -18,17 +18,17 @@ local-at-spec =
     (λ c κs. search rules)
     (λ c.
     let a = c.before.before.before.args in
-    stops (limitsOf a.limits.now) a.chunk.now c.before.tested.ensures _ a.out.now c.if1.true)
+    stops (limits_of a.limits.now) a.chunk.now c.before.tested.ensures _ a.out.now c.if1.true)
     (λ c κs. search rules) (λ c κs. search rules) (λ c. search rules) (λ c κs. search rules) (λ c. search rules) (λ c κs. search rules)
     (λ c.
     let k = c.before.before.before.before in
     let t = k.before.before.before in
     let a = t.before.before.args in
-    goes_on (limitsOf a.limits.now) a.chunk.now t.tested.ensures _ a.out.now k.before.before.if1.false
-    (call-refuses ofLocalAt (λ L. localResult (rawLocal L.max_string_bytes a.place (drop a.place a.chunk.now))) a.out.now k.before.Limits-of.ensures k.read-local.ensures c.before.before.answer.given.1 refl c.refused.ensures))
+    goes_on_lem (limits_of a.limits.now) a.chunk.now t.tested.ensures _ a.out.now k.before.before.if1.false
+    (call_refuses of_local_at (λ L. local_result (raw_local L.max_string_bytes a.place (drop a.place a.chunk.now))) a.out.now k.before.Limits-of.ensures k.read-local.ensures c.before.before.answer.given.1 refl c.refused.ensures))
     (λ c.
     let k = c.before.before.before.before in
     let t = k.before.before.before in
     let a = t.before.before.args in
-    goes_on (limitsOf a.limits.now) a.chunk.now t.tested.ensures _ a.out.now k.before.before.if1.false
-    (call-answers ofLocalAt (λ L. localResult (rawLocal L.max_string_bytes a.place (drop a.place a.chunk.now))) a.out.now k.before.Limits-of.ensures k.read-local.ensures c.before.before.answer2.given.1 refl c.local-numbers-at.ensures)))
+    goes_on_lem (limits_of a.limits.now) a.chunk.now t.tested.ensures _ a.out.now k.before.before.if1.false
+    (call_answers of_local_at (λ L. local_result (raw_local L.max_string_bytes a.place (drop a.place a.chunk.now))) a.out.now k.before.Limits-of.ensures k.read-local.ensures c.before.before.answer2.given.1 refl c.local-numbers-at.ensures)))

@@ -5,4 +5,4 @@ use Rattle.c_entries_at.proofs.up_to_two.Statement.{statement}
 use Rattle.c_entries_at.proofs.up_to_two.Tie as tie
 
 pub up-to-two-spec : {M : Type 1} → statement M
-up-to-two-spec = tie.close (tie.spec (λ c. search rules) (λ c. search rules) (λ c. arrays.up-to-two c.args.t1 c.args.to (search rules)))
+up-to-two-spec = tie.close (tie.spec (λ c. search rules) (λ c. search rules) (λ c. arrays.up_to_two c.args.t1 c.args.to (search rules)))

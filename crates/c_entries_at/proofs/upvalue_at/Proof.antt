@@ -3,11 +3,11 @@ use mathlib.Core.Path.{refl, ◌∙◌, ap}
 use borrow.Author.Rules.{rules}
 use lib.ListN.{drop}
 use Rattle.format.specs.ReadChunk.{upvalue}
-use Rattle.read_nth.specs.Shown.{upvalueResult}
-use Rattle.c_boundary.specs.Status.{limitsOf}
-use Rattle.c_boundary.proofs.Calls.{call-refuses, call-answers}
-use Rattle.c_entries_at.specs.EntryNumbers.{up_to, ofUpvalueAt}
-use Rattle.c_boundary.proofs.Admitted.{stops, goes_on}
+use Rattle.read_nth.specs.Shown.{upvalue_result}
+use Rattle.c_boundary.specs.Status.{limits_of}
+use Rattle.c_boundary.proofs.Calls.{call_refuses, call_answers}
+use Rattle.c_entries_at.specs.EntryNumbers.{up_to, of_upvalue_at}
+use Rattle.c_boundary.proofs.Admitted.{stops, goes_on_lem}
 use Rattle.c_entries_at.proofs.upvalue_at.Statement.{statement}
 use Rattle.c_entries_at.proofs.upvalue_at.Tie as tie
 
@@ -18,17 +18,17 @@ upvalue-at-spec =
     (λ c κs. search rules)
     (λ c.
     let a = c.before.before.before.args in
-    stops (limitsOf a.limits.now) a.chunk.now c.before.tested.ensures _ a.out.now c.if1.true)
+    stops (limits_of a.limits.now) a.chunk.now c.before.tested.ensures _ a.out.now c.if1.true)
     (λ c κs. search rules) (λ c. search rules) (λ c κs. search rules) (λ c. search rules) (λ c κs. search rules) (λ c κs. search rules)
     (λ c.
     let k = c.before.before.before.before in
     let t = k.before.before in
     let a = t.before.before.args in
-    goes_on (limitsOf a.limits.now) a.chunk.now t.tested.ensures _ a.out.now k.before.if1.false
-    (call-refuses ofUpvalueAt (λ L. upvalueResult (upvalue a.place (drop a.place a.chunk.now))) a.out.now (λ i. limitsOf a.limits.now) k.read-upvalue.ensures c.before.before.answer.given.1 refl c.refused.ensures))
+    goes_on_lem (limits_of a.limits.now) a.chunk.now t.tested.ensures _ a.out.now k.before.if1.false
+    (call_refuses of_upvalue_at (λ L. upvalue_result (upvalue a.place (drop a.place a.chunk.now))) a.out.now (λ i. limits_of a.limits.now) k.read-upvalue.ensures c.before.before.answer.given.1 refl c.refused.ensures))
     (λ c.
     let k = c.before.before.before.before.before in
     let t = k.before.before in
     let a = t.before.before.args in
-    goes_on (limitsOf a.limits.now) a.chunk.now t.tested.ensures _ a.out.now k.before.if1.false
-    (call-answers ofUpvalueAt (λ L. upvalueResult (upvalue a.place (drop a.place a.chunk.now))) a.out.now (λ i. limitsOf a.limits.now) k.read-upvalue.ensures c.before.before.before.answer2.given.1 refl (c.up-to-three.ensures ∙ ap (λ l. up_to l c.before.before.before.answer2.given.0.1.0.at) c.before.upvalue-numbers.ensures))))
+    goes_on_lem (limits_of a.limits.now) a.chunk.now t.tested.ensures _ a.out.now k.before.if1.false
+    (call_answers of_upvalue_at (λ L. upvalue_result (upvalue a.place (drop a.place a.chunk.now))) a.out.now (λ i. limits_of a.limits.now) k.read-upvalue.ensures c.before.before.before.answer2.given.1 refl (c.up_to_three.ensures ∙ ap (λ l. up_to l c.before.before.before.answer2.given.0.1.0.at) c.before.upvalue-numbers.ensures))))

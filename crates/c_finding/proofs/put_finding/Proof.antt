@@ -2,7 +2,7 @@
 use native.Mathlib.Omega.{arith}
 use lib.ListN.{length-set}
 use borrow.Author.Rules.{rules}
-use Rattle.slice.proofs.Splices.{splice-four}
+use Rattle.slice.proofs.Splices.{splice_four}
 use Rattle.c_finding.proofs.put_finding.Statement.{statement}
 use Rattle.c_finding.proofs.put_finding.Tie as tie
 
@@ -26,4 +26,4 @@ put-finding-spec =
     (λ c. simp length-set (omega arith))
     (λ c. search rules)
     (λ c. let b = c.before.before.before.before in
-    rw (c.offending-number.ensures, c.before.rule-number.ensures) (splice-four b.args.at _ _ _ _ b.args.list.now b.requires)))
+    rw (c.offending-number.ensures, c.before.rule-number.ensures) (splice_four b.args.at _ _ _ _ b.args.list.now b.requires)))

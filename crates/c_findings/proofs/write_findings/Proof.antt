@@ -8,15 +8,15 @@ use lib.ListN.{length, take}
 use Rattle.slice.specs.Inner.Splice.{splice}
 use Rattle.validate_rules.specs.Findings.{MAX-DIAGNOSTICS}
 use Rattle.validate_search.specs.Inner.Position.{out_of}
-use Rattle.validate_plan.proofs.Steps.{After, at_first, step-found}
-use Rattle.c_findings.specs.FindingNumbers.{listNumbers}
+use Rattle.validate_plan.proofs.Steps.{After, at_first, step_found}
+use Rattle.c_findings.specs.FindingNumbers.{list_numbers}
 use Rattle.c_findings.proofs.Numbered.{none-put, next-put}
 use Rattle.c_findings.proofs.write_findings.Statement.{statement}
 use Rattle.c_findings.proofs.write_findings.Tie as tie
 
 abbrev invariant-loop : tie.invariant-loop
 invariant-loop chunk limits count list₀ p₀ k₀ list p k =
-    (k ≤ count) × (length list ≡ length list₀) × (list ≡ splice 0 (listNumbers (take k (out_of limits chunk MAX-DIAGNOSTICS p₀).findings)) list₀) × After (out_of limits chunk MAX-DIAGNOSTICS p₀) k (out_of limits chunk MAX-DIAGNOSTICS p)
+    (k ≤ count) × (length list ≡ length list₀) × (list ≡ splice 0 (list_numbers (take k (out_of limits chunk MAX-DIAGNOSTICS p₀).findings)) list₀) × After (out_of limits chunk MAX-DIAGNOSTICS p₀) k (out_of limits chunk MAX-DIAGNOSTICS p)
 
 abbrev decreases-loop : tie.decreases-loop
 decreases-loop chunk limits count list₀ p₀ k₀ list p k = count - k
@@ -29,7 +29,7 @@ loop-again c =
     let a = l.before.before.before in
     let all = out_of a.args.limits a.args.chunk.now MAX-DIAGNOSTICS a.args.start in
     let taken = went.before.loop-test.true in
-    let found = step-found all l.loop.k _ l.loop.invariant.3 a.args.limits a.args.chunk.now MAX-DIAGNOSTICS (omega (arith, a.requires.1)) went.forward.result went.forward.ensures in
+    let found = step_found all l.loop.k _ l.loop.invariant.3 a.args.limits a.args.chunk.now MAX-DIAGNOSTICS (omega (arith, a.requires.1)) went.forward.result went.forward.ensures in
     (omega arith, search rules, put.put-finding.ensures ∙ next-put all.findings a.args.list.now l.loop.k _ _ (omega (arith, a.requires.1)) (omega (arith, a.requires.0)) found.0 l.loop.invariant.2, found.1)
 
 pub write-findings-spec : {M : Type 1} → statement M

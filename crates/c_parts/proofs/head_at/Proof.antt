@@ -3,11 +3,11 @@ use mathlib.Core.Path.{refl}
 use borrow.Author.Rules.{rules}
 use lib.ListN.{drop}
 use Rattle.read_prototype.specs.Parts as parts
-use Rattle.read_prototype.specs.PartsShown.{headResult}
-use Rattle.c_boundary.specs.Status.{limitsOf}
-use Rattle.c_boundary.proofs.Calls.{call-refuses, call-answers}
-use Rattle.c_parts.specs.PartNumbers.{ofHead}
-use Rattle.c_boundary.proofs.Admitted.{stops, goes_on}
+use Rattle.read_prototype.specs.PartsShown.{head_result}
+use Rattle.c_boundary.specs.Status.{limits_of}
+use Rattle.c_boundary.proofs.Calls.{call_refuses, call_answers}
+use Rattle.c_parts.specs.PartNumbers.{of_head}
+use Rattle.c_boundary.proofs.Admitted.{stops, goes_on_lem}
 use Rattle.c_parts.proofs.head_at.Statement.{statement}
 use Rattle.c_parts.proofs.head_at.Tie as tie
 
@@ -18,17 +18,17 @@ head-at-spec =
     (λ c κs. search rules)
     (λ c.
     let a = c.before.before.before.args in
-    stops (limitsOf a.limits.now) a.chunk.now c.before.tested.ensures _ a.out.now c.if1.true)
+    stops (limits_of a.limits.now) a.chunk.now c.before.tested.ensures _ a.out.now c.if1.true)
     (λ c κs. search rules) (λ c κs. search rules) (λ c. search rules) (λ c κs. search rules) (λ c. search rules) (λ c κs. search rules)
     (λ c.
     let k = c.before.before.before.before in
     let t = k.before.before.before.before in
     let a = t.before.before.args in
-    goes_on (limitsOf a.limits.now) a.chunk.now t.tested.ensures _ a.out.now k.before.before.before.if1.false
-    (call-refuses ofHead (λ L. headResult (parts.head L 0 a.place (drop a.place a.chunk.now))) a.out.now k.before.before.Limits-of.ensures k.read_head.ensures.0 c.before.before.answer.given.1 refl c.refused.ensures))
+    goes_on_lem (limits_of a.limits.now) a.chunk.now t.tested.ensures _ a.out.now k.before.before.before.if1.false
+    (call_refuses of_head (λ L. head_result (parts.head L 0 a.place (drop a.place a.chunk.now))) a.out.now k.before.before.Limits-of.ensures k.read_head.ensures.0 c.before.before.answer.given.1 refl c.refused.ensures))
     (λ c.
     let k = c.before.before.before.before in
     let t = k.before.before.before.before in
     let a = t.before.before.args in
-    goes_on (limitsOf a.limits.now) a.chunk.now t.tested.ensures _ a.out.now k.before.before.before.if1.false
-    (call-answers ofHead (λ L. headResult (parts.head L 0 a.place (drop a.place a.chunk.now))) a.out.now k.before.before.Limits-of.ensures k.read_head.ensures.0 c.before.before.answer2.given.1 refl c.head-numbers.ensures)))
+    goes_on_lem (limits_of a.limits.now) a.chunk.now t.tested.ensures _ a.out.now k.before.before.before.if1.false
+    (call_answers of_head (λ L. head_result (parts.head L 0 a.place (drop a.place a.chunk.now))) a.out.now k.before.before.Limits-of.ensures k.read_head.ensures.0 c.before.before.answer2.given.1 refl c.head-numbers.ensures)))

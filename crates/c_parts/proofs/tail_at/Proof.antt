@@ -3,11 +3,11 @@ use mathlib.Core.Path.{refl}
 use borrow.Author.Rules.{rules}
 use lib.ListN.{drop}
 use Rattle.read_prototype.specs.Parts as parts
-use Rattle.read_prototype.specs.PartsShown.{tailResult}
-use Rattle.c_boundary.specs.Status.{limitsOf}
-use Rattle.c_boundary.proofs.Calls.{call-refuses, call-answers}
-use Rattle.c_parts.specs.PartNumbers.{ofTail}
-use Rattle.c_boundary.proofs.Admitted.{stops, goes_on}
+use Rattle.read_prototype.specs.PartsShown.{tail_result}
+use Rattle.c_boundary.specs.Status.{limits_of}
+use Rattle.c_boundary.proofs.Calls.{call_refuses, call_answers}
+use Rattle.c_parts.specs.PartNumbers.{of_tail}
+use Rattle.c_boundary.proofs.Admitted.{stops, goes_on_lem}
 use Rattle.c_parts.proofs.tail_at.Statement.{statement}
 use Rattle.c_parts.proofs.tail_at.Tie as tie
 
@@ -18,17 +18,17 @@ tail-at-spec =
     (λ c κs. search rules)
     (λ c.
     let a = c.before.before.before.args in
-    stops (limitsOf a.limits.now) a.chunk.now c.before.tested.ensures _ a.out.now c.if1.true)
+    stops (limits_of a.limits.now) a.chunk.now c.before.tested.ensures _ a.out.now c.if1.true)
     (λ c κs. search rules) (λ c κs. search rules) (λ c. search rules) (λ c κs. search rules) (λ c. search rules) (λ c κs. search rules)
     (λ c.
     let k = c.before.before.before.before in
     let t = k.before.before.before.before in
     let a = t.before.before.args in
-    goes_on (limitsOf a.limits.now) a.chunk.now t.tested.ensures _ a.out.now k.before.before.before.if1.false
-    (call-refuses ofTail (λ L. tailResult (parts.tail L.max_string_bytes a.place (drop a.place a.chunk.now))) a.out.now k.before.before.Limits-of.ensures k.read-tail.ensures.0 c.before.before.answer.given.1 refl c.refused.ensures))
+    goes_on_lem (limits_of a.limits.now) a.chunk.now t.tested.ensures _ a.out.now k.before.before.before.if1.false
+    (call_refuses of_tail (λ L. tail_result (parts.tail L.max_string_bytes a.place (drop a.place a.chunk.now))) a.out.now k.before.before.Limits-of.ensures k.read-tail.ensures.0 c.before.before.answer.given.1 refl c.refused.ensures))
     (λ c.
     let k = c.before.before.before.before in
     let t = k.before.before.before.before in
     let a = t.before.before.args in
-    goes_on (limitsOf a.limits.now) a.chunk.now t.tested.ensures _ a.out.now k.before.before.before.if1.false
-    (call-answers ofTail (λ L. tailResult (parts.tail L.max_string_bytes a.place (drop a.place a.chunk.now))) a.out.now k.before.before.Limits-of.ensures k.read-tail.ensures.0 c.before.before.answer2.given.1 refl c.tail-numbers.ensures)))
+    goes_on_lem (limits_of a.limits.now) a.chunk.now t.tested.ensures _ a.out.now k.before.before.before.if1.false
+    (call_answers of_tail (λ L. tail_result (parts.tail L.max_string_bytes a.place (drop a.place a.chunk.now))) a.out.now k.before.before.Limits-of.ensures k.read-tail.ensures.0 c.before.before.answer2.given.1 refl c.tail-numbers.ensures)))

@@ -7,7 +7,7 @@ use native.Mathlib.Omega.{arith}
 use lib.ListN.{length, drop}
 use Rattle.text_print.specs.Output.{Fits, waiting, puts}
 use Rattle.chunklist_lines.specs.Lines.{decimal, spaced}
-use Rattle.chunklist_lines.proofs.Laws.{then, digits-put, spaced-one, spaced-end}
+use Rattle.chunklist_lines.proofs.Laws.{then, digits_put, spaced-one, spaced-end}
 use Rattle.chunklist_lines.proofs.numbers.Statement.{statement}
 use Rattle.chunklist_lines.proofs.numbers.Tie as tie
 
@@ -34,7 +34,7 @@ returns c =
     let l = c.before.before.before.before.loop in
     let s = c.before.before.before.before.before.before.before.args.more.now in
     let behind = c.text.ensures.1 ∙ sym (spaced-end s l.i (waiting l.out l.at) (rw c.before.before.before.before.before.before.before.requires.1 c.before.before.before.loop-test.false)) ∙ l.invariant.2 in
-    (c.text.ensures.0, then (decimal c.before.before.before.before.before.before.before.args.first) (spaced s) _ (digits-put c.before.before.before.before.before.before.before.args.first c.before.before.before.before.before.decimal.ensures.1) behind)
+    (c.text.ensures.0, then (decimal c.before.before.before.before.before.before.before.args.first) (spaced s) _ (digits_put c.before.before.before.before.before.before.before.args.first c.before.before.before.before.before.decimal.ensures.1) behind)
 
 pub numbers-spec : {M : Type 1} → statement M
 numbers-spec =

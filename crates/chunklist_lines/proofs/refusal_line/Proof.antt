@@ -12,5 +12,5 @@ refusal-line-spec =
     (λ c. let place = c.before.before.before.at_place in
     let number = c.before.before.before.before.before.labelled in (
       c.text.ensures.0,
-      refusal-put _ c.before.before.before.before.before.before.before.before.before.before.args.why (rw c.before.before.before.before.before.before.before.before.before.report-refusal.ensures at number.ensures.1) (rw c.before.before.before.before.before.before.before.before.before.report-refusal.ensures at place.ensures.1) c.text.ensures.1,
+      refusal-put _ c.before.before.before.before.before.before.before.before.before.before.args.why (rw c.before.before.before.before.before.before.before.before.before.report_refusal.ensures at number.ensures.1) (rw c.before.before.before.before.before.before.before.before.before.report_refusal.ensures at place.ensures.1) c.text.ensures.1,
     )))

@@ -6,7 +6,7 @@ use Prim.Native.Nat.{◌+◌}
 use native.Mathlib.Omega.{arith}
 use lib.ListN.{set, replicate, length-set}
 use lib.ListN as lists
-use Rattle.read_next.specs.Inner.Rows.{LEVELS, rows_from, chunkRows}
+use Rattle.read_next.specs.Inner.Rows.{LEVELS, rows_from, chunk_rows}
 use Rattle.read_next.proofs.RowLaws.{at-start}
 use Rattle.text_print.specs.Output.{Fits, waiting, puts}
 use Rattle.chunklist_lines.specs.Inner.Rows.{row_line}
@@ -20,7 +20,7 @@ invariant-loop s limits n out₀ used left₀ depth₀ at₀ number₀ used₀ o
     (lists.length left ≡ LEVELS + 1)
     × (number + lists.length (rows_from limits s left depth at.at) ≡ n)
     × Fits used'
-    × (puts (row_lines number (rows_from limits s left depth at.at)) (waiting out used') ≡ puts (row_lines 0 (chunkRows limits s at₀.at)) (waiting out₀ used))
+    × (puts (row_lines number (rows_from limits s left depth at.at)) (waiting out used') ≡ puts (row_lines 0 (chunk_rows limits s at₀.at)) (waiting out₀ used))
 
 abbrev decreases-loop : tie.decreases-loop
 decreases-loop s limits n out₀ used left₀ depth₀ at₀ number₀ used₀ out left depth at number used' = lists.length (rows_from limits s left depth at.at)

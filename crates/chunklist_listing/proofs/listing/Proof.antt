@@ -5,7 +5,7 @@ use lib.ListN as lists
 use Rattle.format.specs.ReadChunk.{read}
 use Rattle.text_print.specs.Output.{waiting, puts}
 use Rattle.validate_verdict.specs.Answers.{shownVerdict}
-use Rattle.chunklist_listing.specs.Listing.{listLimits}
+use Rattle.chunklist_listing.specs.Listing.{list_limits}
 use Rattle.chunklist_listing.proofs.Chunks.{refused-listed, read-listed}
 use Rattle.chunklist_listing.proofs.listing.Statement.{statement}
 use Rattle.chunklist_listing.proofs.listing.Tie as tie
@@ -18,11 +18,11 @@ listing-spec =
     (λ c. let a = c.before.before.before.before.before.before.before.before.args in
     let s = a.s.now in
     let limits = c.before.before.before.before.before.before.list-limits.ensures in
-    let e = sym c.before.before.before.answer.given.1 ∙ c.before.before.before.before.before.chunk-verdict.ensures ∙ ap (λ L. shownVerdict (read L s)) limits in
-    (c.refusal-line.ensures.0, c.refusal-line.ensures.1 ∙ ap (λ l. puts l (waiting a.out.now a.used)) (refused-listed (lists.length s) (read listLimits s) _ e)))
+    let e = sym c.before.before.before.answer.given.1 ∙ c.before.before.before.before.before.chunk_verdict.ensures ∙ ap (λ L. shownVerdict (read L s)) limits in
+    (c.refusal-line.ensures.0, c.refusal-line.ensures.1 ∙ ap (λ l. puts l (waiting a.out.now a.used)) (refused-listed (lists.length s) (read list_limits s) _ e)))
     (λ c. let a = c.before.before.before.before.before.before.before.before.args in
     let s = a.s.now in
     let limits = c.before.before.before.before.before.before.list-limits.ensures in
-    let e = sym c.before.before.before.answer2.given.1 ∙ c.before.before.before.before.before.chunk-verdict.ensures ∙ ap (λ L. shownVerdict (read L s)) limits in
+    let e = sym c.before.before.before.answer2.given.1 ∙ c.before.before.before.before.before.chunk_verdict.ensures ∙ ap (λ L. shownVerdict (read L s)) limits in
     let lines = rw limits at c.chunk-lines.ensures.1 in
-    (c.chunk-lines.ensures.0, lines ∙ ap (λ l. puts l (waiting a.out.now a.used)) (read-listed (lists.length s) (read listLimits s) _ e))))
+    (c.chunk-lines.ensures.0, lines ∙ ap (λ l. puts l (waiting a.out.now a.used)) (read-listed (lists.length s) (read list_limits s) _ e))))

@@ -4,11 +4,11 @@ use Rattle.format.specs.ReadChunk.{Outcome, shown, refusal}
 use Rattle.read_next.specs.declared.Row.{Row}
 use Rattle.validate_rules.specs.declared.finding.Verdict.{Verdict}
 use Rattle.chunklist_lines.specs.Inner.Rows.{row_line}
-use Rattle.chunklist_listing.specs.Listing.{chunkLines}
+use Rattle.chunklist_listing.specs.Listing.{chunk_lines}
 
 -- of a chunk that has this verdict; nothing, where it is refused
 abbrev pub lines_of : ℕ → Verdict → Outcome → List ℕ
-lines_of bytes v (shown r) = chunkLines bytes v r
+lines_of bytes v (shown r) = chunk_lines bytes v r
 lines_of bytes v (refusal q) = []
 
 abbrev pub row_lines : ℕ → List Row → List ℕ

@@ -4,7 +4,7 @@ use borrow.Author.Tests.{not-false}
 use mathlib.Core.Path.{sym, ◌∙◌}
 use Rattle.format.specs.ReadChunk.{read}
 use Rattle.copy.proofs.Outcomes.{all-bytes, copy-refused}
-use Rattle.copy.proofs.PlainChunks.{judged-refused, plain-short, plain-whole}
+use Rattle.copy.proofs.PlainChunks.{judged_refused, plain_short, plain_whole}
 use Rattle.copy.proofs.encode_chunk_lua54.Statement.{statement}
 use Rattle.copy.proofs.encode_chunk_lua54.Tie as tie
 
@@ -14,7 +14,7 @@ returns-3 c =
     let j = c.before.before.before in
     let a = j.before.before.before.before.before.args in
     let o = read a.limits a.s.now in
-    copy-refused a.out.now o _ (judged-refused _ o _ (sym c.before.judged.given.1 ∙ j.judge-spelling.ensures))
+    copy-refused a.out.now o _ (judged_refused _ o _ (sym c.before.judged.given.1 ∙ j.judge-spelling.ensures))
 
 -- too little is lent
 returns-4 : tie.Need-returns-4
@@ -24,7 +24,7 @@ returns-4 c =
     let j = m.before.before in
     let b = j.before.before.before.before in
     let a = b.before.args in
-    plain-short a.s.now a.limits (all-bytes a.s.now (λ i h. (b.shared-slice-known.given i).fits)) m.judged2.given.0.0 m.judged2.given.0.1.0 (sym m.judged2.given.1 ∙ j.judge-spelling.ensures)
+    plain_short a.s.now a.limits (all-bytes a.s.now (λ i h. (b.shared-slice-known.given i).fits)) m.judged2.given.0.0 m.judged2.given.0.1.0 (sym m.judged2.given.1 ∙ j.judge-spelling.ensures)
     (sym p.is_plain.ensures ∙ not-false _ c.before.if2.false)
     a.out.now c.if3.true
 
@@ -39,7 +39,7 @@ returns-5 c =
     let j = m.before.before in
     let b = j.before.before.before.before in
     let a = b.before.args in
-    plain-whole a.s.now a.limits (all-bytes a.s.now (λ i h. (b.shared-slice-known.given i).fits)) m.judged2.given.0.0 m.judged2.given.0.1.0 (sym m.judged2.given.1 ∙ j.judge-spelling.ensures)
+    plain_whole a.s.now a.limits (all-bytes a.s.now (λ i h. (b.shared-slice-known.given i).fits)) m.judged2.given.0.0 m.judged2.given.0.1.0 (sym m.judged2.given.1 ∙ j.judge-spelling.ensures)
     (sym p.is_plain.ensures ∙ not-false _ e.before.if2.false)
     a.out.now e.if3.false _ u.main-upvalues.ensures put.put-plain.ensures
 

@@ -10,18 +10,18 @@ use Rattle.format.specs.Form.{Bytes}
 use Rattle.format.specs.Reading.{Prototype, Reading}
 use Rattle.format.specs.Read.{Read, ok, refused}
 use Rattle.format.specs.ReadChunk.{Outcome, shown}
-use Rattle.format.specs.Copy.{fieldBytes, functionsBytes, headerBytes, upvaluesOfMain, copy}
+use Rattle.format.specs.Copy.{field_bytes, functions_bytes, header_bytes, upvalues_of_main, copy}
 use Rattle.slice.specs.Inner.Splice.{splice}
 use Rattle.copy_put.specs.Inner.Put.{Put}
 use Rattle.copy.specs.declared.whole.CopyAnswer.{CopyAnswer}
 use Rattle.copy.specs.declared.whole.CopyAnswer.TheVariants as answer
-use Rattle.copy.specs.Copied.{lengthBy}
+use Rattle.copy.specs.Copied.{length_by}
 
 abbrev pub chunkBy : (List Prototype → Bytes) → List Prototype → Bytes → Bytes
-chunkBy functions ps trailing = headerBytes 0 ++ (fieldBytes 1 (upvaluesOfMain ps) ++ (functions ps ++ trailing))
+chunkBy functions ps trailing = header_bytes 0 ++ (field_bytes 1 (upvalues_of_main ps) ++ (functions ps ++ trailing))
 
 abbrev pub chunk_bytes : List Prototype → Bytes → Bytes
-chunk_bytes = chunkBy functionsBytes
+chunk_bytes = chunkBy functions_bytes
 
 pub record PutAll (b l : Bytes) (r : CopyAnswer) (l' : Bytes) : Type 0 where
   pub len : ℕ
@@ -34,7 +34,7 @@ pub record Answers {A : Type 0} (bytes : A → Bytes → Bytes) (o : Read A) (l 
   pub puts : (x : A) (to : ℕ) (rest : Bytes) → o ≡ ok x to rest → PutAll (bytes x rest) l r l'
 
 pub record CopiesBy (copied : Reading → Bytes) (o : Outcome) (l : Bytes) (r : CopyAnswer) (l' : Bytes) : Type 0 where
-  pub is : r ≡ lengthBy copied o
+  pub is : r ≡ length_by copied o
   pub wrote : (x : Reading) → o ≡ shown x → length (copied x) ≤ length l → l' ≡ splice 0 (copied x) l
 
 abbrev pub Copies : Outcome → Bytes → CopyAnswer → Bytes → Type 0

@@ -3,9 +3,9 @@ use borrow.Author.Rules.{rules}
 use borrow.Author.Tests.{not-false}
 use mathlib.Core.Path.{sym, ◌∙◌}
 use Rattle.format.specs.ReadChunk.{read}
-use Rattle.format.specs.FullCopy.{fullCopy}
-use Rattle.copy.proofs.Outcomes.{all-bytes, by-refused}
-use Rattle.copy_full.proofs.PlainFull.{full-refused, full-short, full-whole}
+use Rattle.format.specs.FullCopy.{full_copy}
+use Rattle.copy.proofs.Outcomes.{all-bytes, by_refused}
+use Rattle.copy_full.proofs.PlainFull.{full_refused, full_short, full_whole}
 use Rattle.copy_full.proofs.full_copy.Statement.{statement}
 use Rattle.copy_full.proofs.full_copy.Tie as tie
 
@@ -15,7 +15,7 @@ returns-3 c =
     let j = c.before.before.before in
     let a = j.before.before.before.before.before.args in
     let o = read a.limits a.s.now in
-    by-refused fullCopy a.out.now o _ (full-refused _ o _ (sym c.before.judged.given.1 ∙ j.judge-spelling.ensures))
+    by_refused full_copy a.out.now o _ (full_refused _ o _ (sym c.before.judged.given.1 ∙ j.judge-spelling.ensures))
 
 -- too little is lent
 returns-4 : tie.Need-returns-4
@@ -25,7 +25,7 @@ returns-4 c =
     let j = m.before.before in
     let b = j.before.before.before.before in
     let a = b.before.args in
-    full-short a.s.now a.limits (all-bytes a.s.now (λ i h. (b.shared-slice-known.given i).fits)) m.judged2.given.0.0 m.judged2.given.0.1.0 (sym m.judged2.given.1 ∙ j.judge-spelling.ensures)
+    full_short a.s.now a.limits (all-bytes a.s.now (λ i h. (b.shared-slice-known.given i).fits)) m.judged2.given.0.0 m.judged2.given.0.1.0 (sym m.judged2.given.1 ∙ j.judge-spelling.ensures)
     (sym p.is-plain-in-full.ensures ∙ not-false _ c.before.if2.false)
     a.out.now c.if3.true
 
@@ -40,7 +40,7 @@ returns-5 c =
     let j = m.before.before in
     let b = j.before.before.before.before in
     let a = b.before.args in
-    full-whole a.s.now a.limits (all-bytes a.s.now (λ i h. (b.shared-slice-known.given i).fits)) m.judged2.given.0.0 m.judged2.given.0.1.0 (sym m.judged2.given.1 ∙ j.judge-spelling.ensures)
+    full_whole a.s.now a.limits (all-bytes a.s.now (λ i h. (b.shared-slice-known.given i).fits)) m.judged2.given.0.0 m.judged2.given.0.1.0 (sym m.judged2.given.1 ∙ j.judge-spelling.ensures)
     (sym p.is-plain-in-full.ensures ∙ not-false _ e.before.if2.false)
     a.out.now e.if3.false _ u.main-upvalues.ensures put.put-plain.ensures
 

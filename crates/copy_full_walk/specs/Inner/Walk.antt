@@ -4,9 +4,9 @@ use Rattle.std.proofs.Math.Option.{Option}
 use Rattle.format.specs.Form.{Bytes}
 use Rattle.format.specs.GrammarFields.{LuaString}
 use Rattle.format.specs.Reading.{Prototype}
-use Rattle.format.specs.Copy.{optionBytes, behindSource}
-use Rattle.format.specs.FullCopy.{nestedSource, allWithin, fullNest}
+use Rattle.format.specs.Copy.{option_bytes, behind_source}
+use Rattle.format.specs.FullCopy.{nested_source, all_within, full_nest}
 
-abbrev pub fullBytes : Option LuaString → List Prototype → Bytes
-fullBytes parent [] = []
-fullBytes parent (p ∷ ps) = optionBytes (nestedSource parent p.source_name) ++ behindSource p (allWithin p.source_name (foldr fullNest [] ps))
+abbrev pub full_bytes : Option LuaString → List Prototype → Bytes
+full_bytes parent [] = []
+full_bytes parent (p ∷ ps) = option_bytes (nested_source parent p.source_name) ++ behind_source p (all_within p.source_name (foldr full_nest [] ps))

@@ -20,22 +20,22 @@ use Rattle.read_prototype.specs.declared.front.FrontResult.{FrontResult}
 use Rattle.read_prototype.specs.declared.front.FrontResult.TheVariants as front-answer
 use Rattle.copy_put.specs.Inner.Put.{Put}
 use Rattle.copy_put.specs.Inner.Text.{There, spelt}
-use Rattle.copy_parts.specs.Inner.Parts.{linesBytes}
+use Rattle.copy_parts.specs.Inner.Parts.{lines_bytes}
 
 abbrev pub lines_read : LinesResult → CursorResult
 lines_read (lines-answer.Ok x c) = cursor.Ok c
 lines_read (lines-answer.Err q) = cursor.Err q
 
-abbrev pub sizesRead : SizesResult → CursorResult
-sizesRead (sizes-answer.Ok x c) = cursor.Ok c
-sizesRead (sizes-answer.Err q) = cursor.Err q
+abbrev pub sizes_read : SizesResult → CursorResult
+sizes_read (sizes-answer.Ok x c) = cursor.Ok c
+sizes_read (sizes-answer.Err q) = cursor.Err q
 
-abbrev pub frontRead : FrontResult → CursorResult
-frontRead (front-answer.Ok x c) = cursor.Ok c
-frontRead (front-answer.Err q) = cursor.Err q
+abbrev pub front_read : FrontResult → CursorResult
+front_read (front-answer.Ok x c) = cursor.Ok c
+front_read (front-answer.Err q) = cursor.Err q
 
 pub record PutsLines (o : LinesResult) (at : ℕ) (l : Bytes) (behind : ℕ) (l' : Bytes) : Type 0 where
-  pub put : (x : Lines) (c : Cursor) → o ≡ lines-answer.Ok x c → Put (linesBytes x) at l behind l'
+  pub put : (x : Lines) (c : Cursor) → o ≡ lines-answer.Ok x c → Put (lines_bytes x) at l behind l'
 
 pub record PutsSizes (o : SizesResult) (at : ℕ) (l : Bytes) (behind : ℕ) (l' : Bytes) : Type 0 where
   pub put : (x : Sizes) (c : Cursor) → o ≡ sizes-answer.Ok x c → Put (x.numparams ∷ x.is_vararg ∷ x.maxstacksize ∷ []) at l behind l'
@@ -46,7 +46,7 @@ pub record FrontPut (s : Bytes) (named : Bool) (f : declared-front.Front) (l : B
   pub w₂ : ℕ
   pub l₂ : Bytes
   pub source : There s f.source → Put (cond named (spelt s f.source) (shortest 0)) 0 l w₁ l₁
-  pub lines : Put (linesBytes f.lines) w₁ l₁ w₂ l₂
+  pub lines : Put (lines_bytes f.lines) w₁ l₁ w₂ l₂
   pub sizes : Put (f.sizes.numparams ∷ f.sizes.is_vararg ∷ f.sizes.maxstacksize ∷ []) w₂ l₂ behind l'
 
 pub record PutsFront (s : Bytes) (named : Bool) (o : FrontResult) (l : Bytes) (behind : ℕ) (l' : Bytes) : Type 0 where

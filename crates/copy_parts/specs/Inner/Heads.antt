@@ -1,5 +1,5 @@
 -- What is put of a function before the functions that nest in it, read in the same pass.
---     listsCounted, countsOf, headCounted    what is kept of what was read: how many, and the place behind
+--     lists_counted, counts_of, head_counted    what is kept of what was read: how many, and the place behind
 --     PutsLists, PutsHead      of the lists before them; of all before them
 use Rattle.std.specs.Prelude.{◌≡◌, Bool, ℕ, drop}
 use Rattle.format.specs.declared.limits.ResourceLimits.{ResourceLimits}
@@ -17,27 +17,27 @@ use Rattle.copy_parts.specs.declared.parts.ListCountsResult.TheVariants as two
 use Rattle.copy_parts.specs.declared.parts.Counts.{Counts}
 use Rattle.copy_parts.specs.declared.parts.CountsResult.{CountsResult}
 use Rattle.copy_parts.specs.declared.parts.CountsResult.TheVariants as three
-use Rattle.read_prototype.specs.Parts.{HeadLists, headLists, Head}
+use Rattle.read_prototype.specs.Parts.{HeadLists, head_lists, Head}
 use Rattle.read_prototype.specs.PartsShown.{lists_of}
 use Rattle.copy_put.specs.Inner.Put.{Put}
-use Rattle.copy_parts.specs.Inner.Parts.{listsBytes, headBytes}
+use Rattle.copy_parts.specs.Inner.Parts.{lists_bytes, head_bytes}
 
-abbrev pub listsCounted : HeadListsResult → ListCountsResult
-listsCounted (lists-answer.Ok x c) = two.Ok x.instructions.count x.upvalues.count c
-listsCounted (lists-answer.Err q) = two.Err q
+abbrev pub lists_counted : HeadListsResult → ListCountsResult
+lists_counted (lists-answer.Ok x c) = two.Ok x.instructions.count x.upvalues.count c
+lists_counted (lists-answer.Err q) = two.Err q
 
-abbrev pub countsOf : declared-head.Head → Counts
-countsOf h = record { instructions = h.lists.instructions.count; upvalues = h.lists.upvalues.count; protos = h.protos.count }
+abbrev pub counts_of : declared-head.Head → Counts
+counts_of h = record { instructions = h.lists.instructions.count; upvalues = h.lists.upvalues.count; protos = h.protos.count }
 
-abbrev pub headCounted : HeadResult → CountsResult
-headCounted (head-answer.Ok h c) = three.Ok (countsOf h) c
-headCounted (head-answer.Err q) = three.Err q
+abbrev pub head_counted : HeadResult → CountsResult
+head_counted (head-answer.Ok h c) = three.Ok (counts_of h) c
+head_counted (head-answer.Err q) = three.Err q
 
 -- where o shows the lists before the nested functions, their bytes, wherever they were read
 pub record PutsLists (L : ResourceLimits) (s : Bytes) (o : HeadListsResult) (at : ℕ) (l : Bytes) (behind : ℕ) (l' : Bytes) : Type 0 where
   pub put : (lists : declared-lists.HeadLists) (c : Cursor) → o ≡ lists-answer.Ok lists c
-      → (before from to : ℕ) (h : HeadLists) (rest : Bytes) → Below 256 s → headLists L before from (drop from s) ≡ ok h to rest → lists ≡ lists_of h → Put (listsBytes h) at l behind l'
+      → (before from to : ℕ) (h : HeadLists) (rest : Bytes) → Below 256 s → head_lists L before from (drop from s) ≡ ok h to rest → lists ≡ lists_of h → Put (lists_bytes h) at l behind l'
 
 -- where a function was read up to the functions that nest in it, its bytes, at the start
 pub record PutsHead (named : Bool) (o : Read Head) (l : Bytes) (len : ℕ) (l' : Bytes) : Type 0 where
-  pub put : (h : Head) (to : ℕ) (rest : Bytes) → o ≡ ok h to rest → Put (headBytes named h) 0 l len l'
+  pub put : (h : Head) (to : ℕ) (rest : Bytes) → o ≡ ok h to rest → Put (head_bytes named h) 0 l len l'

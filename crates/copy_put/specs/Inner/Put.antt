@@ -6,7 +6,7 @@
 use Rattle.std.specs.Prelude.{◌≡◌, List, ℕ, ◌+◌, ◌≤◌, length}
 use Rattle.format.specs.Form.{Bytes}
 use Rattle.format.specs.Read.{Read, ok}
-use Rattle.format.specs.Copy.{listBytes}
+use Rattle.format.specs.Copy.{list_bytes}
 use Rattle.slice.specs.Inner.Splice.{splice}
 
 pub record Put (b : Bytes) (at : ℕ) (l : Bytes) (behind : ℕ) (l' : Bytes) : Type 0 where
@@ -19,4 +19,4 @@ pub record Puts {A : Type 0} (bytes : A → Bytes) (o : Read A) (at : ℕ) (l : 
 
 -- where a list was read, its entries behind their count
 pub record PutsAll {A : Type 0} (bytes : A → Bytes) (o : Read (List A)) (at : ℕ) (l : Bytes) (behind : ℕ) (l' : Bytes) : Type 0 where
-  pub put : (xs : List A) (to : ℕ) (rest : Bytes) → o ≡ ok xs to rest → Put (listBytes bytes xs) at l behind l'
+  pub put : (xs : List A) (to : ℕ) (rest : Bytes) → o ≡ ok xs to rest → Put (list_bytes bytes xs) at l behind l'

@@ -1,7 +1,7 @@
 -- The copy's bytes of a string that is shown by its place in the slice s and its length.
 --     There s t        s has its bytes
 --     spelt s t        its size and its bytes, or the size of an absent one
---     speltName s t    the same, with `?` for an absent one
+--     spelt_name s t    the same, with `?` for an absent one
 use Rattle.std.specs.Prelude.{[], ◌∷◌, ◌++◌, suc, ◌-◌, ◌≤◌, length, take, drop}
 use Rattle.format.specs.Form.{Bytes}
 use Rattle.format.specs.Shortest.{shortest}
@@ -16,6 +16,6 @@ abbrev pub spelt : Bytes → OptionString → Bytes
 spelt s None = shortest 0
 spelt s (Some t) = shortest (suc t.len) ++ take t.len (drop t.place s)
 
-abbrev pub speltName : Bytes → OptionString → Bytes
-speltName s None = shortest 2 ++ (63 ∷ [])
-speltName s (Some t) = spelt s (Some t)
+abbrev pub spelt_name : Bytes → OptionString → Bytes
+spelt_name s None = shortest 2 ++ (63 ∷ [])
+spelt_name s (Some t) = spelt s (Some t)

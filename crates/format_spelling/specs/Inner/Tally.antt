@@ -1,5 +1,5 @@
 -- Places counted in lent memory: four numbers.
---     ofNumber padded      how a number is spelt
+--     of_number padded      how a number is spelt
 --     counts t             the spelling that they are
 --     Between a at to      of each sort at most as many as there are bytes from the one place to the other
 --     Room t at            at most as many as there are bytes before a place
@@ -11,8 +11,8 @@ use Rattle.format.specs.Form.{Bytes}
 use Rattle.format.specs.Read.{Read, ok}
 use Rattle.format_spelling.specs.Spelling.{◌⊕◌}
 
-abbrev pub ofNumber : Bool → Spelling
-ofNumber padded = record { padded = cond padded 1 0; filled = 0; sources = 0; repeated = 0 }
+abbrev pub of_number : Bool → Spelling
+of_number padded = record { padded = cond padded 1 0; filled = 0; sources = 0; repeated = 0 }
 
 abbrev pub counts : List ℕ → Spelling
 counts t = record { padded = get_or t 0 0; filled = get_or t 1 0; sources = get_or t 2 0; repeated = get_or t 3 0 }

@@ -5,7 +5,7 @@ use native.Mathlib.Omega.{arith}
 use borrow.Author.Rules.{rules}
 use Rattle.format.specs.GrammarChunk.{outermost}
 use Rattle.format.specs.ReadChunk.{read}
-use Rattle.index.proofs.Whole.{refused-index, no_room, in-limits, index-written}
+use Rattle.index.proofs.Whole.{refused-index, no_room, in_limits, index-written}
 use Rattle.index.proofs.function_index.Statement.{statement}
 use Rattle.index.proofs.function_index.Tie as tie
 
@@ -21,7 +21,7 @@ write-function-requires c κs =
     let j = c.before.before.before.before in
     let b = j.before.before in
     let a = b.before.before.before.args in
-    let l = in-limits a.rows.now a.limits a.s.now j.judged2.given.0.0 (sym j.judged2.given.1 ∙ b.judge-chunk.ensures) in
+    let l = in_limits a.rows.now a.limits a.s.now j.judged2.given.0.0 (sym j.judged2.given.1 ∙ b.judge-chunk.ensures) in
     let nesting = l.0 in
     (l.1, omega arith, omega arith)
 

@@ -2,7 +2,7 @@
 use native.Mathlib.Omega.{arith}
 use lib.ListN.{length-set}
 use borrow.Author.Rules.{rules}
-use Rattle.slice.proofs.Splices.{splice-four}
+use Rattle.slice.proofs.Splices.{splice_four}
 use Rattle.index_row.proofs.put_four.Statement.{statement}
 use Rattle.index_row.proofs.put_four.Tie as tie
 
@@ -27,4 +27,4 @@ put-four-spec =
     (λ c. simp length-set (omega arith))
     (λ c. search rules)
     (λ c. let b = c.before.before.before.before.before in
-    rw (c.narrow4.ensures, c.before.narrow3.ensures, c.before.before.narrow2.ensures, c.before.before.before.narrow.ensures) (splice-four b.args.at _ _ _ _ b.args.rows.now b.requires)))
+    rw (c.narrow4.ensures, c.before.narrow3.ensures, c.before.before.narrow2.ensures, c.before.before.before.narrow.ensures) (splice_four b.args.at _ _ _ _ b.args.rows.now b.requires)))

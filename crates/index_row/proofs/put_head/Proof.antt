@@ -4,7 +4,7 @@ use mathlib.Core.Path.{◌∙◌, ap}
 use native.Mathlib.Omega.{arith}
 use borrow.Author.Rules.{rules}
 use Rattle.slice.specs.Inner.Splice.{splice}
-use Rattle.slice.proofs.Splices.{splice-then}
+use Rattle.slice.proofs.Splices.{splice_then}
 use Rattle.index_row.specs.Inner.Stored.{COLUMNS}
 use Rattle.index_row.proofs.put_head.Statement.{statement}
 use Rattle.index_row.proofs.put_head.Tie as tie
@@ -26,4 +26,4 @@ put-head-spec =
     let first = second.before.before.before.before in
     let a = first.before.before.before.before in
     third.put_two.ensures
-    ∙ ap (splice _ _) (second.put-four2.ensures ∙ ap (splice _ _) first.put_four.ensures ∙ splice-then (COLUMNS * a.args.number) _ _ a.args.rows.now (omega (arith, h)))))
+    ∙ ap (splice _ _) (second.put-four2.ensures ∙ ap (splice _ _) first.put_four.ensures ∙ splice_then (COLUMNS * a.args.number) _ _ a.args.rows.now (omega (arith, h)))))

@@ -6,7 +6,7 @@ use native.Mathlib.Omega.{arith}
 use lib.ListN.{length-set}
 use borrow.Author.Rules.{rules}
 use Rattle.slice.specs.Inner.Splice.{splice}
-use Rattle.slice.proofs.Splices.{splice-set, splice-then}
+use Rattle.slice.proofs.Splices.{splice_set, splice_then}
 use Rattle.index_row.specs.Inner.Stored.{low}
 use Rattle.index_row.proofs.put_two.Statement.{statement}
 use Rattle.index_row.proofs.put_two.Tie as tie
@@ -26,6 +26,6 @@ put-two-spec =
     (λ c. let b = c.before.before.before in
     let a = b.args in
     rw (c.narrow2.ensures, c.before.narrow.ensures)
-    (splice-set (a.at + 1) (low a.b) _ (simp length-set (omega arith))
-    ∙ ap (splice (a.at + 1) (low a.b ∷ [])) (splice-set a.at (low a.a) a.rows.now (omega arith))
-    ∙ splice-then a.at (low a.a ∷ []) (low a.b ∷ []) a.rows.now (omega arith))))
+    (splice_set (a.at + 1) (low a.b) _ (simp length-set (omega arith))
+    ∙ ap (splice (a.at + 1) (low a.b ∷ [])) (splice_set a.at (low a.a) a.rows.now (omega arith))
+    ∙ splice_then a.at (low a.a ∷ []) (low a.b ∷ []) a.rows.now (omega arith))))

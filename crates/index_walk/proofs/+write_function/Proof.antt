@@ -16,15 +16,15 @@ use Rattle.slice.specs.declared.cursor.Cursor.{Cursor}
 use Rattle.read_prototype.specs.declared.pass.HeadCounts.{HeadCounts}
 use Rattle.read_prototype.specs.declared.pass.HeadCountsResult.TheVariants as head-answer
 use Rattle.read_prototype.specs.Parts as parts
-use Rattle.read_prototype.specs.Inner.Counts.{headCountsResult}
+use Rattle.read_prototype.specs.Inner.Counts.{head_counts_result}
 use Rattle.read_walk.specs.declared.walk.Skimmed.{Skimmed}
 use Rattle.read_walk.specs.declared.walk.SkimResult.TheVariants as skim
-use Rattle.read_walk.specs.Inner.Skim.{on, skimResult}
-use Rattle.read_walk.proofs.HeadTail.{counts-total}
+use Rattle.read_walk.specs.Inner.Skim.{on, skim_result}
+use Rattle.read_walk.proofs.HeadTail.{counts_total}
 use Rattle.read_walk.proofs.Passes as passes
 use Rattle.read_walk.proofs.SoFar as so_far
 use Rattle.read_walk.proofs.SoFar.{level}
-use Rattle.index_walk.proofs.Rows.{refuses, function-wrote, Behind, starts-behind, ends-behind, on-behind}
+use Rattle.index_walk.proofs.Rows.{refuses, function-wrote, Behind, starts-behind, ends_behind, on-behind}
 use Rattle.index_walk.proofs.write_function.Reads as write-function
 use Rattle.index_walk.proofs.write_function.Kinds as write-function-kinds
 use Rattle.index_walk.proofs.+write_function.Lts-write_function as write-function-lts
@@ -69,7 +69,7 @@ module _ (t : ℕ) (h : write-function-lts.After-begins2 (calls t) (at t) write-
   abbrev inside : Skimmed
   inside = record { next = behind; number = a.from.number + 1; instructions = a.from.instructions + head.instructions }
 
-  begun : head-answer.Ok head behind ≡ headCountsResult (parts.head a.limits a.from.instructions a.from.next.at (drop a.from.next.at a.s.now))
+  begun : head-answer.Ok head behind ≡ head_counts_result (parts.head a.limits a.from.instructions a.from.next.at (drop a.from.next.at a.s.now))
   begun = sym h.begins2.given.1 ∙ h.before.before.pass-head.ensures.0
 
   module _ (w : Where) (i : a.from.instructions ≡ w.instructions) where
@@ -77,11 +77,11 @@ module _ (t : ℕ) (h : write-function-lts.After-begins2 (calls t) (at t) write-
     place = passes.first a.s.now a.limits a.left w a.from.next.at i head behind begun
 
     so-many : inside.instructions ≡ place.instructions
-    so-many = passes.first-instructions a.s.now a.limits a.left w a.from.next.at i head behind begun
+    so-many = passes.first_instructions a.s.now a.limits a.left w a.from.next.at i head behind begun
 
-    refused-inside : (q : Refusal) → skim.Err q ≡ skimResult place (passes.inner a.s.now a.limits a.left w a.from.next.at i head behind begun)
-        → skim.Err q ≡ skimResult w (function a.limits a.left w a.from.next.at (drop a.from.next.at a.s.now))
-    refused-inside = passes.nested-refused a.s.now a.limits a.left w a.from.next.at i head behind begun
+    refused-inside : (q : Refusal) → skim.Err q ≡ skim_result place (passes.inner a.s.now a.limits a.left w a.from.next.at i head behind begun)
+        → skim.Err q ≡ skim_result w (function a.limits a.left w a.from.next.at (drop a.from.next.at a.s.now))
+    refused-inside = passes.nested_refused a.s.now a.limits a.left w a.from.next.at i head behind begun
 
 -- the rows behind the front of this function's row, as many as before
 abbrev begun-rows : (t : ℕ) → write-function-lts.After-put-head (calls t) (at t) write-function.Post Inv decreases-loop → List ℕ
@@ -96,7 +96,7 @@ number t c = let few = c.before.before.before.before.before.before.before.before
 total : (t : ℕ) → write-function-lts.Need-overflow-add-t29 (calls t) (at t) write-function.Post Inv decreases-loop
 total t c =
     let h = c.before.before.before.before.before.before.before.before in
-    let e = counts-total (a t h).s.now (a t h).limits (a t h).from.instructions (a t h).from.next.at (head t h) (behind t h) (begun t h) in
+    let e = counts_total (a t h).s.now (a t h).limits (a t h).from.instructions (a t h).from.next.at (head t h) (behind t h) (begun t h) in
     let limit = h.before.before.before.before.before.before.before.requires.1.0.1 in
     omega (arith, e, limit)
 
@@ -199,7 +199,7 @@ returns-6 t c =
       λ w n i. passes.function-shown (a t h).s.now (a t h).limits (a t h).left w (a t h).from.next.at i (head t h) (behind t h) (begun t h) l.loop.nested (so_far.ends (l.loop.invariant.1 (place t h w i) (λ j. n j + 1) (so-many t h w i)).so_far o.loop-test.false) tail end ended,
       λ w n i d p. function-wrote (a t h).s.now (a t h).limits (a t h).left w (a t h).from.next.at i (head t h) (behind t h) (begun t h) l.loop.nested (so_far.ends (l.loop.invariant.1 (place t h w i) (λ j. n j + 1) (so-many t h w i)).so_far o.loop-test.false) tail end ended
           (a t h).from.number (a t h).depth (a t h).parent n d p (a t h).rows.now (begun-rows t l.before.before.before.before.before.before) l.loop.rows _ l.before.before.before.before.before.before.put-head.ensures (begun-long t l.before.before.before.before.before.before)
-          (ends-behind (a t h).s.now (a t h).limits (head t h).protos (a t h).left ((a t h).depth + 1) (a t h).from.number (inside t h) (begun-rows t l.before.before.before.before.before.before) l.loop.nested l.loop.more l.loop.rows l.loop.invariant.1 o.loop-test.false (place t h w i) (λ j. n j + 1) (so-many t h w i) (λ j. d j + 1) n)
+          (ends_behind (a t h).s.now (a t h).limits (head t h).protos (a t h).left ((a t h).depth + 1) (a t h).from.number (inside t h) (begun-rows t l.before.before.before.before.before.before) l.loop.nested l.loop.more l.loop.rows l.loop.invariant.1 o.loop-test.false (place t h w i) (λ j. n j + 1) (so-many t h w i) (λ j. d j + 1) n)
           l.loop.invariant.0 r.put-tail.ensures,
     )
 

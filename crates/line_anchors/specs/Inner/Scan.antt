@@ -9,27 +9,27 @@ use Rattle.line_anchors.specs.declared.Sought.{Sought}
 use Rattle.line_anchors.specs.declared.Sought.TheVariants.{Ahead, At}
 use Rattle.line_anchors.specs.declared.ScanResult.TheVariants as scan
 
-abbrev pub orLarge : Bool → ℕ → Bool
-orLarge b line = cond b true (leb (2 ^ 62) line)
+abbrev pub or_large : Bool → ℕ → Bool
+or_large b line = cond b true (leb (2 ^ 62) line)
 
-abbrev pub stillTaking : Bool → ℕ → AbsLineInfo → Bool
-stillTaking b pc a = cond b (leb a.pc pc) false
+abbrev pub still_taking : Bool → ℕ → AbsLineInfo → Bool
+still_taking b pc a = cond b (leb a.pc pc) false
 
 -- `deltas` are those up to the pc
-abbrev pub resetBy : Bytes → AbsLineInfo → AbsLineInfo → AbsLineInfo
-resetBy deltas r a = cond (eqb (get_or deltas a.pc 0) 128) (cond (ltb a.pc r.pc) r (record { pc = a.pc + 1; line = a.line })) r
+abbrev pub reset_by : Bytes → AbsLineInfo → AbsLineInfo → AbsLineInfo
+reset_by deltas r a = cond (eqb (get_or deltas a.pc 0) 128) (cond (ltb a.pc r.pc) r (record { pc = a.pc + 1; line = a.line })) r
 
-abbrev pub seekBy : Sought → ℕ → Sought
-seekBy (At l) line = At l
-seekBy (Ahead before) line = cond (eqb before 0) (At line) (Ahead (before - 1))
+abbrev pub seek_by : Sought → ℕ → Sought
+seek_by (At l) line = At l
+seek_by (Ahead before) line = cond (eqb before 0) (At line) (Ahead (before - 1))
 
 abbrev pub passed : Bytes → ℕ → Scan → AbsLineInfo → Scan
 passed deltas pc z a = record {
-  large = orLarge z.large a.line;
-  taking = stillTaking z.taking pc a;
-  base = cond (stillTaking z.taking pc a) a z.base;
-  reset = resetBy deltas z.reset a;
-  sought = seekBy z.sought a.line;
+  large = or_large z.large a.line;
+  taking = still_taking z.taking pc a;
+  base = cond (still_taking z.taking pc a) a z.base;
+  reset = reset_by deltas z.reset a;
+  sought = seek_by z.sought a.line;
 }
 
 abbrev pub scanned : Bytes → ℕ → Scan → List AbsLineInfo → Scan
@@ -39,6 +39,6 @@ scanned deltas pc z (a ∷ more) = scanned deltas pc (passed deltas pc z a) more
 abbrev pub start_of : ℕ → ℕ → Scan
 start_of pc line_defined = record { large = leb (2 ^ 62) line_defined; taking = true; base = record { pc = 0; line = line_defined }; reset = record { pc = 0; line = 0 }; sought = Ahead pc }
 
-abbrev pub scanResult : Bytes → ℕ → Scan → Read (List AbsLineInfo) → ScanResult
-scanResult deltas pc z (ok anchors to rest) = scan.Ok (scanned deltas pc z anchors)
-scanResult deltas pc z (refused q) = scan.Err q
+abbrev pub scan_result : Bytes → ℕ → Scan → Read (List AbsLineInfo) → ScanResult
+scan_result deltas pc z (ok anchors to rest) = scan.Ok (scanned deltas pc z anchors)
+scan_result deltas pc z (refused q) = scan.Err q

@@ -8,18 +8,18 @@ use Rattle.line_batch.specs.declared.anchors.Anchors.{Anchors}
 use Rattle.line_batch.specs.declared.anchors.NextAnchor.{NextAnchor}
 use Rattle.line_batch.specs.declared.anchors.NextAnchor.TheVariants as next
 
-abbrev pub orNone : Read AbsLineInfo → (ℕ → List AbsLineInfo) → List AbsLineInfo
-orNone (ok a to rest) more = a ∷ more to
-orNone (refused q) more = []
+abbrev pub or_none : Read AbsLineInfo → (ℕ → List AbsLineInfo) → List AbsLineInfo
+or_none (ok a to rest) more = a ∷ more to
+or_none (refused q) more = []
 
-abbrev pub anchorsAt : Bytes → ℕ → ℕ → List AbsLineInfo
-anchorsAt s zero at = []
-anchorsAt s (suc n) at = orNone (anchor at (drop at s)) (anchorsAt s n)
+abbrev pub anchors_at : Bytes → ℕ → ℕ → List AbsLineInfo
+anchors_at s zero at = []
+anchors_at s (suc n) at = or_none (anchor at (drop at s)) (anchors_at s n)
 
-abbrev pub anchorsOf : Bytes → Anchors → List AbsLineInfo
-anchorsOf s z = anchorsAt s z.left z.next.at
+abbrev pub anchors_of : Bytes → Anchors → List AbsLineInfo
+anchors_of s z = anchors_at s z.left z.next.at
 
 -- the first and the rest
-abbrev pub nextList : Bytes → NextAnchor → List AbsLineInfo
-nextList s next.None = []
-nextList s (next.Some a rest) = a ∷ anchorsOf s rest
+abbrev pub next_list : Bytes → NextAnchor → List AbsLineInfo
+next_list s next.None = []
+next_list s (next.Some a rest) = a ∷ anchors_of s rest

@@ -5,11 +5,11 @@ use Rattle.format.specs.declared.entry.AbsLineInfo.{AbsLineInfo}
 use Rattle.format.specs.Form.{Bytes}
 use Rattle.line_batch.specs.declared.anchors.Anchors.{Anchors}
 use Rattle.line_batch.specs.declared.walk.Walk.{Walk}
-use Rattle.line_batch.specs.Inner.Anchors.{anchorsOf}
+use Rattle.line_batch.specs.Inner.Anchors.{anchors_of}
 use Rattle.line_batch.specs.Inner.Walk.{Step, forward}
 
 abbrev pub step_of : Bytes → Walk → Step
-step_of s w = record { left = anchorsOf s w.rest; at = w.at; from = w.from; sum = w.sum; read = w.read }
+step_of s w = record { left = anchors_of s w.rest; at = w.at; from = w.from; sum = w.sum; read = w.read }
 
 -- no sum on the way is too large: the line of each pc's base, and the number of deltas read by then
 abbrev pub Writable : Bytes → Step → List ℕ → Type 0

@@ -14,36 +14,36 @@ pub record Step : Type 0 where
   pub read : ℕ
 
 -- takes anchors while their pc is not above the one sought
-abbrev pub takeUp : ℕ → List AbsLineInfo → ℕ → ℕ → ℤ → ℕ → Step
-takeUp pc [] at from sum read = record { left = []; at = at; from = from; sum = sum; read = read }
-takeUp pc (a ∷ more) at from sum read =
-    let taken = takeUp pc more a.pc a.line (pos 0) read in
+abbrev pub take_up : ℕ → List AbsLineInfo → ℕ → ℕ → ℤ → ℕ → Step
+take_up pc [] at from sum read = record { left = []; at = at; from = from; sum = sum; read = read }
+take_up pc (a ∷ more) at from sum read =
+    let taken = take_up pc more a.pc a.line (pos 0) read in
     cond (leb a.pc pc) taken (record { left = a ∷ more; at = at; from = from; sum = sum; read = read })
 
-abbrev pub takeStep : ℕ → Step → Step
-takeStep pc z = takeUp pc z.left z.at z.from z.sum z.read
+abbrev pub take_step : ℕ → Step → Step
+take_step pc z = take_up pc z.left z.at z.from z.sum z.read
 
 -- reads the deltas up to the pc
-abbrev pub readUp : Bytes → ℕ → Step → Step
-readUp deltas pc z =
+abbrev pub read_up : Bytes → ℕ → Step → Step
+read_up deltas pc z =
     let part = drop z.at (take (pc + 1) deltas) in
     record { left = z.left; at = z.at + length part; from = z.from; sum = summed z.sum part; read = z.read + length part }
 
 abbrev pub forward : Bytes → ℕ → Step → Step
-forward deltas pc z = readUp deltas pc (takeStep pc z)
+forward deltas pc z = read_up deltas pc (take_step pc z)
 
 -- the line: 0 without deltas
-abbrev pub lineBy : Bytes → ℕ → ℤ → ℕ
-lineBy [] from sum = 0
-lineBy (d ∷ ds) from sum = raised (pos from +ℤ sum)
+abbrev pub line_by : Bytes → ℕ → ℤ → ℕ
+line_by [] from sum = 0
+line_by (d ∷ ds) from sum = raised (pos from +ℤ sum)
 
-abbrev pub lineIn : Bytes → Step → ℕ
-lineIn deltas z = lineBy deltas z.from z.sum
+abbrev pub line_in : Bytes → Step → ℕ
+line_in deltas z = line_by deltas z.from z.sum
 
 -- all pcs: the lines, and where it ends
 abbrev pub lines_from : Bytes → Step → List ℕ → List ℕ
 lines_from deltas z [] = []
-lines_from deltas z (pc ∷ pcs) = lineIn deltas (forward deltas pc z) ∷ lines_from deltas (forward deltas pc z) pcs
+lines_from deltas z (pc ∷ pcs) = line_in deltas (forward deltas pc z) ∷ lines_from deltas (forward deltas pc z) pcs
 
 abbrev pub end_of : Bytes → Step → List ℕ → Step
 end_of deltas z [] = z

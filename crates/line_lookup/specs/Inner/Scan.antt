@@ -26,17 +26,17 @@ abbrev pub summed : ℤ → Bytes → ℤ
 summed line [] = line
 summed line (d ∷ ds) = summed (added line d) ds
 
-abbrev pub lineFrom : Scan → Bytes → ℕ
-lineFrom z [] = 0
-lineFrom z (d ∷ ds) = raised (summed (pos (start_in z).line) (drop (start_in z).pc (d ∷ ds)))
+abbrev pub line_from : Scan → Bytes → ℕ
+line_from z [] = 0
+line_from z (d ∷ ds) = raised (summed (pos (start_in z).line) (drop (start_in z).pc (d ∷ ds)))
 
 -- ## Of a row
-abbrev pub numberedOf : ℕ → ℕ → Sought → Sought
-numberedOf anchors instructions sought = cond (eqb anchors instructions) sought (Ahead 0)
+abbrev pub numbered_of : ℕ → ℕ → Sought → Sought
+numbered_of anchors instructions sought = cond (eqb anchors instructions) sought (Ahead 0)
 
 abbrev pub answered : FunctionRow → ℕ → Bytes → Read (List AbsLineInfo) → LineAnswer
 answered row pc s (ok anchors to rest) = answer_of row.lists.instructions.count row.lines.line_defined (take row.lists.line_info.count (drop row.lists.line_info.place s)) anchors pc
 answered row pc s (refused q) = answer.Err q
 
-abbrev pub shownRowLine : FunctionRow → ℕ → Bytes → LineAnswer
-shownRowLine row pc s = answered row pc s (many row.lists.abs_line_info.count anchor row.lists.abs_line_info.place (drop row.lists.abs_line_info.place s))
+abbrev pub shown_row_line : FunctionRow → ℕ → Bytes → LineAnswer
+shown_row_line row pc s = answered row pc s (many row.lists.abs_line_info.count anchor row.lists.abs_line_info.place (drop row.lists.abs_line_info.place s))

@@ -4,6 +4,6 @@ use Rattle.format_spelling.specs.Spelling.{same}
 use Rattle.read_field.specs.declared.string.OptionString.{OptionString}
 use Rattle.read_field.specs.declared.string.OptionString.TheVariants as string
 
-abbrev pub ofString : OptionString → Spelling
-ofString string.None = record { padded = 0; filled = 1; sources = 0; repeated = 0 }
-ofString (string.Some t) = same
+abbrev pub of_string : OptionString → Spelling
+of_string string.None = record { padded = 0; filled = 1; sources = 0; repeated = 0 }
+of_string (string.Some t) = same

@@ -13,16 +13,16 @@ abbrev pub named : RawLocal → LocalVar
 named l = record { name = get_or l.name (record { place = l.behind; bytes = 63 ∷ [] }); startpc = l.startpc; endpc = l.endpc }
 
 -- ## Counts
-abbrev pub countUpTo : ℕ → Refusal → Reader ℕ
-countUpTo limit refusal = do
+abbrev pub count_up_to : ℕ → Refusal → Reader ℕ
+count_up_to limit refusal = do
   n ← number
   at_most n limit refusal
   give n
 
 -- how many instructions, behind `before` of the functions before
-abbrev pub codeCount : ℕ → ℕ → ℕ → Reader ℕ
-codeCount per-proto before total = do
+abbrev pub code_count : ℕ → ℕ → ℕ → Reader ℕ
+code_count per-proto before total = do
   first ← here
-  size ← countUpTo per-proto (Instructions first)
+  size ← count_up_to per-proto (Instructions first)
   at_most (before + size) total (TotalInstructions first)
   give size

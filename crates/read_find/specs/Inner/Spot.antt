@@ -1,7 +1,7 @@
 -- What the walk that finds one function leaves of it, its spot, and the row that is read there.
 --     spot_of a k tail      the six numbers of a spot
 --     standing L s a k     where the function stands that inherits a, behind the walk k
---     functionAt, functionsAt      what is read there: a function, or n of them
+--     function_at, functions_at      what is read there: a function, or n of them
 --     row_at L s l          the row that is read at a spot, where both parts of a function are read there
 --     Found n k o r r'     where o was read, numbered from k on, the row r' is that of the function n, if it is among them, else still r
 use Rattle.std.specs.Prelude.{◌≡◌, Bool, List, [], ◌∷◌, ℕ, ◌+◌, drop, get_or}
@@ -12,7 +12,7 @@ use Rattle.format.specs.Reading.{Prototype}
 use Rattle.format.specs.GrammarChunk as grammar
 use Rattle.format.specs.Read.{Read, ok}
 use Rattle.format.specs.ReadChunk.{forest, function}
-use Rattle.read_field.specs.Shown.{optionString}
+use Rattle.read_field.specs.Shown.{option_string}
 use Rattle.read_field.specs.declared.string.OptionString.{OptionString}
 use Rattle.read_field.specs.declared.string.OptionString.TheVariants as string
 use Rattle.read_prototype.specs.declared.parts.Head.{Head}
@@ -25,41 +25,41 @@ use Rattle.read_prototype.specs.declared.row.FunctionRow.{FunctionRow}
 use Rattle.read_prototype.specs.declared.row.OptionRow.{OptionRow}
 use Rattle.read_prototype.specs.declared.row.OptionRow.TheVariants as option
 use Rattle.read_prototype.specs.Parts as parts
-use Rattle.read_prototype.specs.PartsShown.{headResult, tailResult}
+use Rattle.read_prototype.specs.PartsShown.{head_result, tail_result}
 use Rattle.read_prototype.specs.Inner.Row.{row_of, lookup}
 use Rattle.read_walk.specs.declared.walk.Skimmed.{Skimmed}
 use Rattle.read_walk.specs.Inner.Skim.{entered}
-use Rattle.read_walk.specs.Inner.Source.{sourceAt, handed}
+use Rattle.read_walk.specs.Inner.Source.{source_at, handed}
 use Rattle.read_find.specs.declared.spot.Above.{Above}
 
 abbrev pub spot_of : Above → Skimmed → ℕ → List ℕ
 spot_of a k tail = k.next.at ∷ tail ∷ k.instructions ∷ a.depth ∷ a.parent ∷ a.source ∷ []
 
 -- what the functions inherit that nest in one
-abbrev pub belowShown : Above → Skimmed → Bool → Above
-belowShown a k named = record { depth = a.depth + 1; parent = k.number; source = handed named k.next.at a.source }
+abbrev pub below_shown : Above → Skimmed → Bool → Above
+below_shown a k named = record { depth = a.depth + 1; parent = k.number; source = handed named k.next.at a.source }
 
 abbrev pub standing : ResourceLimits → Bytes → Above → Skimmed → grammar.Where
-standing L s a k = record { number = k.number; instructions = k.instructions; depth = a.depth; parent = a.parent; source = sourceAt L.max_string_bytes s a.source }
+standing L s a k = record { number = k.number; instructions = k.instructions; depth = a.depth; parent = a.parent; source = source_at L.max_string_bytes s a.source }
 
-abbrev pub functionAt : ResourceLimits → Bytes → ℕ → Above → Skimmed → Read (List Prototype)
-functionAt L s left a k = function L left (standing L s a k) k.next.at (drop k.next.at s)
+abbrev pub function_at : ResourceLimits → Bytes → ℕ → Above → Skimmed → Read (List Prototype)
+function_at L s left a k = function L left (standing L s a k) k.next.at (drop k.next.at s)
 
-abbrev pub functionsAt : ResourceLimits → Bytes → ℕ → ℕ → Above → Skimmed → Read (List Prototype)
-functionsAt L s n left a k = forest n (entered L left) (standing L s a k) k.next.at (drop k.next.at s)
+abbrev pub functions_at : ResourceLimits → Bytes → ℕ → ℕ → Above → Skimmed → Read (List Prototype)
+functions_at L s n left a k = forest n (entered L left) (standing L s a k) k.next.at (drop k.next.at s)
 
 -- ## The row at a spot
-abbrev pub inheritShown : OptionString → OptionString → OptionString
-inheritShown (string.Some t) parent = string.Some t
-inheritShown string.None parent = parent
+abbrev pub inherit_shown : OptionString → OptionString → OptionString
+inherit_shown (string.Some t) parent = string.Some t
+inherit_shown string.None parent = parent
 
-abbrev pub rowShown : ℕ → ℕ → OptionString → ℕ → Head → Tail → ℕ → FunctionRow
-rowShown depth parent source start head tail end = record {
+abbrev pub row_shown : ℕ → ℕ → OptionString → ℕ → Head → Tail → ℕ → FunctionRow
+row_shown depth parent source start head tail end = record {
   start = start;
   end = end;
   depth = depth;
   parent = parent;
-  source_name = inheritShown head.front.source source;
+  source_name = inherit_shown head.front.source source;
   lines = head.front.lines;
   sizes = head.front.sizes;
   lists = record {
@@ -75,22 +75,22 @@ rowShown depth parent source start head tail end = record {
 }
 
 -- of what is read before and behind the nested functions
-abbrev pub rowFrom : ℕ → ℕ → OptionString → ℕ → HeadResult → TailResult → OptionRow
-rowFrom depth parent source start (head-answer.Ok h c) (tail-answer.Ok t d) = option.Some (rowShown depth parent source start h t d.at)
-rowFrom depth parent source start (head-answer.Ok h c) (tail-answer.Err q) = option.None
-rowFrom depth parent source start (head-answer.Err q) t = option.None
+abbrev pub row_from : ℕ → ℕ → OptionString → ℕ → HeadResult → TailResult → OptionRow
+row_from depth parent source start (head-answer.Ok h c) (tail-answer.Ok t d) = option.Some (row_shown depth parent source start h t d.at)
+row_from depth parent source start (head-answer.Ok h c) (tail-answer.Err q) = option.None
+row_from depth parent source start (head-answer.Err q) t = option.None
 
 abbrev pub row_at : ResourceLimits → Bytes → List ℕ → OptionRow
 row_at L s l =
     let start = get_or l 0 0 in
     let behind = get_or l 1 0 in
-    let source = optionString (sourceAt L.max_string_bytes s (get_or l 5 0)) in
-    rowFrom (get_or l 3 0) (get_or l 4 0) source start (headResult (parts.head L (get_or l 2 0) start (drop start s))) (tailResult (parts.tail L.max_string_bytes behind (drop behind s)))
+    let source = option_string (source_at L.max_string_bytes s (get_or l 5 0)) in
+    row_from (get_or l 3 0) (get_or l 4 0) source start (head_result (parts.head L (get_or l 2 0) start (drop start s))) (tail_result (parts.tail L.max_string_bytes behind (drop behind s)))
 
 -- ## What a walk leaves
-abbrev pub rowOr : Option Prototype → OptionRow → OptionRow
-rowOr none before = before
-rowOr (some p) before = option.Some (row_of p)
+abbrev pub row_or : Option Prototype → OptionRow → OptionRow
+row_or none before = before
+row_or (some p) before = option.Some (row_of p)
 
 pub record Found (wanted first : ℕ) (o : Read (List Prototype)) (before after : OptionRow) : Type 0 where
-  pub found : (ps : List Prototype) (to : ℕ) (rest : Bytes) → o ≡ ok ps to rest → after ≡ rowOr (lookup wanted first ps) before
+  pub found : (ps : List Prototype) (to : ℕ) (rest : Bytes) → o ≡ ok ps to rest → after ≡ row_or (lookup wanted first ps) before

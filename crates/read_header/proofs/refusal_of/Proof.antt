@@ -1,7 +1,7 @@
 -- `read_header::refusal_of` meets its contract: each arm is told which part it has. Assumes nothing.
 use mathlib.Core.Path.{ap, sym}
 use borrow.Author.Rules.{rules}
-use Rattle.read_header.specs.Inner.Results.{refusalOf}
+use Rattle.read_header.specs.Inner.Results.{refusal_of}
 use Rattle.read_header.proofs.refusal_of.Statement.{statement}
 use Rattle.read_header.proofs.refusal_of.Tie as tie
 

@@ -3,21 +3,21 @@ use Prim.Native.Nat.{◌+◌}
 use native.Mathlib.Omega.{arith}
 use borrow.Author.Rules.{rules}
 use Rattle.format.specs.declared.refusal.Refusal.TheVariants.{Instructions, TotalInstructions}
-use Rattle.read_list.proofs.Listing.{exact-countUpTo, held-refused, held-above, held-within}
+use Rattle.read_list.proofs.Listing.{exact_count_up_to, held-refused, held_above, held-within}
 use Rattle.read_list.proofs.instruction_count.Statement.{statement}
 use Rattle.read_list.proofs.instruction_count.Tie as tie
 
 returns : tie.Need-returns
-returns c = let a = c.before.before.before.before.before.args in held-refused (exact-countUpTo a.max-instructions-per-proto (Instructions a.cursor.at)) (λ n. a.instructions-before + n) a.max-total-instructions (TotalInstructions a.cursor.at) a.s.now a.cursor.at c.before.before.count-up-to.ensures c.enum_told.given.1
+returns c = let a = c.before.before.before.before.before.args in held-refused (exact_count_up_to a.max-instructions-per-proto (Instructions a.cursor.at)) (λ n. a.instructions-before + n) a.max-total-instructions (TotalInstructions a.cursor.at) a.s.now a.cursor.at c.before.before.count-up-to.ensures c.enum_told.given.1
 
 returns-2 : tie.Need-returns-2
-returns-2 c = let a = c.before.before.before.before.before.before.before.args in held-above (exact-countUpTo a.max-instructions-per-proto (Instructions a.cursor.at)) (λ n. a.instructions-before + n) a.max-total-instructions (TotalInstructions a.cursor.at) a.s.now a.cursor.at c.before.before.before.before.count-up-to.ensures c.before.before.read.given.1 (omega arith)
+returns-2 c = let a = c.before.before.before.before.before.before.before.args in held_above (exact_count_up_to a.max-instructions-per-proto (Instructions a.cursor.at)) (λ n. a.instructions-before + n) a.max-total-instructions (TotalInstructions a.cursor.at) a.s.now a.cursor.at c.before.before.before.before.count-up-to.ensures c.before.before.read.given.1 (omega arith)
 
 returns-3 : tie.Need-returns-3
-returns-3 c = let a = c.before.before.before.before.before.before.before.before.args in held-above (exact-countUpTo a.max-instructions-per-proto (Instructions a.cursor.at)) (λ n. a.instructions-before + n) a.max-total-instructions (TotalInstructions a.cursor.at) a.s.now a.cursor.at c.before.before.before.before.before.count-up-to.ensures c.before.before.before.read.given.1 (omega arith)
+returns-3 c = let a = c.before.before.before.before.before.before.before.before.args in held_above (exact_count_up_to a.max-instructions-per-proto (Instructions a.cursor.at)) (λ n. a.instructions-before + n) a.max-total-instructions (TotalInstructions a.cursor.at) a.s.now a.cursor.at c.before.before.before.before.before.count-up-to.ensures c.before.before.before.read.given.1 (omega arith)
 
 returns-4 : tie.Need-returns-4
-returns-4 c = let a = c.before.before.before.before.before.before.before.before.args in held-within (exact-countUpTo a.max-instructions-per-proto (Instructions a.cursor.at)) (λ n. a.instructions-before + n) a.max-total-instructions (TotalInstructions a.cursor.at) a.s.now a.cursor.at c.before.before.before.before.before.count-up-to.ensures c.before.before.before.read.given.1 (omega arith)
+returns-4 c = let a = c.before.before.before.before.before.before.before.before.args in held-within (exact_count_up_to a.max-instructions-per-proto (Instructions a.cursor.at)) (λ n. a.instructions-before + n) a.max-total-instructions (TotalInstructions a.cursor.at) a.s.now a.cursor.at c.before.before.before.before.before.count-up-to.ensures c.before.before.before.read.given.1 (omega arith)
 
 pub instruction-count-spec : {M : Type 1} → statement M
 instruction-count-spec =

@@ -1,7 +1,7 @@
 -- `read_list::line_info_list` meets its contract: by whether the count is read (`Counted.antt`). Assumes nothing.
 use borrow.Author.Rules.{rules}
-use Rattle.read_list.proofs.Listing.{line-info-list}
-use Rattle.read_list.proofs.Counted.{list-refused, list-run}
+use Rattle.read_list.proofs.Listing.{line_info_list}
+use Rattle.read_list.proofs.Counted.{list_refused, list_run}
 use Rattle.read_list.proofs.line_info_list.Statement.{statement}
 use Rattle.read_list.proofs.line_info_list.Tie as tie
 
@@ -10,5 +10,5 @@ line-info-list-spec =
     tie.close
     (tie.spec
     (λ c κs. search rules) (λ c. search rules) (λ c. search rules) (λ c κs. search rules) (λ c. search rules)
-    (λ c. let a = c.before.before.before.before.before.before.args in list-refused (line-info-list a.s.now a.cursor.at) c.before.before.before.tally-varint.ensures c.before.read.given.1)
-    (λ c. let a = c.before.before.before.before.before.before.before.before.args in list-run (line-info-list a.s.now a.cursor.at) c.before.before.before.before.before.tally-varint.ensures c.before.before.before.read2.given.1 c.before.read-exact.ensures c.listed.ensures))
+    (λ c. let a = c.before.before.before.before.before.before.args in list_refused (line_info_list a.s.now a.cursor.at) c.before.before.before.tally-varint.ensures c.before.read.given.1)
+    (λ c. let a = c.before.before.before.before.before.before.before.before.args in list_run (line_info_list a.s.now a.cursor.at) c.before.before.before.before.before.tally-varint.ensures c.before.before.before.read2.given.1 c.before.read-exact.ensures c.listed.ensures))

@@ -4,7 +4,7 @@ use Rattle.format.specs.GrammarChunk.{Listed}
 use Rattle.format.specs.Read.{Read, ok, refused}
 use Rattle.slice.specs.declared.cursor.CursorResult.{CursorResult}
 use Rattle.slice.specs.declared.cursor.CursorResult.TheVariants as cursor
-use Rattle.slice.specs.Shown.{cursorAt}
+use Rattle.slice.specs.Shown.{cursor_at}
 use Rattle.read_entry.specs.Readers.{Count}
 use Rattle.read_list.specs.declared.ListResult.{ListResult}
 use Rattle.read_list.specs.declared.ListResult.TheVariants as list
@@ -14,10 +14,10 @@ abbrev pub listed_of : CursorResult → ℕ → ℕ → ListResult
 listed_of (cursor.Ok c) count place = list.Ok count place c
 listed_of (cursor.Err q) count place = list.Err q
 
-abbrev pub listResult : {A : Type 0} → Read (Listed A) → ListResult
-listResult (ok l to rest) = list.Ok (length l.items) l.place (cursorAt to)
-listResult (refused q) = list.Err q
+abbrev pub list_result : {A : Type 0} → Read (Listed A) → ListResult
+list_result (ok l to rest) = list.Ok (length l.items) l.place (cursor_at to)
+list_result (refused q) = list.Err q
 
-abbrev pub countResult : Read Count → ListResult
-countResult (ok c to rest) = list.Ok c.count c.place (cursorAt to)
-countResult (refused q) = list.Err q
+abbrev pub count_result : Read Count → ListResult
+count_result (ok c to rest) = list.Ok c.count c.place (cursor_at to)
+count_result (refused q) = list.Err q

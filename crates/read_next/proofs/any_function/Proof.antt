@@ -1,14 +1,14 @@
 -- `read_next::any_function` meets its contract: where a level has a function left there is one more, if its head is read. Assumes nothing.
 use borrow.Author.Rules.{rules}
-use Rattle.format_spelling.proofs.Tallies.{room-unused}
-use Rattle.read_next.specs.Inner.Rows.{headAt}
+use Rattle.format_spelling.proofs.Tallies.{room_unused}
+use Rattle.read_next.specs.Inner.Rows.{head_at}
 use Rattle.read_next.proofs.RowLaws.{one_more}
 use Rattle.read_next.proofs.any_function.Statement.{statement}
 use Rattle.read_next.proofs.any_function.Tie as tie
 
 -- its head is read
 returns-2 : tie.Need-returns-2
-unfolding headAt
+unfolding head_at
 returns-2 c =
     let r = c.before.before in
     let p = r.before.before.before in
@@ -18,7 +18,7 @@ returns-2 c =
 
 -- it is not
 returns-3 : tie.Need-returns-3
-unfolding headAt
+unfolding head_at
 returns-3 c =
     let r = c.before.before in
     let p = r.before.before.before in
@@ -34,7 +34,7 @@ any-function-spec =
     (λ c. search rules)
     (λ c. search rules)
     (λ c. rw (c.before.before.go-up.ensures.0, c.enum_told.given.1))
-    (λ c κs. room-unused _)
+    (λ c κs. room_unused _)
     (λ c. search rules)
     (λ c. search rules)
     returns-2

@@ -4,9 +4,9 @@ use borrow.Author.Rules.{rules}
 use mathlib.Core.Path.{◌≡◌, refl}
 use native.Mathlib.Omega.{arith}
 use Prim.Native.Nat.{◌<◌}
-use Rattle.format_spelling.proofs.Tallies.{room-unused}
+use Rattle.format_spelling.proofs.Tallies.{room_unused}
 use Rattle.read_next.specs.Inner.Rows.{tail_at, rows_from}
-use Rattle.read_next.proofs.RowLaws.{none_at_top, none_here, too-deep}
+use Rattle.read_next.proofs.RowLaws.{none_at_top, none_here, too_deep_lem}
 use Rattle.read_next.proofs.go_up.Statement.{statement}
 use Rattle.read_next.proofs.go_up.Tie as tie
 
@@ -37,12 +37,12 @@ go-up-spec =
     (λ c. refl)
     (λ c κs. search rules)
     (λ c. let k = c.before.before in
-    (rw (k.before.loop.invariant, too-deep _ _ _ _ _ (rw k.left_at.ensures at c.before.if1.true) c.if2.true), tt))
+    (rw (k.before.loop.invariant, too_deep_lem _ _ _ _ _ (rw k.left_at.ensures at c.before.if1.true) c.if2.true), tt))
     (λ c. let k = c.before.before in
     (k.before.loop.invariant, (c.if2.false, rw k.left_at.ensures at c.before.if1.true)))
     (λ c. let k = c.before.before in
     (rw (k.before.loop.invariant, none_at_top _ _ _ _ _ (rw k.left_at.ensures at c.before.if1.false) c.if3.true), tt))
-    (λ c κs. room-unused _)
+    (λ c κs. room_unused _)
     (λ c. search rules)
     (λ c. search rules)
     (λ c. let e = c.before.before.before.before in

@@ -3,16 +3,16 @@
 use mathlib.Core.Path.{sym, ◌∙◌}
 use native.Mathlib.Omega.{arith}
 use borrow.Author.Rules.{rules}
-use Rattle.format_spelling.proofs.Tallies.{room-unused}
-use Rattle.read_walk.proofs.HeadTail.{in-total}
-use Rattle.read_next.specs.Inner.Rows.{headAt}
+use Rattle.format_spelling.proofs.Tallies.{room_unused}
+use Rattle.read_walk.proofs.HeadTail.{in_total}
+use Rattle.read_next.specs.Inner.Rows.{head_at}
 use Rattle.read_next.proofs.RowLaws.{one_more}
 use Rattle.read_next.proofs.next_function.Statement.{statement}
 use Rattle.read_next.proofs.next_function.Tie as tie
 
 -- the function's row, its level, and the place behind its head
 returns-3 : tie.Need-returns-3
-unfolding headAt
+unfolding head_at
 returns-3 c =
     let h = c.before.before in
     let r = h.before.before in
@@ -20,7 +20,7 @@ returns-3 c =
     let u = d.before.before in
     let a = u.before.before in
     let ready = rw d.d.given.1 at u.go-up.ensures.1 in
-    let few = in-total a.args.s.now a.args.limits 0 d.d.given.0.1.0.at h.head.given.0.0 h.head.given.0.1.0 (sym h.head.given.1 ∙ r.read_head.ensures.0) in (
+    let few = in_total a.args.s.now a.args.limits 0 d.d.given.0.1.0.at h.head.given.0.0 h.head.given.0.1.0 (sym h.head.given.1 ∙ r.read_head.ensures.0) in (
       rw (
         u.go-up.ensures.0,
         d.d.given.1,
@@ -33,7 +33,7 @@ returns-3 c =
     )
 
 pub next-function-spec : {M : Type 1} → statement M
-unfolding headAt
+unfolding head_at
 next-function-spec =
     tie.close
     (tie.spec
@@ -41,7 +41,7 @@ next-function-spec =
     (λ c. search rules)
     (λ c. search rules)
     (λ c. (rw (c.before.before.go-up.ensures.0, c.enum_told.given.1), tt))
-    (λ c κs. room-unused _)
+    (λ c κs. room_unused _)
     (λ c. search rules)
     (λ c. search rules)
     (λ c. let d = c.before.before.before.before.before in

@@ -12,7 +12,7 @@ use Rattle.read_prototype.specs.declared.parts.HeadResult.TheVariants as head-an
 use Rattle.read_prototype.specs.declared.parts.TailResult.{TailResult}
 use Rattle.read_prototype.specs.declared.parts.TailResult.TheVariants as tail-answer
 use Rattle.read_prototype.specs.Parts.{head, tail}
-use Rattle.read_prototype.specs.PartsShown.{headResult, tailResult}
+use Rattle.read_prototype.specs.PartsShown.{head_result, tail_result}
 use Rattle.read_next.specs.declared.Row.{Row}
 use Rattle.read_next.specs.declared.Up.{Up}
 use Rattle.read_next.specs.declared.Up.TheVariants as up
@@ -23,8 +23,8 @@ use Rattle.read_next.specs.declared.Met.TheVariants as met-is
 abbrev pub LEVELS : ℕ
 LEVELS = DEEPEST + 1
 
-abbrev pub rowShown : ℕ → Head → Row
-rowShown depth h = record {
+abbrev pub row_shown : ℕ → Head → Row
+row_shown depth h = record {
   depth = depth;
   lines = h.front.lines;
   sizes = h.front.sizes;
@@ -36,19 +36,19 @@ rowShown depth h = record {
 }
 
 -- a function's head, and its tail
-unfoldable pub headAt : ResourceLimits → Bytes → ℕ → HeadResult
-headAt L s at = headResult (head L 0 at (drop at s))
+unfoldable pub head_at : ResourceLimits → Bytes → ℕ → HeadResult
+head_at L s at = head_result (head L 0 at (drop at s))
 
 unfoldable pub tail_at : ResourceLimits → Bytes → ℕ → TailResult
-tail_at L s at = tailResult (tail L.max_string_bytes at (drop at s))
+tail_at L s at = tail_result (tail L.max_string_bytes at (drop at s))
 
-abbrev pub onHead : {R : Type 0} → ℕ → HeadResult → R → (Row → ℕ → R) → R
-onHead depth (head-answer.Ok h next) bad good = good (rowShown depth h) next.at
-onHead depth (head-answer.Err q) bad good = bad
+abbrev pub on_head : {R : Type 0} → ℕ → HeadResult → R → (Row → ℕ → R) → R
+on_head depth (head-answer.Ok h next) bad good = good (row_shown depth h) next.at
+on_head depth (head-answer.Err q) bad good = bad
 
-abbrev pub onTail : {R : Type 0} → TailResult → R → (ℕ → R) → R
-onTail (tail-answer.Ok t next) bad good = good next.at
-onTail (tail-answer.Err q) bad good = bad
+abbrev pub on_tail : {R : Type 0} → TailResult → R → (ℕ → R) → R
+on_tail (tail-answer.Ok t next) bad good = good next.at
+on_tail (tail-answer.Err q) bad good = bad
 
 -- rows and the place behind them, or the rows up to a refusal
 pub data Walked : Type 0 where
@@ -71,22 +71,22 @@ times one (suc n) at = and_then (one at) (times one n)
 -- a function of a level, where `nested` reads so many nested functions
 unfoldable pub body_at : ResourceLimits → Bytes → ℕ → (ℕ → ℕ → Walked) → ℕ → Walked
 body_at L s depth nested at =
-    onHead depth (headAt L s at) (cut []) (λ row first.
+    on_head depth (head_at L s at) (cut []) (λ row first.
     before (row ∷ []) (and_then (nested row.protos first) (λ behind.
-    onTail (tail_at L s behind) (cut []) (through []))))
+    on_tail (tail_at L s behind) (cut []) (through []))))
 
 -- a function, at most so many levels deep: of all levels those that are left
-unfoldable pub functionAt : ResourceLimits → Bytes → ℕ → ℕ → Walked
-functionAt L s zero at = cut []
-functionAt L s (suc levels) at = body_at L s (DEEPEST - levels) (times (functionAt L s levels)) at
+unfoldable pub function_at : ResourceLimits → Bytes → ℕ → ℕ → Walked
+function_at L s zero at = cut []
+function_at L s (suc levels) at = body_at L s (DEEPEST - levels) (times (function_at L s levels)) at
 
 abbrev pub rows_of : Walked → List Row
 rows_of (through rows place) = rows
 rows_of (cut rows) = rows
 
 -- THE ROWS OF A CHUNK: those of the function at a place, with all levels
-unfoldable pub chunkRows : ResourceLimits → Bytes → ℕ → List Row
-chunkRows L s at = rows_of (functionAt L s LEVELS at)
+unfoldable pub chunk_rows : ResourceLimits → Bytes → ℕ → List Row
+chunk_rows L s at = rows_of (function_at L s LEVELS at)
 
 -- the rows of a walk, and then those from the place behind it
 abbrev pub onward : Walked → (ℕ → List Row) → List Row
@@ -96,14 +96,14 @@ onward (cut rows) k = rows
 -- WHAT IS STILL TO COME at the place `at` of a function whose nested functions are at the level d: those left at this level, the tail of the
 -- function, and what is still to come one level up
 unfoldable pub rows_from : ResourceLimits → Bytes → List ℕ → ℕ → ℕ → List Row
-rows_from L s left zero at = onward (times (functionAt L s LEVELS) (get_or left 0 0) at) (λ behind. [])
+rows_from L s left zero at = onward (times (function_at L s LEVELS) (get_or left 0 0) at) (λ behind. [])
 rows_from L s left (suc d) at =
-    onward (times (functionAt L s (LEVELS - suc d)) (get_or left (suc d) 0) at) (λ behind.
-    onTail (tail_at L s behind) [] (rows_from L s left d))
+    onward (times (function_at L s (LEVELS - suc d)) (get_or left (suc d) 0) at) (λ behind.
+    on_tail (tail_at L s behind) [] (rows_from L s left d))
 
-abbrev pub anyRow : List Row → Bool
-anyRow [] = false
-anyRow (row ∷ rows) = true
+abbrev pub any_row : List Row → Bool
+any_row [] = false
+any_row (row ∷ rows) = true
 
 -- what the code's answers say
 abbrev pub up_to : ResourceLimits → Bytes → List ℕ → Up → List Row
@@ -127,11 +127,11 @@ Within left (met-is.Function row d first) = (d < LEVELS) × (0 < get_or left d 0
 Within left met-is.End = Unit {0}
 
 -- ## What a function of a reading shows
-abbrev pub prototypeRow : Prototype → Row
-prototypeRow p = record {
+abbrev pub prototype_row : Prototype → Row
+prototype_row p = record {
   depth = p.depth;
-  lines = record { line_defined = p.line-defined; last_line_defined = p.last-line-defined };
-  sizes = record { numparams = p.numparams; is_vararg = p.is-vararg; maxstacksize = p.maxstacksize };
+  lines = record { line_defined = p.line-defined; last_line_defined = p.last-line_defined };
+  sizes = record { numparams = p.numparams; is_vararg = p.is_vararg; maxstacksize = p.maxstacksize };
   instructions = length p.instructions;
   constants = length p.constants;
   upvalues = length p.upvalues;

@@ -3,7 +3,7 @@ use Rattle.std.specs.Prelude.{ℕ}
 use Rattle.format.specs.Read.{Reader, next, ◌>>=◌, run, many}
 use Rattle.format.specs.ReadFields.{byte}
 use Rattle.format.specs.ReadChunk.{local}
-use Rattle.read_entry.specs.Readers.{RawLocal, rawLocal}
+use Rattle.read_entry.specs.Readers.{RawLocal, raw_local}
 
 -- the reader of the item of that number
 abbrev pub entry_at : {A : Type 0} → ℕ → Reader A → Reader A
@@ -21,4 +21,4 @@ byte_at n = do
 abbrev pub local_at : ℕ → ℕ → Reader RawLocal
 local_at n limit = do
   before ← many n (local limit)
-  rawLocal limit
+  raw_local limit

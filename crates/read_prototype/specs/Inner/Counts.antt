@@ -1,7 +1,7 @@
 -- What a walk keeps of the parts of a function: how long its lists are, whether its source is spelt, and where its words and its constants begin.
 use Rattle.std.specs.Prelude.{Bool, true, false}
 use Rattle.format.specs.Read.{Read, ok, refused}
-use Rattle.slice.specs.Shown.{cursorAt}
+use Rattle.slice.specs.Shown.{cursor_at}
 use Rattle.read_field.specs.declared.string.OptionString.{OptionString}
 use Rattle.read_field.specs.declared.string.OptionString.TheVariants as string
 use Rattle.read_prototype.specs.declared.parts.Head as declared-head
@@ -13,42 +13,42 @@ use Rattle.read_prototype.specs.declared.pass.TailCounts.{TailCounts}
 use Rattle.read_prototype.specs.declared.pass.TailCountsResult.{TailCountsResult}
 use Rattle.read_prototype.specs.declared.pass.TailCountsResult.TheVariants as tail-answer
 use Rattle.read_prototype.specs.Parts.{Head, Tail}
-use Rattle.read_prototype.specs.PartsShown.{head_of, tailOf}
+use Rattle.read_prototype.specs.PartsShown.{head_of, tail_of}
 
-abbrev pub isSpelt : OptionString → Bool
-isSpelt (string.Some t) = true
-isSpelt string.None = false
+abbrev pub is_spelt : OptionString → Bool
+is_spelt (string.Some t) = true
+is_spelt string.None = false
 
 -- of what the code shows of the parts
-abbrev pub headKept : declared-head.Head → HeadCounts
-headKept h = record {
+abbrev pub head_kept : declared-head.Head → HeadCounts
+head_kept h = record {
   instructions = h.lists.instructions.count;
   constants = h.lists.constants.count;
   upvalues = h.lists.upvalues.count;
   protos = h.protos.count;
-  named = isSpelt h.front.source;
+  named = is_spelt h.front.source;
   instructions_at = h.lists.instructions.place;
   constants_at = h.lists.constants.place;
 }
 
-abbrev pub tailKept : declared-tail.Tail → TailCounts
-tailKept t = record {
+abbrev pub tail_kept : declared-tail.Tail → TailCounts
+tail_kept t = record {
   line_info = t.line_info.count;
   abs_line_info = t.abs_line_info.count;
   loc_vars = t.loc_vars.count;
   upvalue_names = t.upvalue_names.count;
 }
 
-abbrev pub headCounts : Head → HeadCounts
-headCounts h = headKept (head_of h)
+abbrev pub head_counts : Head → HeadCounts
+head_counts h = head_kept (head_of h)
 
-abbrev pub tailCounts : Tail → TailCounts
-tailCounts t = tailKept (tailOf t)
+abbrev pub tail_counts : Tail → TailCounts
+tail_counts t = tail_kept (tail_of t)
 
-abbrev pub headCountsResult : Read Head → HeadCountsResult
-headCountsResult (ok h to rest) = head-answer.Ok (headCounts h) (cursorAt to)
-headCountsResult (refused q) = head-answer.Err q
+abbrev pub head_counts_result : Read Head → HeadCountsResult
+head_counts_result (ok h to rest) = head-answer.Ok (head_counts h) (cursor_at to)
+head_counts_result (refused q) = head-answer.Err q
 
-abbrev pub tailCountsResult : Read Tail → TailCountsResult
-tailCountsResult (ok t to rest) = tail-answer.Ok (tailCounts t) (cursorAt to)
-tailCountsResult (refused q) = tail-answer.Err q
+abbrev pub tail_counts_result : Read Tail → TailCountsResult
+tail_counts_result (ok t to rest) = tail-answer.Ok (tail_counts t) (cursor_at to)
+tail_counts_result (refused q) = tail-answer.Err q

@@ -1,7 +1,7 @@
 -- What the code shows of the front of a function.
 use Rattle.format.specs.Read.{Read, ok, refused}
-use Rattle.slice.specs.Shown.{cursorAt}
-use Rattle.read_field.specs.Shown.{optionString}
+use Rattle.slice.specs.Shown.{cursor_at}
+use Rattle.read_field.specs.Shown.{option_string}
 use Rattle.read_prototype.specs.declared.front.Lines.{Lines}
 use Rattle.read_prototype.specs.declared.front.LinesResult.{LinesResult}
 use Rattle.read_prototype.specs.declared.front.LinesResult.TheVariants as lines-answer
@@ -12,14 +12,14 @@ use Rattle.read_prototype.specs.declared.front.FrontResult.{FrontResult}
 use Rattle.read_prototype.specs.declared.front.FrontResult.TheVariants as front-answer
 use Rattle.read_prototype.specs.Front.{Front}
 
-abbrev pub linesResult : Read Lines → LinesResult
-linesResult (ok x to rest) = lines-answer.Ok x (cursorAt to)
-linesResult (refused q) = lines-answer.Err q
+abbrev pub lines_result : Read Lines → LinesResult
+lines_result (ok x to rest) = lines-answer.Ok x (cursor_at to)
+lines_result (refused q) = lines-answer.Err q
 
-abbrev pub sizesResult : Read Sizes → SizesResult
-sizesResult (ok x to rest) = sizes-answer.Ok x (cursorAt to)
-sizesResult (refused q) = sizes-answer.Err q
+abbrev pub sizes_result : Read Sizes → SizesResult
+sizes_result (ok x to rest) = sizes-answer.Ok x (cursor_at to)
+sizes_result (refused q) = sizes-answer.Err q
 
-abbrev pub frontResult : Read Front → FrontResult
-frontResult (ok x to rest) = front-answer.Ok (record { source = optionString x.source; lines = x.lines; sizes = x.sizes }) (cursorAt to)
-frontResult (refused q) = front-answer.Err q
+abbrev pub front_result : Read Front → FrontResult
+front_result (ok x to rest) = front-answer.Ok (record { source = option_string x.source; lines = x.lines; sizes = x.sizes }) (cursor_at to)
+front_result (refused q) = front-answer.Err q

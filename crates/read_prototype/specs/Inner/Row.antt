@@ -4,14 +4,14 @@
 use Rattle.std.specs.Prelude.{cond, List, [], ◌∷◌, ℕ, ◌+◌, eqb, length}
 use Rattle.std.proofs.Math.Option.{Option, none, some}
 use Rattle.format.specs.Reading.{Prototype}
-use Rattle.read_field.specs.Shown.{optionString}
+use Rattle.read_field.specs.Shown.{option_string}
 use Rattle.read_prototype.specs.declared.row.ListAt.{ListAt}
 use Rattle.read_prototype.specs.declared.row.FunctionRow.{FunctionRow}
 use Rattle.read_prototype.specs.declared.row.OptionRow.{OptionRow}
 use Rattle.read_prototype.specs.declared.row.OptionRow.TheVariants as option
 
-abbrev pub listAt : {A : Type 0} → List A → ℕ → ListAt
-listAt items place = record { count = length items; place = place }
+abbrev pub list_at : {A : Type 0} → List A → ℕ → ListAt
+list_at items place = record { count = length items; place = place }
 
 abbrev pub row_of : Prototype → FunctionRow
 row_of p = record {
@@ -19,24 +19,24 @@ row_of p = record {
   end = p.end;
   depth = p.depth;
   parent = p.parent;
-  source_name = optionString p.source-name;
-  lines = record { line_defined = p.line-defined; last_line_defined = p.last-line-defined };
-  sizes = record { numparams = p.numparams; is_vararg = p.is-vararg; maxstacksize = p.maxstacksize };
+  source_name = option_string p.source-name;
+  lines = record { line_defined = p.line-defined; last_line_defined = p.last-line_defined };
+  sizes = record { numparams = p.numparams; is_vararg = p.is_vararg; maxstacksize = p.maxstacksize };
   lists = record {
-    instructions = listAt p.instructions p.places.instructions;
-    constants = listAt p.constants p.places.constants;
-    upvalues = listAt p.upvalues p.places.upvalues;
+    instructions = list_at p.instructions p.places.instructions;
+    constants = list_at p.constants p.places.constants;
+    upvalues = list_at p.upvalues p.places.upvalues;
     protos = record { count = p.protos; place = p.places.protos };
-    line_info = listAt p.line-info p.places.line-info;
-    abs_line_info = listAt p.abs-line-info p.places.abs-line-info;
-    loc_vars = listAt p.loc-vars p.places.loc-vars;
-    upvalue_names = listAt p.upvalue-names p.places.upvalue-names;
+    line_info = list_at p.line_info_lem p.places.line_info_lem;
+    abs_line_info = list_at p.abs_line_info p.places.abs_line_info;
+    loc_vars = list_at p.loc_vars p.places.loc_vars;
+    upvalue_names = list_at p.upvalue_names_lem p.places.upvalue_names_lem;
   };
 }
 
-abbrev pub shownRow : Option Prototype → OptionRow
-shownRow none = option.None
-shownRow (some p) = option.Some (row_of p)
+abbrev pub shown_row : Option Prototype → OptionRow
+shown_row none = option.None
+shown_row (some p) = option.Some (row_of p)
 
 abbrev pub lookup : ℕ → ℕ → List Prototype → Option Prototype
 lookup n k [] = none

@@ -8,11 +8,11 @@ use Rattle.format.specs.ReadChunk.{forest}
 use Rattle.read_prototype.specs.Parts.{Head, head, Tail, tail}
 
 -- the function of its parts
-abbrev pub prototypeOf : Where → ℕ → Head → Tail → ℕ → Prototype
-prototypeOf w start h t end =
+abbrev pub prototype_of : Where → ℕ → Head → Tail → ℕ → Prototype
+prototype_of w start h t end =
     prototype w start h.front.source h.front.lines.line_defined h.front.lines.last_line_defined h.front.sizes.numparams h.front.sizes.is_vararg h.front.sizes.maxstacksize
     h.lists.instructions h.lists.constants h.lists.upvalues h.protos.place h.protos.count
-    t.line-info t.abs-line-info t.loc-vars t.upvalue-names end
+    t.line_info_lem t.abs_line_info t.loc_vars t.upvalue_names_lem end
 
 -- where the first function stands that nests in w's
 abbrev pub inside : Where → Head → Where
@@ -26,7 +26,7 @@ joined r before behind w = do
   nested ← forest h.protos.count r (inside w h)
   t ← behind
   end ← here
-  give (prototypeOf w start h t end ∷ nested)
+  give (prototype_of w start h t end ∷ nested)
 
 abbrev pub parts : ResourceLimits → (Where → Reader (List Prototype)) → Where → Reader (List Prototype)
 parts L r w = joined r (head L w.instructions) (tail L.max_string_bytes) w

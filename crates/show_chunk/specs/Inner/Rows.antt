@@ -2,8 +2,8 @@
 use Rattle.read_prototype.specs.declared.row.FunctionRow.{FunctionRow}
 use Rattle.show_chunk.specs.declared.fields.FunctionFields.{FunctionFields}
 
-abbrev pub fieldsShown : FunctionRow → FunctionFields
-fieldsShown r = record {
+abbrev pub fields_shown : FunctionRow → FunctionFields
+fields_shown r = record {
   depth = r.depth;
   parent = r.parent;
   source_name = r.source_name;

@@ -5,11 +5,11 @@ use lib.ListN.{length}
 use Rattle.format.specs.ReadChunk.{read, upvalue}
 use Rattle.read_nth.specs.Shown as entries
 use Rattle.read_nth.specs.Inner.Nth.{entry_at}
-use Rattle.read_nth.proofs.Items.{many-nth}
+use Rattle.read_nth.proofs.Items.{many_nth}
 use Rattle.show_row.specs.declared.place.EntryKind.TheVariants as kind
-use Rattle.show_entry.specs.Entries.{shownUpvalue}
-use Rattle.show_entry.specs.Inner.Results.{upvalueOf}
-use Rattle.show_row.proofs.Found.{entry-refused, entry-shown}
+use Rattle.show_entry.specs.Entries.{shown_upvalue}
+use Rattle.show_entry.specs.Inner.Results.{upvalue_of}
+use Rattle.show_row.proofs.Found.{entry_refused, entry_shown}
 use Rattle.show_entry.proofs.upvalue.Statement.{statement}
 use Rattle.show_entry.proofs.upvalue.Tie as tie
 
@@ -20,9 +20,9 @@ upvalue-spec =
     (λ c κs. search rules) (λ c. search rules) (λ c. search rules) (λ c κs. search rules) (λ c κs. search rules)
     (λ c.
     let a = c.before.before.before.before.before.args in
-    sym (ap shownUpvalue (entry-refused a.limits a.s.now a.function a.entry kind.Upvalue (λ p. p.upvalues) (λ p. p.places.upvalues) (λ p. refl) _ (sym c.before.found.given.1 ∙ c.before.before.before.entry-list.ensures))))
+    sym (ap shown_upvalue (entry_refused a.limits a.s.now a.function a.entry kind.Upvalue (λ p. p.upvalues) (λ p. p.places.upvalues) (λ p. refl) _ (sym c.before.found.given.1 ∙ c.before.before.before.entry-list.ensures))))
     (λ c.
     let a = c.before.before.before.before.before.before.before.args in
     c.upvalue-answer.ensures
-    ∙ ap upvalueOf c.before.nth-upvalue.ensures
-    ∙ entry-shown a.limits a.s.now a.function a.entry kind.Upvalue (λ p. p.upvalues) (λ p. p.places.upvalues) (λ p. refl) (entry_at a.entry upvalue) (λ p l x e. many-nth upvalue (length p.upvalues) l.upvalues a.entry e) (λ o. upvalueOf (entries.upvalueResult o)) shownUpvalue (λ x to rest. refl) _ (sym c.before.before.before.found2.given.1 ∙ c.before.before.before.before.before.entry-list.ensures)))
+    ∙ ap upvalue_of c.before.nth-upvalue.ensures
+    ∙ entry_shown a.limits a.s.now a.function a.entry kind.Upvalue (λ p. p.upvalues) (λ p. p.places.upvalues) (λ p. refl) (entry_at a.entry upvalue) (λ p l x e. many_nth upvalue (length p.upvalues) l.upvalues a.entry e) (λ o. upvalue_of (entries.upvalue_result o)) shown_upvalue (λ x to rest. refl) _ (sym c.before.before.before.found2.given.1 ∙ c.before.before.before.before.before.entry-list.ensures)))

@@ -4,13 +4,13 @@ use borrow.Author.Rules.{rules}
 use lib.ListN.{length}
 use Rattle.format.specs.ReadFields.{string}
 use Rattle.format.specs.ReadChunk.{read}
-use Rattle.read_field.specs.Shown.{stringResult}
+use Rattle.read_field.specs.Shown.{string_result}
 use Rattle.read_nth.specs.Inner.Nth.{entry_at}
-use Rattle.read_nth.proofs.Items.{many-nth}
+use Rattle.read_nth.proofs.Items.{many_nth}
 use Rattle.show_row.specs.declared.place.EntryKind.TheVariants as kind
-use Rattle.show_entry.specs.Entries.{shownName}
+use Rattle.show_entry.specs.Entries.{shown_name}
 use Rattle.show_entry.specs.Inner.Results.{name_of}
-use Rattle.show_row.proofs.Found.{entry-refused, entry-shown}
+use Rattle.show_row.proofs.Found.{entry_refused, entry_shown}
 use Rattle.show_entry.proofs.upvalue_name.Statement.{statement}
 use Rattle.show_entry.proofs.upvalue_name.Tie as tie
 
@@ -21,9 +21,9 @@ upvalue-name-spec =
     (λ c κs. search rules) (λ c. search rules) (λ c. search rules) (λ c κs. search rules) (λ c κs. search rules)
     (λ c.
     let a = c.before.before.before.before.before.args in
-    sym (ap shownName (entry-refused a.limits a.s.now a.function a.entry kind.UpvalueName (λ p. p.upvalue-names) (λ p. p.places.upvalue-names) (λ p. refl) _ (sym c.before.found.given.1 ∙ c.before.before.before.entry-list.ensures))))
+    sym (ap shown_name (entry_refused a.limits a.s.now a.function a.entry kind.UpvalueName (λ p. p.upvalue_names_lem) (λ p. p.places.upvalue_names_lem) (λ p. refl) _ (sym c.before.found.given.1 ∙ c.before.before.before.entry-list.ensures))))
     (λ c.
     let a = c.before.before.before.before.before.before.before.args in
     c.name-answer.ensures
     ∙ ap name_of c.before.nth-name.ensures
-    ∙ entry-shown a.limits a.s.now a.function a.entry kind.UpvalueName (λ p. p.upvalue-names) (λ p. p.places.upvalue-names) (λ p. refl) (entry_at a.entry (string a.limits.max_string_bytes)) (λ p l x e. many-nth (string a.limits.max_string_bytes) (length p.upvalue-names) l.upvalue-names a.entry e) (λ o. name_of (stringResult o)) shownName (λ x to rest. refl) _ (sym c.before.before.before.found2.given.1 ∙ c.before.before.before.before.before.entry-list.ensures)))
+    ∙ entry_shown a.limits a.s.now a.function a.entry kind.UpvalueName (λ p. p.upvalue_names_lem) (λ p. p.places.upvalue_names_lem) (λ p. refl) (entry_at a.entry (string a.limits.max_string_bytes)) (λ p l x e. many_nth (string a.limits.max_string_bytes) (length p.upvalue_names_lem) l.upvalue_names_lem a.entry e) (λ o. name_of (string_result o)) shown_name (λ x to rest. refl) _ (sym c.before.before.before.found2.given.1 ∙ c.before.before.before.before.before.entry-list.ensures)))

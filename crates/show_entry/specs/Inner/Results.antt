@@ -34,17 +34,17 @@ abbrev pub constant_of : ConstantResult → ConstantAnswer
 constant_of (constant.Ok v c) = constant-answer.Ok v
 constant_of (constant.Err q) = constant-answer.Err q
 
-abbrev pub upvalueOf : UpvalueResult → UpvalueAnswer
-upvalueOf (upvalue.Ok v c) = upvalue-answer.Ok v
-upvalueOf (upvalue.Err q) = upvalue-answer.Err q
+abbrev pub upvalue_of : UpvalueResult → UpvalueAnswer
+upvalue_of (upvalue.Ok v c) = upvalue-answer.Ok v
+upvalue_of (upvalue.Err q) = upvalue-answer.Err q
 
-abbrev pub deltaOf : U8Result → DeltaAnswer
-deltaOf (u8.Ok v c) = delta-answer.Ok (to_z w8 v)
-deltaOf (u8.Err q) = delta-answer.Err q
+abbrev pub delta_of : U8Result → DeltaAnswer
+delta_of (u8.Ok v c) = delta-answer.Ok (to_z w8 v)
+delta_of (u8.Err q) = delta-answer.Err q
 
-abbrev pub anchorOf : AnchorResult → AnchorAnswer
-anchorOf (anchor.Ok v c) = anchor-answer.Ok v
-anchorOf (anchor.Err q) = anchor-answer.Err q
+abbrev pub anchor_of : AnchorResult → AnchorAnswer
+anchor_of (anchor.Ok v c) = anchor-answer.Ok v
+anchor_of (anchor.Err q) = anchor-answer.Err q
 
 abbrev pub name_of : StringResult → NameAnswer
 name_of (string.Ok v c) = name-answer.Ok v

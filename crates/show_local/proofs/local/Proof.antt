@@ -1,7 +1,7 @@
 -- `show_local::local` meets its contract: the variable is read where its list stands, and its name is written (`Names.antt`). Assumes nothing.
 use mathlib.Core.Path.{sym, ◌∙◌}
 use borrow.Author.Rules.{rules}
-use Rattle.show_local.proofs.Names.{local-refused, local-read, name-stands, local-short, local-shown}
+use Rattle.show_local.proofs.Names.{local-refused, local-read, name_stands, local-short, local-shown}
 use Rattle.show_local.proofs.local.Statement.{statement}
 use Rattle.show_local.proofs.local.Tie as tie
 
@@ -15,7 +15,7 @@ put-name-requires : tie.Need-put-name-requires
 put-name-requires c κs =
     let a = c.before.before.before.before.before.before.before.before.before.before.before.before.before.args in
     let room = rw c.before.before.name-len.ensures at c.before.if1.false in
-    (name-stands a.limits a.s.now a.function a.entry _ (sym c.before.before.before.before.before.before.before.before.found2.given.1 ∙ c.before.before.before.before.before.before.before.before.before.before.entry-list.ensures) _ _ _ _ (sym c.before.before.before.before.read2.given.1 ∙ c.before.before.before.before.before.before.nth-local.ensures), room)
+    (name_stands a.limits a.s.now a.function a.entry _ (sym c.before.before.before.before.before.before.before.before.found2.given.1 ∙ c.before.before.before.before.before.before.before.before.before.before.entry-list.ensures) _ _ _ _ (sym c.before.before.before.before.read2.given.1 ∙ c.before.before.before.before.before.before.nth-local.ensures), room)
 
 returns-2 : tie.Need-returns-2
 returns-2 c = let a = c.before.before.before.before.before.before.args in local-refused a.limits a.s.now a.function a.entry a.name.now _ (sym c.before.found.given.1 ∙ c.before.before.before.entry-list.ensures)

@@ -2,7 +2,7 @@
 use Rattle.std.specs.Prelude.{cond, ℕ, ltb}
 use Rattle.format.specs.declared.refusal.Refusal.TheVariants.{NoEntry}
 use Rattle.format.specs.Reading.{Prototype}
-use Rattle.slice.specs.Shown.{cursorAt}
+use Rattle.slice.specs.Shown.{cursor_at}
 use Rattle.read_prototype.specs.declared.row.FunctionRow.{FunctionRow}
 use Rattle.read_prototype.specs.declared.row.ListAt.{ListAt}
 use Rattle.read_prototype.specs.Inner.Row.{row_of}
@@ -15,9 +15,9 @@ use Rattle.show_row.specs.declared.row.RowAnswer.TheVariants as row
 use Rattle.show_row.specs.Asked.{Asked, found, refused}
 
 -- of a function its row
-abbrev pub shownRowAnswer : Asked Prototype → RowAnswer
-shownRowAnswer (found p) = row.Ok (row_of p)
-shownRowAnswer (refused q) = row.Err q
+abbrev pub shown_row_answer : Asked Prototype → RowAnswer
+shown_row_answer (found p) = row.Ok (row_of p)
+shown_row_answer (refused q) = row.Err q
 
 abbrev pub list_of : EntryKind → FunctionRow → ListAt
 list_of kind.Instruction r = r.lists.instructions
@@ -30,8 +30,8 @@ list_of kind.UpvalueName r = r.lists.upvalue_names
 
 -- of a list: its first entry, if it has one of that number
 abbrev pub place_in : ListAt → ℕ → PlaceAnswer
-place_in l n = cond (ltb n l.count) (answer.Ok (cursorAt l.place)) (answer.Err NoEntry)
+place_in l n = cond (ltb n l.count) (answer.Ok (cursor_at l.place)) (answer.Err NoEntry)
 
-abbrev pub shownPlace : EntryKind → ℕ → Asked Prototype → PlaceAnswer
-shownPlace k n (found p) = place_in (list_of k (row_of p)) n
-shownPlace k n (refused q) = answer.Err q
+abbrev pub shown_place : EntryKind → ℕ → Asked Prototype → PlaceAnswer
+shown_place k n (found p) = place_in (list_of k (row_of p)) n
+shown_place k n (refused q) = answer.Err q

@@ -3,11 +3,11 @@ use Rattle.std.specs.Prelude.{ℕ}
 use Rattle.format.specs.Read.{Read, ok, refused}
 use Rattle.slice.specs.declared.cursor.CursorResult.{CursorResult}
 use Rattle.slice.specs.declared.cursor.CursorResult.TheVariants as cursor
-use Rattle.slice.specs.Shown.{cursorAt}
+use Rattle.slice.specs.Shown.{cursor_at}
 
-abbrev pub cursorResult : {A : Type 0} → Read A → CursorResult
-cursorResult (ok x to rest) = cursor.Ok (cursorAt to)
-cursorResult (refused q) = cursor.Err q
+abbrev pub cursor_result : {A : Type 0} → Read A → CursorResult
+cursor_result (ok x to rest) = cursor.Ok (cursor_at to)
+cursor_result (refused q) = cursor.Err q
 
 -- what follows a call that showed this: nothing behind a refusal
 abbrev pub and_then : CursorResult → (ℕ → CursorResult) → CursorResult

@@ -2,12 +2,12 @@
 use mathlib.Core.Path.{refl, sym, ◌∙◌}
 use borrow.Author.Rules.{rules}
 use Rattle.format.specs.GrammarChunk.{outermost}
-use Rattle.strict.proofs.Opened.{opening-refused, functions-refused, functions-passed}
+use Rattle.strict.proofs.Opened.{opening_refused, functions-refused, functions-passed}
 use Rattle.strict.proofs.judge.Statement.{statement}
 use Rattle.strict.proofs.judge.Tie as tie
 
 returns : tie.Need-returns
-returns c = let a = c.before.before.before.before.args in opening-refused a.limits a.s.now c.before.before.pass-opening.ensures c.enum_told.given.1
+returns c = let a = c.before.before.before.before.args in opening_refused a.limits a.s.now c.before.before.pass-opening.ensures c.enum_told.given.1
 
 returns-2 : tie.Need-returns-2
 returns-2 c =

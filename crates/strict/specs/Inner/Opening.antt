@@ -2,10 +2,10 @@
 use Rattle.format.specs.GrammarHeader.{Headed}
 use Rattle.format.specs.Read.{Reader, next, ◌>>=◌, ◌>>◌, give}
 use Rattle.format.specs.ReadFields.{byte}
-use Rattle.format_strict.specs.ReadStrict.{strictHeader}
+use Rattle.format_strict.specs.ReadStrict.{strict_header}
 
-abbrev pub strictOpening : Reader Headed
-strictOpening = do
-  headed ← strictHeader
+abbrev pub strict_opening : Reader Headed
+strict_opening = do
+  headed ← strict_header
   forgotten ← byte
   give headed

@@ -17,20 +17,20 @@ starts [] (b ∷ t) = false
 starts (a ∷ s) (b ∷ t) = eqb a b && starts s t
 
 -- how many bytes come before the first space, 32
-unfoldable pub wordLength : List ℕ → ℕ
-wordLength [] = 0
-wordLength (b ∷ s) = cond (eqb b 32) 0 (suc (wordLength s))
+unfoldable pub word_length : List ℕ → ℕ
+word_length [] = 0
+word_length (b ∷ s) = cond (eqb b 32) 0 (suc (word_length s))
 
 abbrev pub word_at : List ℕ → ℕ → Token
-word_at line at = cond (leb at (length line)) (Word at (at + wordLength (drop at line))) None
+word_at line at = cond (leb at (length line)) (Word at (at + word_length (drop at line))) None
 
 -- the number that a word spells, and the place behind the space behind it
-abbrev pub numberThen : Number → ℕ → NumberAt
-numberThen (numbers.Value n) next = number.Value n next
-numberThen numbers.None next = number.None
+abbrev pub number_then : Number → ℕ → NumberAt
+number_then (numbers.Value n) next = number.Value n next
+number_then numbers.None next = number.None
 
 abbrev pub number_in : ℕ → List ℕ → Token → NumberAt
-number_in most line (Word from to) = numberThen (spelt 10 most (take (to - from) (drop from line))) (to + 1)
+number_in most line (Word from to) = number_then (spelt 10 most (take (to - from) (drop from line))) (to + 1)
 number_in most line None = number.None
 
 abbrev pub number_at : ℕ → List ℕ → ℕ → NumberAt

@@ -64,9 +64,9 @@ use Rattle.validate_search.specs.Inner.Position.{out_of, stepped}
 use Rattle.validate_plan.specs.declared.Plan.{Plan}
 use Rattle.validate_plan.specs.Inner.Plan.{written, Planned}
 use Rattle.validate_findings.proofs.Rest.{rest}
-use Rattle.validate_findings.proofs.Fields.{answer_at, count_at, start-at, finding-at, next-at, answer-in, count-in, start-in, finding-in, next-in, position-typed, finding-typed}
-use Rattle.validate_findings.proofs.Turn.{none_yet, any, goes_on, offset, inside}
-use Rattle.validate_plan.proofs.Steps.{After, at_first, step-found}
+use Rattle.validate_findings.proofs.Fields.{answer_at, count_at, start-at, finding_at, next-at, answer_in, count_in, start_in_lem, finding_in, next_in, position_typed, finding_typed}
+use Rattle.validate_findings.proofs.Turn.{none_yet, any, goes_on_lem, offset, inside}
+use Rattle.validate_plan.proofs.Steps.{After, at_first, step_found}
 use Rattle.validate_findings.proofs.Filled.{written-zero, written-length, written_next}
 use Rattle.format.specs.contracts.limits.ResourceLimits as L
 use Rattle.format.proofs.limits.ResourceLimits.TheLaws as L'
@@ -292,16 +292,16 @@ module _ {M : Type 1} {𝓤 : Ura M} (𝓛 : Logic 𝓤) (mem : Memory → SProp
           assigns ! (bin ! (load ! (from ! (fld ! refl (stop !))) (look_in ! 24 (sub ! 0 refl (whole !)))) (load ! (from ! (stop !)) (look ! 8 refl)) tt) (from ! (stop !)) (init ! 6 refl (tt, tt)) $
           rewrite ! 6 (λ (p : ℕ). ‵ (fat full_share ty_ptr l₁₂ 0 (vptr b p))) (sym (place_is 32 o i.0)) refl $
           elem_out ! T.the_row (Is T.the_row) (shows 𝓛 T.the_row) (LL.vals T.the_type T'.the_laws) (LL.tells T.the_type T'.the_laws) full_share (done-to i.0) i.0 r.finding b o (there less) (λ _.
-          assigns ! (of_opd ! (load ! (from ! (fld ! finding-at (stop !))) (finding-in ! 16 r refl))) (from ! (hop ! (look ! 8 refl) (stop !))) (store_raw ! 0 refl (finding-typed 𝓛 r.finding (LL.owed S.the_type S'.the_laws r _ is-s).0)) $
+          assigns ! (of_opd ! (load ! (from ! (fld ! finding_at (stop !))) (finding_in ! 16 r refl))) (from ! (hop ! (look ! 8 refl) (stop !))) (store_raw ! 0 refl (finding_typed 𝓛 r.finding (LL.owed S.the_type S'.the_laws r _ is-s).0)) $
           move ! (1 ∷ []) $ drop ! $ owned ! T.the_row (Is T.the_row) (LL.makes T.the_type T'.the_plain 𝓛) r.finding _ (LL.owed S.the_type S'.the_laws r _ is-s).0 $ move ! (1 ∷ 0 ∷ []) $
           elem_put ! T.the_row full_share (done-to i.0) i.0 r.finding (LL.vals T.the_type T'.the_laws r.finding) b o (there less) $
           rewrite ! 0 (λ (l : List Finding). ‵ (row T.the_row full_share l b o)) (written_next all ys i.0 r.finding (there-is less) (lt_of_lt_of_le (ltb→lt i.0 count less) e.within) (found less r is-r).0) refl $
           -- the position and the count go on
-          assigns ! (of_opd ! (load ! (from ! (fld ! next-at (stop !))) (next-in ! 14 r refl))) (from ! (stop !)) (store ! 18 refl (position-typed 𝓛 r.next (LL.owed S.the_type S'.the_laws r _ is-s).1.1.0)) $
+          assigns ! (of_opd ! (load ! (from ! (fld ! next-at (stop !))) (next_in ! 14 r refl))) (from ! (stop !)) (store ! 18 refl (position_typed 𝓛 r.next (LL.owed S.the_type S'.the_laws r _ is-s).1.1.0)) $
           assigns_last ! (bin ! (load ! (from ! (stop !)) (look ! 16 refl)) (lit ! tt) (record { fits = next_fits less })) (from ! (stop !)) (store ! 16 refl (tt, record { fits = next_fits less })) $
           forget ! 6 refl $ forget ! 8 refl $ forget ! 10 refl $ forget ! 14 refl $ again ! Nearer At i (next less r is-r is-s) (add-one-dec count i.0 (ltb→lt i.0 count less))))))))
           (λ over. jumps ! $ exec ! C Λ En mir'.t-7 (at_ret En Post) $
-          assigns ! (of_opd ! (load ! (from ! (fld ! answer_at (stop !))) (answer-in ! 22 p refl))) (from ! (stop !)) (init ! 30 refl typed) $
+          assigns ! (of_opd ! (load ! (from ! (fld ! answer_at (stop !))) (answer_in ! 22 p refl))) (from ! (stop !)) (init ! 30 refl typed) $
           closes_slice ! tt T.the_row ys (done-to i.0) (as-long-as i.0 i.1.1.0) b o $
           -- [obs; the borrow; its token; the chunk's token; the chunk; _12 at 5; …]
           returns ! (look ! 29 refl) $ forget ! 9 refl $ forget ! 11 refl $ forget ! 15 refl $ forget ! 17 refl $ forget ! 19 refl $ forget ! 21 refl $ forget ! 23 refl $ forget ! 25 refl $ forget ! 27 refl $ forget ! 29 refl $
@@ -313,7 +313,7 @@ module _ {M : Type 1} {𝓤 : Ura M} (𝓛 : Logic 𝓤) (mem : Memory → SProp
           few less = e.limited (any (ltb→lt i.0 count less))
 
           next_fits : Holds (ltb i.0 count) → i.0 + 1 < 2 ^ 64
-          next_fits less = goes_on (ltb→lt i.0 count less) e.within room.0
+          next_fits less = goes_on_lem (ltb→lt i.0 count less) e.within room.0
 
           small : Holds (ltb i.0 count) → i.0 * 32 < 2 ^ 64
           small less = offset i.1.1.0 e.within room.1
@@ -325,7 +325,7 @@ module _ {M : Type 1} {𝓤 : Ura M} (𝓛 : Logic 𝓤) (mem : Memory → SProp
           there-is less = lt_of_lt_of_le (ltb→lt i.0 count less) e.there
 
           found : Holds (ltb i.0 count) → (r : Step) → Stepped i.1.0 r → (r.finding ≡ get_or all.findings i.0 r.finding) × After all (i.0 + 1) (out r.next)
-          found less r is-r = step-found all i.0 _ i.1.1.1.1 limits chunk.now MAX-DIAGNOSTICS (there-is less) r is-r
+          found less r is-r = step_found all i.0 _ i.1.1.1.1 limits chunk.now MAX-DIAGNOSTICS (there-is less) r is-r
 
           next : Holds (ltb i.0 count) → (r : Step) → Stepped i.1.0 r → Is S.the_row r (LL.vals S.the_type S'.the_laws r) → Upto
           next less r is-r is-s = (i.0 + 1, (r.next, (add-one-le (ltb→lt i.0 count less), ((LL.owed S.the_type S'.the_laws r _ is-s).1.1.0, (found less r is-r).1))))
@@ -337,8 +337,8 @@ module _ {M : Type 1} {𝓤 : Ura M} (𝓛 : Logic 𝓤) (mem : Memory → SProp
       -- from the plan to the loop: [the list; its token; the chunk's token; the chunk; _12 at 4; …]
       begins : Sq 𝓛 (‵ ((MutSlice (named 1) κ T.the_row).own_val (x ys) (s ∷ [])) ∷ ‵ (flft κ q) ∷ ‵ (flft κ' q') ∷ ‵ Ch ∷ locals (‵ (froom word l₇ 0)) (‵ (froom K'.mir l₆ 0)) (‵ (froom word l₅ 0))) (runs C Λ En mir'.t-3 (at_ret En Post))
       begins =
-          assigns ! (of_opd ! (load ! (from ! (fld ! count_at (stop !))) (count-in ! 20 p refl))) (from ! (stop !)) (init ! 18 refl (tt, record { fits = count_fits })) $
-          assigns ! (of_opd ! (load ! (from ! (fld ! start-at (stop !))) (start-in ! 20 p refl))) (from ! (stop !)) (init ! 16 refl (position-typed 𝓛 p.start good_start)) $
+          assigns ! (of_opd ! (load ! (from ! (fld ! count_at (stop !))) (count_in ! 20 p refl))) (from ! (stop !)) (init ! 18 refl (tt, record { fits = count_fits })) $
+          assigns ! (of_opd ! (load ! (from ! (fld ! start-at (stop !))) (start_in_lem ! 20 p refl))) (from ! (stop !)) (init ! 16 refl (position_typed 𝓛 p.start good_start)) $
           assigns ! (of_opd ! (lit ! tt)) (from ! (stop !)) (init ! 14 refl (tt, record { fits = lit< tt })) $
           -- the borrow is opened: [the records; the open borrow; obs; auth; the list's fact; the chunk's token; the chunk; _12 at 7; …]
           fsplit ! $ move ! (1 ∷ []) $ fsplit ! $ move ! (0 ∷ 1 ∷ 3 ∷ []) $ opens_slice ! tt T.the_row ys b o $

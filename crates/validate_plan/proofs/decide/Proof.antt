@@ -4,13 +4,13 @@ use borrow.Author.Rules.{rules}
 use Rattle.format.specs.declared.limits.ResourceLimits.{ResourceLimits}
 use Rattle.format.specs.Form.{Bytes}
 use Rattle.validate_rules.specs.Findings.{MAX-DIAGNOSTICS, Listing}
-use Rattle.validate_search.specs.Inner.Position.{out_of, startPosition}
+use Rattle.validate_search.specs.Inner.Position.{out_of, start_position}
 use Rattle.validate_plan.proofs.Planning.{too_many, all_fit}
 use Rattle.validate_plan.proofs.decide.Statement.{statement}
 use Rattle.validate_plan.proofs.decide.Tie as tie
 
 abbrev found : ResourceLimits → Bytes → ℕ → ℕ → Listing
-found L s place kept = out_of L s MAX-DIAGNOSTICS (startPosition place kept)
+found L s place kept = out_of L s MAX-DIAGNOSTICS (start_position place kept)
 
 returns : tie.Need-returns
 returns c =

@@ -3,11 +3,11 @@ use mathlib.Core.Path.{sym, ap, subst, ◌∙◌}
 use borrow.Author.Rules.{rules}
 use Rattle.format.specs.ReadChunk.{read}
 use Rattle.validate_rules.specs.Findings.{MAX-DIAGNOSTICS}
-use Rattle.validate_search.specs.Inner.Position.{out_of, startPosition}
+use Rattle.validate_search.specs.Inner.Position.{out_of, start_position}
 use Rattle.validate_plan.specs.Inner.Plan.{Planned}
-use Rattle.read_chunk.proofs.MainAt.{was-refused}
-use Rattle.validate_verdict.proofs.Chunk.{was, few-instructions, all-findings}
-use Rattle.validate_plan.proofs.Planning.{plan-refused, plan-made}
+use Rattle.read_chunk.proofs.MainAt.{was_refused}
+use Rattle.validate_verdict.proofs.Chunk.{was, few_instructions, all-findings}
+use Rattle.validate_plan.proofs.Planning.{plan_refused, plan_made}
 use Rattle.validate_plan.proofs.prepare.Statement.{statement}
 use Rattle.validate_plan.proofs.prepare.Tie as tie
 
@@ -16,7 +16,7 @@ decide-requires c κs =
     let d = c.before.before in
     let v = d.before.before in
     let a = v.before.before.args in
-    few-instructions a.limits a.s.now d.judged2.given.0.0 (sym d.judged2.given.1 ∙ v.judge-chunk.ensures)
+    few_instructions a.limits a.s.now d.judged2.given.0.0 (sym d.judged2.given.1 ∙ v.judge-chunk.ensures)
 
 returns : tie.Need-returns
 returns c =
@@ -24,7 +24,7 @@ returns c =
     let v = d.before.before in
     let a = v.before.before.args in
     subst (Planned a.limits a.s.now a.room) (sym c.refused.ensures)
-    (plan-refused a.limits a.s.now a.room (startPosition 0 0) _ (was-refused (read a.limits a.s.now) _ (sym d.judged.given.1 ∙ v.judge-chunk.ensures)))
+    (plan_refused a.limits a.s.now a.room (start_position 0 0) _ (was_refused (read a.limits a.s.now) _ (sym d.judged.given.1 ∙ v.judge-chunk.ensures)))
 
 returns-2 : tie.Need-returns-2
 returns-2 c =
@@ -34,10 +34,10 @@ returns-2 c =
     let a = v.before.before.args in
     let shown = sym d.judged2.given.1 ∙ v.judge-chunk.ensures in
     let all =
-    ap (λ n. out_of a.limits a.s.now MAX-DIAGNOSTICS (startPosition 32 n)) k.kept-count.ensures.0
+    ap (λ n. out_of a.limits a.s.now MAX-DIAGNOSTICS (start_position 32 n)) k.kept-count.ensures.0
     ∙ all-findings a.limits a.s.now d.judged2.given.0.0 shown k.kept-count.ensures.1 in
     subst (Planned a.limits a.s.now a.room) (sym c.decide.ensures)
-    (plan-made a.limits a.s.now a.room (startPosition 32 k.kept-count.result) _ (was a.limits a.s.now d.judged2.given.0.0 shown) all (few-instructions a.limits a.s.now d.judged2.given.0.0 shown))
+    (plan_made a.limits a.s.now a.room (start_position 32 k.kept-count.result) _ (was a.limits a.s.now d.judged2.given.0.0 shown) all (few_instructions a.limits a.s.now d.judged2.given.0.0 shown))
 
 pub prepare-spec : {M : Type 1} → statement M
 prepare-spec =

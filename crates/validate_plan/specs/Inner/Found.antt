@@ -2,8 +2,8 @@
 use Rattle.std.specs.Prelude.{cond, List, [], ℕ, leb, length}
 use Rattle.format.specs.ReadChunk.{Outcome, shown, refusal}
 use Rattle.validate_rules.specs.declared.finding.Finding.{Finding}
-use Rattle.validate_rules.specs.Findings.{chunkFindings}
+use Rattle.validate_rules.specs.Findings.{chunk_findings}
 
-abbrev pub foundIn : ℕ → Outcome → List Finding
-foundIn room (shown r) = cond (leb (length (chunkFindings r).findings) room) (chunkFindings r).findings []
-foundIn room (refusal q) = []
+abbrev pub found_in : ℕ → Outcome → List Finding
+found_in room (shown r) = cond (leb (length (chunk_findings r).findings) room) (chunk_findings r).findings []
+found_in room (refusal q) = []

@@ -7,33 +7,33 @@ use Rattle.validate_rules.specs.declared.finding.Bounds.{Bounds}
 use Rattle.validate_rules.specs.declared.glance.Glance.{Glance}
 use Rattle.validate_rules.specs.declared.judge.Check.{Check}
 use Rattle.validate_rules.specs.declared.judge.Check.TheVariants as check
-use Rattle.validate_rules.specs.Rules.{usesRegisterAt, checkAt, instruction}
+use Rattle.validate_rules.specs.Rules.{uses_register_at, check_at, instruction}
 
 -- where A is a register, and where it is none
-abbrev pub withRegister : Check → ℕ
-withRegister check.Nothing = 0
-withRegister check.Constant = 2
-withRegister check.Upvalue = 3
-withRegister check.TableUpvalueB = 3
-withRegister check.TableUpvalueA = 5
-withRegister check.Prototype = 4
-withRegister check.Jump = 5
+abbrev pub with_register : Check → ℕ
+with_register check.Nothing = 0
+with_register check.Constant = 2
+with_register check.Upvalue = 3
+with_register check.TableUpvalueB = 3
+with_register check.TableUpvalueA = 5
+with_register check.Prototype = 4
+with_register check.Jump = 5
 
-abbrev pub withoutRegister : Check → ℕ
-withoutRegister check.Nothing = 1
-withoutRegister check.Constant = 5
-withoutRegister check.Upvalue = 5
-withoutRegister check.TableUpvalueB = 5
-withoutRegister check.TableUpvalueA = 5
-withoutRegister check.Prototype = 5
-withoutRegister check.Jump = 5
+abbrev pub without_register : Check → ℕ
+without_register check.Nothing = 1
+without_register check.Constant = 5
+without_register check.Upvalue = 5
+without_register check.TableUpvalueB = 5
+without_register check.TableUpvalueA = 5
+without_register check.Prototype = 5
+without_register check.Jump = 5
 
-abbrev pub classBy : Bool → Check → ℕ
-classBy true k = withRegister k
-classBy false k = withoutRegister k
+abbrev pub class_by : Bool → Check → ℕ
+class_by true k = with_register k
+class_by false k = without_register k
 
 abbrev pub class_at : ℕ → ℕ
-class_at n = classBy (usesRegisterAt n) (checkAt n)
+class_at n = class_by (uses_register_at n) (check_at n)
 
 abbrev pub class_of : Opcode54 → ℕ
 class_of o = class_at (number_of o)
@@ -42,8 +42,8 @@ class_of o = class_at (number_of o)
 abbrev pub doubled : ℕ → ℕ
 doubled n = cond (ltb n 256) (n * 2) 512
 
-abbrev pub glanceOf : Bounds → Glance
-glanceOf b = record {
+abbrev pub glance_of : Bounds → Glance
+glance_of b = record {
   registers = b.maxstacksize ∷ 256 ∷ b.maxstacksize ∷ b.maxstacksize ∷ b.maxstacksize ∷ 0 ∷ [];
   masks = 0 ∷ 0 ∷ 0x1FFFF ∷ 0x1FF ∷ 0x1FFFF ∷ 0 ∷ [];
   limits = 1 ∷ 1 ∷ b.constants ∷ doubled b.upvalues ∷ b.protos ∷ 0 ∷ [];
@@ -52,4 +52,4 @@ glanceOf b = record {
 -- where an answer to a word is true, the word is an instruction without a finding, in each function that the answer was given for
 abbrev pub Fine : List ℕ → List ℕ → List ℕ → ℕ → Bool → Type 0
 Fine registers masks limits word r =
-    (k : ℕ) (b : Bounds) (pc : ℕ) → registers ≡ (glanceOf b).registers → masks ≡ (glanceOf b).masks → limits ≡ (glanceOf b).limits → r ≡ true → instruction k b pc word ≡ []
+    (k : ℕ) (b : Bounds) (pc : ℕ) → registers ≡ (glance_of b).registers → masks ≡ (glance_of b).masks → limits ≡ (glance_of b).limits → r ≡ true → instruction k b pc word ≡ []

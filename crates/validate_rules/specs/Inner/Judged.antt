@@ -10,14 +10,14 @@ use Rattle.validate_rules.specs.declared.judge.OptionRule.TheVariants as rule
 use Rattle.validate_rules.specs.declared.judge.Judged.{Judged}
 use Rattle.validate_rules.specs.declared.judge.Judged.TheVariants as judged
 
-abbrev pub ruleOf : OptionRule → Option Rule
-ruleOf (rule.Some r) = some r
-ruleOf rule.None = none
+abbrev pub rule_of : OptionRule → Option Rule
+rule_of (rule.Some r) = some r
+rule_of rule.None = none
 
-abbrev pub asList : OptionFinding → List Finding
-asList finding.None = []
-asList (finding.Some f) = f ∷ []
+abbrev pub as_list : OptionFinding → List Finding
+as_list finding.None = []
+as_list (finding.Some f) = f ∷ []
 
 abbrev pub group_of : Judged → List Finding
 group_of judged.Fine = []
-group_of (judged.Wrong f w) = f ∷ asList w
+group_of (judged.Wrong f w) = f ∷ as_list w

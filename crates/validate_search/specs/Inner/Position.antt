@@ -5,7 +5,7 @@ use Rattle.format.specs.Form.{Bytes}
 use Rattle.format.specs.ReadFields.{field}
 use Rattle.read_field.specs.declared.field.U32Result.{U32Result}
 use Rattle.read_field.specs.declared.field.U32Result.TheVariants as u32
-use Rattle.read_field.specs.Shown.{u32Result}
+use Rattle.read_field.specs.Shown.{u32_result}
 use Rattle.read_next.specs.declared.Row.{Row}
 use Rattle.read_next.specs.Inner.Rows.{LEVELS, rows_from}
 use Rattle.validate_rules.specs.declared.finding.Finding.{Finding}
@@ -18,8 +18,8 @@ use Rattle.validate_search.specs.declared.search.Position.{Position}
 use Rattle.validate_search.specs.declared.search.State.{State}
 use Rattle.validate_search.specs.declared.search.State.TheVariants as state
 use Rattle.validate_search.specs.declared.search.Step.{Step}
-use Rattle.validate_rules.specs.Inner.Judged.{asList}
-use Rattle.validate_rules.specs.Findings.{codeGroups, Listing, ended, prepend, limited}
+use Rattle.validate_rules.specs.Inner.Judged.{as_list}
+use Rattle.validate_rules.specs.Findings.{code_groups, Listing, ended, prepend, limited}
 
 -- ## Instructions
 abbrev pub on_word : {R : Type 0} → U32Result → R → (ℕ → ℕ → R) → R
@@ -27,13 +27,13 @@ on_word (u32.Ok word next) bad good = good word next.at
 on_word (u32.Err q) bad good = bad
 
 -- n words from a place on, or fewer where the bytes end
-unfoldable pub wordsAt : Bytes → ℕ → ℕ → List ℕ
-wordsAt s zero at = []
-wordsAt s (suc n) at = on_word (u32Result (field 4 at (drop at s))) [] (λ word to. word ∷ wordsAt s n to)
+unfoldable pub words_at : Bytes → ℕ → ℕ → List ℕ
+words_at s zero at = []
+words_at s (suc n) at = on_word (u32_result (field 4 at (drop at s))) [] (λ word to. word ∷ words_at s n to)
 
 -- the groups of the instructions that are left
-unfoldable pub codeLeft : Bytes → Code → List (List Finding)
-codeLeft s c = codeGroups c.function c.bounds (wordsAt s (c.bounds.instructions - c.pc) c.place.at) c.pc
+unfoldable pub code_left : Bytes → Code → List (List Finding)
+code_left s c = code_groups c.function c.bounds (words_at s (c.bounds.instructions - c.pc) c.place.at) c.pc
 
 abbrev pub code_at : Bounds → ℕ → ℕ → ℕ → Code
 code_at b k place pc = record { bounds = b; function = k; place = record { at = place }; pc = pc }
@@ -45,12 +45,12 @@ skip ([] ∷ gs) = skip gs
 skip ((f ∷ g) ∷ gs) = (f ∷ g) ∷ gs
 
 abbrev pub scanned : Bytes → Scanned → List (List Finding)
-scanned s (scan.Found f w behind) = (f ∷ asList w) ∷ codeLeft s behind
+scanned s (scan.Found f w behind) = (f ∷ as_list w) ∷ code_left s behind
 scanned s scan.End = []
 
 -- ## Functions
-abbrev pub rowBounds : Row → Bounds
-rowBounds row = record {
+abbrev pub row_bounds : Row → Bounds
+row_bounds row = record {
   maxstacksize = row.sizes.maxstacksize;
   instructions = row.instructions;
   constants = row.constants;
@@ -58,44 +58,44 @@ rowBounds row = record {
   protos = row.protos;
 }
 
-abbrev pub nextNumber : ℕ → ℕ
-nextNumber k = cond (ltb k 18446744073709551615) (k + 1) k
+abbrev pub next_number : ℕ → ℕ
+next_number k = cond (ltb k 18446744073709551615) (k + 1) k
 
 -- the groups of functions, by their rows, of which the first has the number k
-unfoldable pub rowGroups : Bytes → ℕ → List Row → List (List Finding)
-rowGroups s k [] = []
-rowGroups s k (row ∷ rows) = [] ∷ (codeGroups k (rowBounds row) (wordsAt s row.instructions row.instructions_at) 0 ++ rowGroups s (nextNumber k) rows)
+unfoldable pub row_groups : Bytes → ℕ → List Row → List (List Finding)
+row_groups s k [] = []
+row_groups s k (row ∷ rows) = [] ∷ (code_groups k (row_bounds row) (words_at s row.instructions row.instructions_at) 0 ++ row_groups s (next_number k) rows)
 
-abbrev pub ofRows : ResourceLimits → Bytes → Position → List (List Finding)
-ofRows L s p = rowGroups s p.number (rows_from L s p.left p.depth p.at.at)
+abbrev pub of_rows : ResourceLimits → Bytes → Position → List (List Finding)
+of_rows L s p = row_groups s p.number (rows_from L s p.left p.depth p.at.at)
 
 -- the groups that are left: those of this function, and those of the functions still to come
-abbrev pub groupsLeft : ResourceLimits → Bytes → Position → List (List Finding)
-groupsLeft L s p = codeLeft s p.code ++ ofRows L s p
+abbrev pub groups_left : ResourceLimits → Bytes → Position → List (List Finding)
+groups_left L s p = code_left s p.code ++ of_rows L s p
 
-abbrev pub anyLeft : List (List Finding) → Bool
-anyLeft [] = false
-anyLeft (g ∷ gs) = true
+abbrev pub any_left : List (List Finding) → Bool
+any_left [] = false
+any_left (g ∷ gs) = true
 
 -- what comes behind the finding that waits
-abbrev pub goesOn : ResourceLimits → Bytes → ℕ → Position → Listing
-goesOn L s max p = limited max p.found (groupsLeft L s p)
+abbrev pub goes_on : ResourceLimits → Bytes → ℕ → Position → Listing
+goes_on L s max p = limited max p.found (groups_left L s p)
 
 -- WHAT A POSITION STANDS FOR
 unfoldable pub out_of : ResourceLimits → Bytes → ℕ → Position → Listing
-out_of L s max p = prepend (asList p.waiting) (goesOn L s max p)
+out_of L s max p = prepend (as_list p.waiting) (goes_on L s max p)
 
 -- what a step says: a finding and what the next position stands for, or the end
-abbrev pub stepIs : ResourceLimits → Bytes → ℕ → State → Finding → Position → Listing
-stepIs L s max state.Found f next = prepend (f ∷ []) (out_of L s max next)
-stepIs L s max (state.Done b) f next = ended b
+abbrev pub step_is : ResourceLimits → Bytes → ℕ → State → Finding → Position → Listing
+step_is L s max state.Found f next = prepend (f ∷ []) (out_of L s max next)
+step_is L s max (state.Done b) f next = ended b
 
 abbrev pub stepped : ResourceLimits → Bytes → ℕ → Step → Listing
-stepped L s max r = stepIs L s max r.state r.finding r.next
+stepped L s max r = step_is L s max r.state r.finding r.next
 
 -- the position before everything: one function is left at the top level, at a place, and there are some diagnostics already
-unfoldable pub startPosition : ℕ → ℕ → Position
-startPosition place diagnostics = record {
+unfoldable pub start_position : ℕ → ℕ → Position
+start_position place diagnostics = record {
   left = set (replicate (LEVELS + 1) 0) 0 1;
   depth = 0;
   at = record { at = place };

@@ -3,9 +3,9 @@ use borrow.Author.Rules.{rules}
 use mathlib.Core.Path.{sym, ◌∙◌}
 use native.Mathlib.Omega.{arith}
 use Rattle.format.specs.ReadChunk.{read}
-use Rattle.read_chunk.proofs.Summaries.{in-ceilings, input-ceiling}
+use Rattle.read_chunk.proofs.Summaries.{in_ceilings, input_ceiling}
 use Rattle.read_chunk.proofs.BeforeMain.{not_opened, known}
-use Rattle.copy.proofs.Outcomes.{stopped, chunk-copied, all-bytes}
+use Rattle.copy.proofs.Outcomes.{stopped, chunk_copied, all-bytes}
 use Rattle.copy.proofs.whole.copy_chunk.Statement.{statement}
 use Rattle.copy.proofs.whole.copy_chunk.Tie as tie
 
@@ -14,7 +14,7 @@ copy-functions-requires c κs =
     let k = c.before.before.before in
     let o = k.before.before in
     let a = o.before.before.before.args in
-    in-ceilings a.limits (known a.limits a.s.now k.begins2.given.0.0 (sym k.begins2.given.1 ∙ o.open-chunk.ensures)).within
+    in_ceilings a.limits (known a.limits a.s.now k.begins2.given.0.0 (sym k.begins2.given.1 ∙ o.open-chunk.ensures)).within
 
 returns : tie.Need-returns
 returns c =
@@ -31,8 +31,8 @@ returns-2 c =
     let a = b.before.args in
     let opens = sym k.begins2.given.1 ∙ o.open-chunk.ensures in
     let is = known a.limits a.s.now k.begins2.given.0.0 opens in
-    chunk-copied a.limits a.s.now k.begins2.given.0.0 opens _ _ _
-    (f.copy-functions.ensures (all-bytes a.s.now (λ i h. (b.shared-slice-known.given i).fits)) (let input = input-ceiling a.limits is.within in let fits = is.fits in omega arith))
+    chunk_copied a.limits a.s.now k.begins2.given.0.0 opens _ _ _
+    (f.copy-functions.ensures (all-bytes a.s.now (λ i h. (b.shared-slice-known.given i).fits)) (let input = input_ceiling a.limits is.within in let fits = is.fits in omega arith))
 
 pub copy-chunk-spec : {M : Type 1} → statement M
 copy-chunk-spec =

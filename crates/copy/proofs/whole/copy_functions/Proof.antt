@@ -5,9 +5,9 @@ use native.Mathlib.Omega.{arith}
 use lib.ListN.{length, drop}
 use Rattle.format.specs.GrammarChunk.{outermost}
 use Rattle.format.specs.ReadChunk.{function}
-use Rattle.copy_parts.specs.Inner.Parts.{functionBytes}
-use Rattle.copy_walk.proofs.Tails.{tail-inside, put-part}
-use Rattle.copy.proofs.Chunks.{functions-stops, main-put}
+use Rattle.copy_parts.specs.Inner.Parts.{function_bytes}
+use Rattle.copy_walk.proofs.Tails.{tail-inside, put_part}
+use Rattle.copy.proofs.Chunks.{functions_stops, main-put}
 use Rattle.copy.proofs.whole.copy_functions.Statement.{statement}
 use Rattle.copy.proofs.whole.copy_functions.Tie as tie
 
@@ -19,7 +19,7 @@ copy-function-requires c κs =
 returns : tie.Need-returns
 returns c =
     let a = c.before.before.before.before.before.before.before.before.before.before.args in
-    λ bytes short. functions-stops (function a.limits a.limits.max_nesting_depth outermost a.cursor.at (drop a.cursor.at a.s.now)) _ (sym c.before.walk.given.1 ∙ c.before.before.before.before.before.copy-function.ensures.0 outermost refl refl)
+    λ bytes short. functions_stops (function a.limits a.limits.max_nesting_depth outermost a.cursor.at (drop a.cursor.at a.s.now)) _ (sym c.before.walk.given.1 ∙ c.before.before.before.before.before.copy-function.ensures.0 outermost refl refl)
 
 returns-2 : tie.Need-returns-2
 returns-2 c =
@@ -29,7 +29,7 @@ returns-2 c =
     let part = c.before.before.before.before.before.before.before.before.before.before.before.before.before.before.before.before.before.before.within.ensures in
     λ bytes short. main-put a.s.now bytes short a.limits a.cursor.at k.given.0.0 _ _ (sym k.given.1 ∙ r.ensures.0 outermost refl refl) c.before.before.before.before.remaining.ensures
     (r.ensures.1 outermost refl refl (λ _. refl) bytes).counts
-    (λ ps to rest e. put-part (functionBytes _ ps) 32 _ a.out.now _ _ _ part ((r.ensures.1 outermost refl refl (λ _. refl) bytes).put ps to rest e) c.before.before.before.before.before.plus.ensures)
+    (λ ps to rest e. put_part (function_bytes _ ps) 32 _ a.out.now _ _ _ part ((r.ensures.1 outermost refl refl (λ _. refl) bytes).put ps to rest e) c.before.before.before.before.before.plus.ensures)
     c.before.before.before.before.before.before.before.before.put_front.ensures c.before.before.put-bytes.ensures
 
 pub copy-functions-spec : {M : Type 1} → statement M

@@ -2,7 +2,7 @@
 use borrow.Author.Rules.{rules}
 use mathlib.Core.Path.{sym, ◌∙◌}
 use Rattle.copy_entry.proofs.Items.{anchor-not, anchor-put}
-use Rattle.copy_entry.proofs.Judged.{anchor-stops, anchor-passes}
+use Rattle.copy_entry.proofs.Judged.{anchor_stops, anchor_passes}
 use Rattle.copy_entry.proofs.entry.copy_anchor.Statement.{statement}
 use Rattle.copy_entry.proofs.entry.copy_anchor.Tie as tie
 
@@ -10,13 +10,13 @@ returns : tie.Need-returns
 returns c =
     let a = c.before.before.before.before.before.before.args in
     let e = sym c.before.read.given.1 ∙ c.before.before.before.read-anchor.ensures in
-    (anchor-stops a.s.now a.cursor.at e, anchor-not a.s.now a.cursor.at e)
+    (anchor_stops a.s.now a.cursor.at e, anchor-not a.s.now a.cursor.at e)
 
 returns-2 : tie.Need-returns-2
 returns-2 c =
     let a = c.before.before.before.before.before.before.before.before.before.before.before.before.before.before.args in
     let e = sym c.before.before.before.before.before.before.before.before.before.read2.given.1 ∙ c.before.before.before.before.before.before.before.before.before.before.before.read-anchor.ensures in
-    (anchor-passes a.s.now a.cursor.at e, anchor-put a.s.now a.cursor.at e c.before.before.before.before.before.before.put-varint.ensures c.before.before.put-varint2.ensures)
+    (anchor_passes a.s.now a.cursor.at e, anchor-put a.s.now a.cursor.at e c.before.before.before.before.before.before.put-varint.ensures c.before.before.put-varint2.ensures)
 
 pub copy-anchor-spec : {M : Type 1} → statement M
 copy-anchor-spec =

@@ -2,7 +2,7 @@
 use borrow.Author.Rules.{rules}
 use mathlib.Core.Path.{sym, ◌∙◌}
 use Rattle.copy_entry.proofs.Items.{constant-not, constant-put}
-use Rattle.copy_entry.proofs.Judged.{constant-stops, constant-passes}
+use Rattle.copy_entry.proofs.Judged.{constant_stops, constant_passes}
 use Rattle.copy_entry.proofs.entry.copy_constant.Statement.{statement}
 use Rattle.copy_entry.proofs.entry.copy_constant.Tie as tie
 
@@ -10,13 +10,13 @@ returns : tie.Need-returns
 returns c =
     let a = c.before.before.before.before.before.before.args in
     let e = sym c.before.read.given.1 ∙ c.before.before.before.read-constant.ensures in
-    (constant-stops a.s.now a.max-string-bytes a.cursor.at e, λ bytes. constant-not a.s.now a.max-string-bytes a.cursor.at e)
+    (constant_stops a.s.now a.max-string-bytes a.cursor.at e, λ bytes. constant-not a.s.now a.max-string-bytes a.cursor.at e)
 
 returns-2 : tie.Need-returns-2
 returns-2 c =
     let a = c.before.before.before.before.before.before.before.before.before.before.args in
     let e = sym c.before.before.before.before.before.read2.given.1 ∙ c.before.before.before.before.before.before.before.read-constant.ensures in
-    (constant-passes a.s.now a.max-string-bytes a.cursor.at e, λ bytes. constant-put a.s.now a.max-string-bytes a.cursor.at bytes e c.before.before.put-value.ensures)
+    (constant_passes a.s.now a.max-string-bytes a.cursor.at e, λ bytes. constant-put a.s.now a.max-string-bytes a.cursor.at bytes e c.before.before.put-value.ensures)
 
 pub copy-constant-spec : {M : Type 1} → statement M
 copy-constant-spec =

@@ -3,13 +3,13 @@ use mathlib.Core.Path.{◌≡◌, refl, sym, ◌∙◌}
 use lib.ListN.{length, drop}
 use borrow.Author.Rules.{rules}
 use Rattle.format.specs.ReadChunk.{anchor}
-use Rattle.format.specs.Copy.{anchorBytes}
-use Rattle.format.proofs.ExactChunk.{exact-anchor}
-use Rattle.read_field.proofs.Shows.{cursor-err, cursor-ok}
+use Rattle.format.specs.Copy.{anchor_bytes}
+use Rattle.format.proofs.ExactChunk.{exact_anchor}
+use Rattle.read_field.proofs.Shows.{cursor_err, cursor_ok}
 use Rattle.read_entry.proofs.Turns.{Rest}
 use Rattle.read_entry.proofs.Turns as passing
 use Rattle.copy_entry.proofs.Lists.{Goes, starts, turns, ends}
-use Rattle.copy_entry.proofs.Judged.{all-not, puts-to}
+use Rattle.copy_entry.proofs.Judged.{all-not, puts_to}
 use Rattle.copy_entry.proofs.list.copy_anchors.Statement.{statement}
 use Rattle.copy_entry.proofs.list.copy_anchors.Tie as tie
 
@@ -17,7 +17,7 @@ abbrev invariant-loop : tie.invariant-loop
 invariant-loop s count out₀ at next₀ behind₀ left₀ out next behind left =
     (length out ≡ length out₀)
     × Rest (anchor) s left₀ next₀.at left next.at
-    × (Goes (anchor) anchorBytes s left₀ next₀.at behind₀ out₀ left next.at behind out)
+    × (Goes (anchor) anchor_bytes s left₀ next₀.at behind₀ out₀ left next.at behind out)
 
 abbrev decreases-loop : tie.decreases-loop
 decreases-loop s count out₀ at next₀ behind₀ left₀ out next behind left = left
@@ -25,13 +25,13 @@ decreases-loop s count out₀ at next₀ behind₀ left₀ out next behind left 
 loop-holds : tie.Need-loop-init invariant-loop decreases-loop
 loop-holds c =
     let a = c.before.before.before.before.before.before.args in
-    (refl, refl, starts anchor anchorBytes exact-anchor a.s.now)
+    (refl, refl, starts anchor anchor_bytes exact_anchor a.s.now)
 
 returns : tie.Need-returns invariant-loop decreases-loop
 returns c =
     let a = c.before.before.before.before.before.before.before.before.before.before.before.before.before.before.before.args in
     let l = c.before.before.before.before.before.before.before.before.loop in
-    let one = cursor-err (anchor l.next.at (drop l.next.at a.s.now)) _ (sym c.before.read.given.1 ∙ c.before.before.before.before.before.copy-anchor.ensures.0) in
+    let one = cursor_err (anchor l.next.at (drop l.next.at a.s.now)) _ (sym c.before.read.given.1 ∙ c.before.before.before.before.before.copy-anchor.ensures.0) in
     let e = passing.stops anchor a.s.now a.count a.cursor.at l.left l.next.at l.invariant.1 c.before.before.before.before.before.before.before.loop-test.true _ one in
     (e, all-not e)
 
@@ -39,10 +39,10 @@ loop-again : tie.Need-loop-preserved invariant-loop decreases-loop
 loop-again c =
     let a = c.before.before.before.before.before.before.before.before.before.before.before.before.before.before.before.args in
     let l = c.before.before.before.before.before.before.before.before.loop in
-    let one = cursor-ok (anchor l.next.at (drop l.next.at a.s.now)) _ (sym c.before.read2.given.1 ∙ c.before.before.before.before.before.copy-anchor.ensures.0) in (
+    let one = cursor_ok (anchor l.next.at (drop l.next.at a.s.now)) _ (sym c.before.read2.given.1 ∙ c.before.before.before.before.before.copy-anchor.ensures.0) in (
       search rules,
-      passing.goes_on anchor a.s.now a.count a.cursor.at l.left l.next.at l.invariant.1 c.before.before.before.before.before.before.before.loop-test.true exact-anchor one.was,
-      turns anchor anchorBytes exact-anchor a.s.now l.invariant.2 c.before.before.before.before.before.before.before.loop-test.true (puts-to c.before.read2.given.1 c.before.before.before.before.before.copy-anchor.ensures.1),
+      passing.goes_on anchor a.s.now a.count a.cursor.at l.left l.next.at l.invariant.1 c.before.before.before.before.before.before.before.loop-test.true exact_anchor one.was,
+      turns anchor anchor_bytes exact_anchor a.s.now l.invariant.2 c.before.before.before.before.before.before.before.loop-test.true (puts_to c.before.read2.given.1 c.before.before.before.before.before.copy-anchor.ensures.1),
     )
 
 returns-2 : tie.Need-returns-2 invariant-loop decreases-loop
@@ -50,7 +50,7 @@ returns-2 c =
     let a = c.before.before.before.before.before.before.before.before.args in
     let l = c.before.loop in (
       passing.ends anchor a.s.now a.count a.cursor.at l.left l.next.at l.invariant.1 c.loop-test.false,
-      ends anchor anchorBytes exact-anchor a.s.now l.invariant.2 c.before.before.before.before.put-varint.ensures c.loop-test.false,
+      ends anchor anchor_bytes exact_anchor a.s.now l.invariant.2 c.before.before.before.before.put-varint.ensures c.loop-test.false,
     )
 
 pub copy-anchors-spec : {M : Type 1} → statement M

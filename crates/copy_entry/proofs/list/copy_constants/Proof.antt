@@ -5,12 +5,12 @@ use borrow.Author.Rules.{rules}
 use Rattle.format.specs.Form.{Below}
 use Rattle.format.specs.ReadChunk.{constant}
 use Rattle.format.specs.Copy.{constant_bytes}
-use Rattle.format.proofs.ExactChunk.{exact-constant}
-use Rattle.read_field.proofs.Shows.{cursor-err, cursor-ok}
+use Rattle.format.proofs.ExactChunk.{exact_constant}
+use Rattle.read_field.proofs.Shows.{cursor_err, cursor_ok}
 use Rattle.read_entry.proofs.Turns.{Rest}
 use Rattle.read_entry.proofs.Turns as passing
 use Rattle.copy_entry.proofs.Lists.{Goes, starts, turns, ends}
-use Rattle.copy_entry.proofs.Judged.{all-not, puts-to}
+use Rattle.copy_entry.proofs.Judged.{all-not, puts_to}
 use Rattle.copy_entry.proofs.list.copy_constants.Statement.{statement}
 use Rattle.copy_entry.proofs.list.copy_constants.Tie as tie
 
@@ -26,13 +26,13 @@ decreases-loop s count max-string-bytes out₀ at next₀ behind₀ left₀ out 
 loop-holds : tie.Need-loop-init invariant-loop decreases-loop
 loop-holds c =
     let a = c.before.before.before.before.before.before.args in
-    (refl, refl, λ bytes. starts (constant a.max-string-bytes) constant_bytes (exact-constant a.max-string-bytes) a.s.now)
+    (refl, refl, λ bytes. starts (constant a.max-string-bytes) constant_bytes (exact_constant a.max-string-bytes) a.s.now)
 
 returns : tie.Need-returns invariant-loop decreases-loop
 returns c =
     let a = c.before.before.before.before.before.before.before.before.before.before.before.before.before.before.before.args in
     let l = c.before.before.before.before.before.before.before.before.loop in
-    let one = cursor-err ((constant a.max-string-bytes) l.next.at (drop l.next.at a.s.now)) _ (sym c.before.read.given.1 ∙ c.before.before.before.before.before.copy-constant.ensures.0) in
+    let one = cursor_err ((constant a.max-string-bytes) l.next.at (drop l.next.at a.s.now)) _ (sym c.before.read.given.1 ∙ c.before.before.before.before.before.copy-constant.ensures.0) in
     let e = passing.stops (constant a.max-string-bytes) a.s.now a.count a.cursor.at l.left l.next.at l.invariant.1 c.before.before.before.before.before.before.before.loop-test.true _ one in
     (e, λ bytes. all-not e)
 
@@ -40,10 +40,10 @@ loop-again : tie.Need-loop-preserved invariant-loop decreases-loop
 loop-again c =
     let a = c.before.before.before.before.before.before.before.before.before.before.before.before.before.before.before.args in
     let l = c.before.before.before.before.before.before.before.before.loop in
-    let one = cursor-ok ((constant a.max-string-bytes) l.next.at (drop l.next.at a.s.now)) _ (sym c.before.read2.given.1 ∙ c.before.before.before.before.before.copy-constant.ensures.0) in (
+    let one = cursor_ok ((constant a.max-string-bytes) l.next.at (drop l.next.at a.s.now)) _ (sym c.before.read2.given.1 ∙ c.before.before.before.before.before.copy-constant.ensures.0) in (
       search rules,
-      passing.goes_on (constant a.max-string-bytes) a.s.now a.count a.cursor.at l.left l.next.at l.invariant.1 c.before.before.before.before.before.before.before.loop-test.true (exact-constant a.max-string-bytes) one.was,
-      λ bytes. turns (constant a.max-string-bytes) constant_bytes (exact-constant a.max-string-bytes) a.s.now (l.invariant.2 bytes) c.before.before.before.before.before.before.before.loop-test.true (puts-to c.before.read2.given.1 (c.before.before.before.before.before.copy-constant.ensures.1 bytes)),
+      passing.goes_on (constant a.max-string-bytes) a.s.now a.count a.cursor.at l.left l.next.at l.invariant.1 c.before.before.before.before.before.before.before.loop-test.true (exact_constant a.max-string-bytes) one.was,
+      λ bytes. turns (constant a.max-string-bytes) constant_bytes (exact_constant a.max-string-bytes) a.s.now (l.invariant.2 bytes) c.before.before.before.before.before.before.before.loop-test.true (puts_to c.before.read2.given.1 (c.before.before.before.before.before.copy-constant.ensures.1 bytes)),
     )
 
 returns-2 : tie.Need-returns-2 invariant-loop decreases-loop
@@ -51,7 +51,7 @@ returns-2 c =
     let a = c.before.before.before.before.before.before.before.before.args in
     let l = c.before.loop in (
       passing.ends (constant a.max-string-bytes) a.s.now a.count a.cursor.at l.left l.next.at l.invariant.1 c.loop-test.false,
-      λ bytes. ends (constant a.max-string-bytes) constant_bytes (exact-constant a.max-string-bytes) a.s.now (l.invariant.2 bytes) c.before.before.before.before.put-varint.ensures c.loop-test.false,
+      λ bytes. ends (constant a.max-string-bytes) constant_bytes (exact_constant a.max-string-bytes) a.s.now (l.invariant.2 bytes) c.before.before.before.before.put-varint.ensures c.loop-test.false,
     )
 
 pub copy-constants-spec : {M : Type 1} → statement M

@@ -3,13 +3,13 @@ use mathlib.Core.Path.{◌≡◌, refl, sym, ◌∙◌}
 use lib.ListN.{length, drop}
 use borrow.Author.Rules.{rules}
 use Rattle.format.specs.ReadFields.{string}
-use Rattle.format.specs.Copy.{optionBytes}
-use Rattle.format.proofs.ExactFields.{exact-string}
-use Rattle.read_field.proofs.Shows.{cursor-err, cursor-ok}
+use Rattle.format.specs.Copy.{option_bytes}
+use Rattle.format.proofs.ExactFields.{exact_string}
+use Rattle.read_field.proofs.Shows.{cursor_err, cursor_ok}
 use Rattle.read_entry.proofs.Turns.{Rest}
 use Rattle.read_entry.proofs.Turns as passing
 use Rattle.copy_entry.proofs.Lists.{Goes, starts, turns, ends}
-use Rattle.copy_entry.proofs.Judged.{all-not, puts-to}
+use Rattle.copy_entry.proofs.Judged.{all-not, puts_to}
 use Rattle.copy_entry.proofs.list.copy_names.Statement.{statement}
 use Rattle.copy_entry.proofs.list.copy_names.Tie as tie
 
@@ -17,7 +17,7 @@ abbrev invariant-loop : tie.invariant-loop
 invariant-loop s count max-string-bytes out₀ at next₀ behind₀ left₀ out next behind left =
     (length out ≡ length out₀)
     × Rest (string max-string-bytes) s left₀ next₀.at left next.at
-    × (Goes (string max-string-bytes) optionBytes s left₀ next₀.at behind₀ out₀ left next.at behind out)
+    × (Goes (string max-string-bytes) option_bytes s left₀ next₀.at behind₀ out₀ left next.at behind out)
 
 abbrev decreases-loop : tie.decreases-loop
 decreases-loop s count max-string-bytes out₀ at next₀ behind₀ left₀ out next behind left = left
@@ -25,13 +25,13 @@ decreases-loop s count max-string-bytes out₀ at next₀ behind₀ left₀ out 
 loop-holds : tie.Need-loop-init invariant-loop decreases-loop
 loop-holds c =
     let a = c.before.before.before.before.before.before.args in
-    (refl, refl, starts (string a.max-string-bytes) optionBytes (exact-string a.max-string-bytes) a.s.now)
+    (refl, refl, starts (string a.max-string-bytes) option_bytes (exact_string a.max-string-bytes) a.s.now)
 
 returns : tie.Need-returns invariant-loop decreases-loop
 returns c =
     let a = c.before.before.before.before.before.before.before.before.before.before.before.before.before.before.before.args in
     let l = c.before.before.before.before.before.before.before.before.loop in
-    let one = cursor-err ((string a.max-string-bytes) l.next.at (drop l.next.at a.s.now)) _ (sym c.before.read.given.1 ∙ c.before.before.before.before.before.copy_name.ensures.0) in
+    let one = cursor_err ((string a.max-string-bytes) l.next.at (drop l.next.at a.s.now)) _ (sym c.before.read.given.1 ∙ c.before.before.before.before.before.copy_name.ensures.0) in
     let e = passing.stops (string a.max-string-bytes) a.s.now a.count a.cursor.at l.left l.next.at l.invariant.1 c.before.before.before.before.before.before.before.loop-test.true _ one in
     (e, all-not e)
 
@@ -39,10 +39,10 @@ loop-again : tie.Need-loop-preserved invariant-loop decreases-loop
 loop-again c =
     let a = c.before.before.before.before.before.before.before.before.before.before.before.before.before.before.before.args in
     let l = c.before.before.before.before.before.before.before.before.loop in
-    let one = cursor-ok ((string a.max-string-bytes) l.next.at (drop l.next.at a.s.now)) _ (sym c.before.read2.given.1 ∙ c.before.before.before.before.before.copy_name.ensures.0) in (
+    let one = cursor_ok ((string a.max-string-bytes) l.next.at (drop l.next.at a.s.now)) _ (sym c.before.read2.given.1 ∙ c.before.before.before.before.before.copy_name.ensures.0) in (
       search rules,
-      passing.goes_on (string a.max-string-bytes) a.s.now a.count a.cursor.at l.left l.next.at l.invariant.1 c.before.before.before.before.before.before.before.loop-test.true (exact-string a.max-string-bytes) one.was,
-      turns (string a.max-string-bytes) optionBytes (exact-string a.max-string-bytes) a.s.now l.invariant.2 c.before.before.before.before.before.before.before.loop-test.true (puts-to c.before.read2.given.1 c.before.before.before.before.before.copy_name.ensures.1),
+      passing.goes_on (string a.max-string-bytes) a.s.now a.count a.cursor.at l.left l.next.at l.invariant.1 c.before.before.before.before.before.before.before.loop-test.true (exact_string a.max-string-bytes) one.was,
+      turns (string a.max-string-bytes) option_bytes (exact_string a.max-string-bytes) a.s.now l.invariant.2 c.before.before.before.before.before.before.before.loop-test.true (puts_to c.before.read2.given.1 c.before.before.before.before.before.copy_name.ensures.1),
     )
 
 returns-2 : tie.Need-returns-2 invariant-loop decreases-loop
@@ -50,7 +50,7 @@ returns-2 c =
     let a = c.before.before.before.before.before.before.before.before.args in
     let l = c.before.loop in (
       passing.ends (string a.max-string-bytes) a.s.now a.count a.cursor.at l.left l.next.at l.invariant.1 c.loop-test.false,
-      ends (string a.max-string-bytes) optionBytes (exact-string a.max-string-bytes) a.s.now l.invariant.2 c.before.before.before.before.put-varint.ensures c.loop-test.false,
+      ends (string a.max-string-bytes) option_bytes (exact_string a.max-string-bytes) a.s.now l.invariant.2 c.before.before.before.before.put-varint.ensures c.loop-test.false,
     )
 
 pub copy-names-spec : {M : Type 1} → statement M

@@ -1,21 +1,21 @@
 -- `copy_entry::listed::copy_anchors_list` meets its contract: by whether the count is read (`Listing.antt` of read_list), and by what the entries put (`Judged.antt`). Assumes nothing.
 use borrow.Author.Rules.{rules}
-use Rattle.format.proofs.ExactFields.{exact-number}
-use Rattle.format.proofs.ExactChunk.{exact-anchor}
-use Rattle.read_list.proofs.Listing.{many-sized, count-refused, count-read}
-use Rattle.copy_entry.proofs.Judged.{list-not, list_put}
+use Rattle.format.proofs.ExactFields.{exact_number}
+use Rattle.format.proofs.ExactChunk.{exact_anchor}
+use Rattle.read_list.proofs.Listing.{many_sized, count-refused, count-read}
+use Rattle.copy_entry.proofs.Judged.{list_not, list_put}
 use Rattle.copy_entry.proofs.listed.copy_anchors_list.Statement.{statement}
 use Rattle.copy_entry.proofs.listed.copy_anchors_list.Tie as tie
 
 returns : tie.Need-returns
 returns c =
     let a = c.before.before.before.before.before.before.args in
-    (count-refused exact-number (many-sized exact-anchor) a.s.now a.cursor.at c.before.read.given.1 c.before.before.before.read-value.ensures, list-not)
+    (count-refused exact_number (many_sized exact_anchor) a.s.now a.cursor.at c.before.read.given.1 c.before.before.before.read-value.ensures, list_not)
 
 returns-2 : tie.Need-returns-2
 returns-2 c =
     let a = c.before.before.before.before.before.before.before.before.before.before.before.args in (
-      count-read exact-number (many-sized exact-anchor) a.s.now a.cursor.at c.before.before.before.before.before.before.read2.given.1 c.before.before.before.before.before.before.before.before.read-value.ensures c.before.before.before.copy-anchors.ensures.0 c.listed.ensures,
+      count-read exact_number (many_sized exact_anchor) a.s.now a.cursor.at c.before.before.before.before.before.before.read2.given.1 c.before.before.before.before.before.before.before.before.read-value.ensures c.before.before.before.copy-anchors.ensures.0 c.listed.ensures,
       list_put c.before.before.before.copy-anchors.result.read c.before.before.before.before.before.before.read2.given.0.0 c.before.before.before.before.before.before.read2.given.0.1.0.at c.listed.ensures c.before.before.before.copy-anchors.ensures.1,
     )
 

@@ -3,11 +3,11 @@ use borrow.Author.Rules.{rules}
 use mathlib.Core.Path.{sym, ◌∙◌}
 use native.Mathlib.Omega.{arith}
 use Rattle.format.specs.ReadChunk.{read}
-use Rattle.read_chunk.proofs.Summaries.{in-ceilings, input-ceiling}
+use Rattle.read_chunk.proofs.Summaries.{in_ceilings, input_ceiling}
 use Rattle.read_chunk.proofs.BeforeMain.{not_opened, known}
-use Rattle.format.specs.FullCopy.{fullFunctions, fullCopy}
-use Rattle.copy.proofs.Outcomes.{by-stopped, by-chunk-copied, all-bytes}
-use Rattle.copy_full.proofs.FullMain.{chunk-is}
+use Rattle.format.specs.FullCopy.{full_functions, full_copy}
+use Rattle.copy.proofs.Outcomes.{by_stopped, by_chunk_copied, all-bytes}
+use Rattle.copy_full.proofs.FullMain.{chunk_is}
 use Rattle.copy_full.proofs.whole.full_chunk.Statement.{statement}
 use Rattle.copy_full.proofs.whole.full_chunk.Tie as tie
 
@@ -16,13 +16,13 @@ full-functions-requires c κs =
     let k = c.before.before.before in
     let o = k.before.before in
     let a = o.before.before.before.args in
-    in-ceilings a.limits (known a.limits a.s.now k.begins2.given.0.0 (sym k.begins2.given.1 ∙ o.open-chunk.ensures)).within
+    in_ceilings a.limits (known a.limits a.s.now k.begins2.given.0.0 (sym k.begins2.given.1 ∙ o.open-chunk.ensures)).within
 
 returns : tie.Need-returns
 returns c =
     let o = c.before.before.before in
     let a = o.before.before.before.args in
-    by-stopped fullCopy (read a.limits a.s.now) _ _ _ (not_opened a.limits a.s.now _ (sym c.before.begins.given.1 ∙ o.open-chunk.ensures))
+    by_stopped full_copy (read a.limits a.s.now) _ _ _ (not_opened a.limits a.s.now _ (sym c.before.begins.given.1 ∙ o.open-chunk.ensures))
 
 returns-2 : tie.Need-returns-2
 returns-2 c =
@@ -33,8 +33,8 @@ returns-2 c =
     let a = b.before.args in
     let opens = sym k.begins2.given.1 ∙ o.open-chunk.ensures in
     let is = known a.limits a.s.now k.begins2.given.0.0 opens in
-    by-chunk-copied fullCopy fullFunctions chunk-is a.limits a.s.now k.begins2.given.0.0 opens _ _ _
-    (f.full-functions.ensures (all-bytes a.s.now (λ i h. (b.shared-slice-known.given i).fits)) (let input = input-ceiling a.limits is.within in let fits = is.fits in omega arith))
+    by_chunk_copied full_copy full_functions chunk_is a.limits a.s.now k.begins2.given.0.0 opens _ _ _
+    (f.full_functions_lem.ensures (all-bytes a.s.now (λ i h. (b.shared-slice-known.given i).fits)) (let input = input_ceiling a.limits is.within in let fits = is.fits in omega arith))
 
 pub full-chunk-spec : {M : Type 1} → statement M
 full-chunk-spec =

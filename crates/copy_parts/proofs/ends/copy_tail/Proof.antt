@@ -1,9 +1,9 @@
 -- `copy_parts::ends::copy_tail` meets its contract: at each return the calls say which case of the reader holds (`HeadAnswers.antt` of read_prototype), and what is put (`EndsPut.antt`). Assumes nothing.
 use borrow.Author.Rules.{rules}
 use mathlib.Core.Path.{sym, ◌∙◌}
-use Rattle.read_prototype.proofs.HeadAnswers.{deltas-refused, anchors-refused, locals-refused, names-refused, whole-tail}
+use Rattle.read_prototype.proofs.HeadAnswers.{deltas_refused, anchors_refused, locals_refused, names_refused, whole-tail}
 use Rattle.copy_parts.proofs.PutParts.{tail-put}
-use Rattle.copy_parts.proofs.EndsPut.{tail-stops, tail-copied}
+use Rattle.copy_parts.proofs.EndsPut.{tail_stops, tail_copied}
 use Rattle.copy_parts.proofs.ends.copy_tail.Statement.{statement}
 use Rattle.copy_parts.proofs.ends.copy_tail.Tie as tie
 
@@ -12,8 +12,8 @@ returns c =
     let k = c.before.before.before.before.before.before in
     let d = k.before.before.before.before.before.before.before in
     let a = d.before.before.before.before.before.before.args in
-    tail-stops _ _ c.refused2.ensures (anchors-refused a.s.now a.max-string-bytes a.cursor.at
-    d.deltas2.given.0.0 d.deltas2.given.0.1.0 d.deltas2.given.0.1.1.0 (sym d.deltas2.given.1 ∙ d.before.before.line-info-list.ensures.0)
+    tail_stops _ _ c.refused2.ensures (anchors_refused a.s.now a.max-string-bytes a.cursor.at
+    d.deltas2.given.0.0 d.deltas2.given.0.1.0 d.deltas2.given.0.1.1.0 (sym d.deltas2.given.1 ∙ d.before.before.line_info_list.ensures.0)
     _ (sym c.before.before.anchors.given.1 ∙ k.copy-anchors-list.ensures.0))
 
 returns-2 : tie.Need-returns-2
@@ -22,15 +22,15 @@ returns-2 c =
     let k = l.before.before.before.before.before.before.before in
     let d = k.before.before.before.before.before.before.before in
     let a = d.before.before.before.before.before.before.args in
-    tail-stops _ _ c.refused3.ensures (locals-refused a.s.now a.max-string-bytes a.cursor.at
-    d.deltas2.given.0.0 d.deltas2.given.0.1.0 d.deltas2.given.0.1.1.0 (sym d.deltas2.given.1 ∙ d.before.before.line-info-list.ensures.0)
+    tail_stops _ _ c.refused3.ensures (locals_refused a.s.now a.max-string-bytes a.cursor.at
+    d.deltas2.given.0.0 d.deltas2.given.0.1.0 d.deltas2.given.0.1.1.0 (sym d.deltas2.given.1 ∙ d.before.before.line_info_list.ensures.0)
     l.before.before.before.anchors2.given.0.0 l.before.before.before.anchors2.given.0.1.0 l.before.before.before.anchors2.given.0.1.1.0 (sym l.before.before.before.anchors2.given.1 ∙ k.copy-anchors-list.ensures.0)
     _ (sym c.before.before.locals.given.1 ∙ l.copy-locals-list.ensures.0))
 
 returns-3 : tie.Need-returns-3
 returns-3 c =
     let a = c.before.before.before.before.before.before.before.before.args in
-    tail-stops _ _ c.refused.ensures (deltas-refused a.s.now a.max-string-bytes a.cursor.at _ (sym c.before.before.deltas.given.1 ∙ c.before.before.before.before.line-info-list.ensures.0))
+    tail_stops _ _ c.refused.ensures (deltas_refused a.s.now a.max-string-bytes a.cursor.at _ (sym c.before.before.deltas.given.1 ∙ c.before.before.before.before.line_info_list.ensures.0))
 
 returns-4 : tie.Need-returns-4
 returns-4 c =
@@ -39,8 +39,8 @@ returns-4 c =
     let k = l.before.before.before.before.before.before.before in
     let d = k.before.before.before.before.before.before.before in
     let a = d.before.before.before.before.before.before.args in
-    tail-stops _ _ c.refused4.ensures (names-refused a.s.now a.max-string-bytes a.cursor.at
-    d.deltas2.given.0.0 d.deltas2.given.0.1.0 d.deltas2.given.0.1.1.0 (sym d.deltas2.given.1 ∙ d.before.before.line-info-list.ensures.0)
+    tail_stops _ _ c.refused4.ensures (names_refused a.s.now a.max-string-bytes a.cursor.at
+    d.deltas2.given.0.0 d.deltas2.given.0.1.0 d.deltas2.given.0.1.1.0 (sym d.deltas2.given.1 ∙ d.before.before.line_info_list.ensures.0)
     l.before.before.before.anchors2.given.0.0 l.before.before.before.anchors2.given.0.1.0 l.before.before.before.anchors2.given.0.1.1.0 (sym l.before.before.before.anchors2.given.1 ∙ k.copy-anchors-list.ensures.0)
     n.before.before.before.locals2.given.0.0 n.before.before.before.locals2.given.0.1.0 n.before.before.before.locals2.given.0.1.1.0 (sym n.before.before.before.locals2.given.1 ∙ l.copy-locals-list.ensures.0)
     _ (sym c.before.before.names.given.1 ∙ n.copy-names-list.ensures.0))
@@ -53,11 +53,11 @@ returns-5 c =
     let d = k.before.before.before.before.before.before.before in
     let a = d.before.before.before.before.before.before.args in
     let e = whole-tail a.s.now a.max-string-bytes a.cursor.at
-    d.deltas2.given.0.0 d.deltas2.given.0.1.0 d.deltas2.given.0.1.1.0 (sym d.deltas2.given.1 ∙ d.before.before.line-info-list.ensures.0)
+    d.deltas2.given.0.0 d.deltas2.given.0.1.0 d.deltas2.given.0.1.1.0 (sym d.deltas2.given.1 ∙ d.before.before.line_info_list.ensures.0)
     l.before.before.before.anchors2.given.0.0 l.before.before.before.anchors2.given.0.1.0 l.before.before.before.anchors2.given.0.1.1.0 (sym l.before.before.before.anchors2.given.1 ∙ k.copy-anchors-list.ensures.0)
     n.before.before.before.locals2.given.0.0 n.before.before.before.locals2.given.0.1.0 n.before.before.before.locals2.given.0.1.1.0 (sym n.before.before.before.locals2.given.1 ∙ l.copy-locals-list.ensures.0)
     c.before.names2.given.0.0 c.before.names2.given.0.1.0 c.before.names2.given.0.1.1.0 (sym c.before.names2.given.1 ∙ n.copy-names-list.ensures.0) in
-    tail-copied a.s.now a.max-string-bytes a.cursor.at _ _ e
+    tail_copied a.s.now a.max-string-bytes a.cursor.at _ _ e
     (tail-put a.s.now a.max-string-bytes _ k.before.before.before.before.put-run.ensures
     (k.copy-anchors-list.ensures.1.put _ _ _ l.before.before.before.anchors2.given.1)
     (l.copy-locals-list.ensures.1.put _ _ _ n.before.before.before.locals2.given.1)

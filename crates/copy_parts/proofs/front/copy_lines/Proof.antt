@@ -1,7 +1,7 @@
 -- `copy_parts::front::copy_lines` meets its contract: at each return the calls say which case of the reader holds (`FrontAnswers.antt` of read_prototype), and what is put (`FrontPut.antt`). Assumes nothing.
 use borrow.Author.Rules.{rules}
 use mathlib.Core.Path.{sym, ◌∙◌, ap}
-use Rattle.read_prototype.proofs.FrontAnswers.{first-refused, last-refused, two-lines}
+use Rattle.read_prototype.proofs.FrontAnswers.{first_refused, last-refused, two-lines}
 use Rattle.copy_parts.specs.Inner.Fronts.{lines_read}
 use Rattle.copy_parts.proofs.FrontPut.{lines-not, lines_copied}
 use Rattle.copy_parts.proofs.front.copy_lines.Statement.{statement}
@@ -10,7 +10,7 @@ use Rattle.copy_parts.proofs.front.copy_lines.Tie as tie
 returns : tie.Need-returns
 returns c =
     let a = c.before.before.before.before.before.before.args in
-    let e = first-refused a.s.now a.cursor.at _ (sym c.before.first.given.1 ∙ c.before.before.before.read-value.ensures) in
+    let e = first_refused a.s.now a.cursor.at _ (sym c.before.first.given.1 ∙ c.before.before.before.read-value.ensures) in
     (ap lines_read e, lines-not e)
 
 returns-2 : tie.Need-returns-2

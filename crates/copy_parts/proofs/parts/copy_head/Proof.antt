@@ -3,14 +3,14 @@ use borrow.Author.Rules.{rules}
 use mathlib.Core.Path.{sym, ◌∙◌, ap}
 use lib.ListN.{drop}
 use Rattle.read_prototype.specs.Front.{front}
-use Rattle.read_prototype.specs.Parts.{headLists}
-use Rattle.read_prototype.specs.PartsShown.{headListsResult}
-use Rattle.read_prototype.specs.Inner.Results.{frontResult}
+use Rattle.read_prototype.specs.Parts.{head_lists}
+use Rattle.read_prototype.specs.PartsShown.{head_lists_result}
+use Rattle.read_prototype.specs.Inner.Results.{front_result}
 use Rattle.read_prototype.proofs.HeadAnswers.{front-refused, lists-refused, protos-refused, whole-head}
 use Rattle.copy_parts.specs.declared.parts.CountsResult.TheVariants as three
-use Rattle.copy_parts.specs.Inner.Heads.{headCounted}
-use Rattle.copy_parts.proofs.FrontPut.{front-was, front-stops}
-use Rattle.copy_parts.proofs.HeadPut.{lists-were, lists-stops, head-not, head-copied}
+use Rattle.copy_parts.specs.Inner.Heads.{head_counted}
+use Rattle.copy_parts.proofs.FrontPut.{front_was, front_stops}
+use Rattle.copy_parts.proofs.HeadPut.{lists_were, lists_stops, head-not, head_copied}
 use Rattle.copy_parts.proofs.parts.copy_head.Statement.{statement}
 use Rattle.copy_parts.proofs.parts.copy_head.Tie as tie
 
@@ -18,8 +18,8 @@ returns : tie.Need-returns
 returns c =
     let f = c.before.before.before.before.before in
     let a = f.before.before.before.before.args in
-    let e = front-refused a.s.now a.limits a.before a.cursor.at _ (front-stops (frontResult (front a.limits.max_string_bytes a.cursor.at (drop a.cursor.at a.s.now))) _ (sym c.before.begins.given.1 ∙ f.copy-front.ensures.0)) in
-    (ap headCounted e, λ bytes. head-not e)
+    let e = front-refused a.s.now a.limits a.before a.cursor.at _ (front_stops (front_result (front a.limits.max_string_bytes a.cursor.at (drop a.cursor.at a.s.now))) _ (sym c.before.begins.given.1 ∙ f.copy-front.ensures.0)) in
+    (ap head_counted e, λ bytes. head-not e)
 
 returns-2 : tie.Need-returns-2
 returns-2 c =
@@ -28,10 +28,10 @@ returns-2 c =
     let f = b.before.before.before.before in
     let a = f.before.before.before.before.args in
     let c₁ = b.begins2.given.0.0 in
-    let was = front-was (frontResult (front a.limits.max_string_bytes a.cursor.at (drop a.cursor.at a.s.now))) c₁ (sym b.begins2.given.1 ∙ f.copy-front.ensures.0) in
-    let stops = lists-stops (headListsResult (headLists a.limits a.before c₁.at (drop c₁.at a.s.now))) _ (sym c.before.between.given.1 ∙ l.copy_lists.ensures.0) in
+    let was = front_was (front_result (front a.limits.max_string_bytes a.cursor.at (drop a.cursor.at a.s.now))) c₁ (sym b.begins2.given.1 ∙ f.copy-front.ensures.0) in
+    let stops = lists_stops (head_lists_result (head_lists a.limits a.before c₁.at (drop c₁.at a.s.now))) _ (sym c.before.between.given.1 ∙ l.copy_lists.ensures.0) in
     let e = lists-refused a.s.now a.limits a.before a.cursor.at was.value c₁ was.is _ stops in
-    (ap headCounted e, λ bytes. head-not e)
+    (ap head_counted e, λ bytes. head-not e)
 
 returns-3 : tie.Need-returns-3
 returns-3 c =
@@ -43,10 +43,10 @@ returns-3 c =
     let a = f.before.before.before.before.args in
     let c₁ = b.begins2.given.0.0 in
     let k = m.between2.given.0 in
-    let was = front-was (frontResult (front a.limits.max_string_bytes a.cursor.at (drop a.cursor.at a.s.now))) c₁ (sym b.begins2.given.1 ∙ f.copy-front.ensures.0) in
-    let were = lists-were (headListsResult (headLists a.limits a.before c₁.at (drop c₁.at a.s.now))) k.0 k.1.0 k.1.1.0 (sym m.between2.given.1 ∙ l.copy_lists.ensures.0) in
+    let was = front_was (front_result (front a.limits.max_string_bytes a.cursor.at (drop a.cursor.at a.s.now))) c₁ (sym b.begins2.given.1 ∙ f.copy-front.ensures.0) in
+    let were = lists_were (head_lists_result (head_lists a.limits a.before c₁.at (drop c₁.at a.s.now))) k.0 k.1.0 k.1.1.0 (sym m.between2.given.1 ∙ l.copy_lists.ensures.0) in
     let e = protos-refused a.s.now a.limits a.before a.cursor.at was.value c₁ was.is were.value k.1.1.0 were.is _ (sym c.before.nested.given.1 ∙ p.protos-count.ensures.0) in
-    (ap headCounted e, λ bytes. head-not e)
+    (ap head_counted e, λ bytes. head-not e)
 
 returns-4 : tie.Need-returns-4
 returns-4 c =
@@ -60,11 +60,11 @@ returns-4 c =
     let c₁ = b.begins2.given.0.0 in
     let k = m.between2.given.0 in
     let g = n.nested2.given.0 in
-    let was = front-was (frontResult (front a.limits.max_string_bytes a.cursor.at (drop a.cursor.at a.s.now))) c₁ (sym b.begins2.given.1 ∙ f.copy-front.ensures.0) in
-    let were = lists-were (headListsResult (headLists a.limits a.before c₁.at (drop c₁.at a.s.now))) k.0 k.1.0 k.1.1.0 (sym m.between2.given.1 ∙ l.copy_lists.ensures.0) in
+    let was = front_was (front_result (front a.limits.max_string_bytes a.cursor.at (drop a.cursor.at a.s.now))) c₁ (sym b.begins2.given.1 ∙ f.copy-front.ensures.0) in
+    let were = lists_were (head_lists_result (head_lists a.limits a.before c₁.at (drop c₁.at a.s.now))) k.0 k.1.0 k.1.1.0 (sym m.between2.given.1 ∙ l.copy_lists.ensures.0) in
     let e = whole-head a.s.now a.limits a.before a.cursor.at was.value c₁ was.is were.value k.1.1.0 were.is g.0 g.1.0 g.1.1.0 (sym n.nested2.given.1 ∙ p.protos-count.ensures.0) in (
-      (λ i. three.Ok (record { instructions = were.instructions i; upvalues = were.upvalues i; protos = g.0 }) g.1.1.0) ∙ ap headCounted e,
-      λ bytes. head-copied a.s.now a.limits a.before a.cursor.at a.named e (f.copy-front.ensures.1.put _ _ (sym was.is)) (l.copy_lists.ensures.1.put _ _ (sym were.is)) c.before.before.put-varint.ensures bytes,
+      (λ i. three.Ok (record { instructions = were.instructions i; upvalues = were.upvalues i; protos = g.0 }) g.1.1.0) ∙ ap head_counted e,
+      λ bytes. head_copied a.s.now a.limits a.before a.cursor.at a.named e (f.copy-front.ensures.1.put _ _ (sym was.is)) (l.copy_lists.ensures.1.put _ _ (sym were.is)) c.before.before.put-varint.ensures bytes,
     )
 
 pub copy-head-spec : {M : Type 1} → statement M

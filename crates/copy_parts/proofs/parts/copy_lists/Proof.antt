@@ -2,8 +2,8 @@
 use borrow.Author.Rules.{rules}
 use mathlib.Core.Path.{sym, ◌∙◌, ap}
 use Rattle.read_prototype.proofs.HeadAnswers.{code-refused, constants-refused, upvalues-refused, all-lists}
-use Rattle.copy_parts.specs.Inner.Heads.{listsCounted}
-use Rattle.copy_parts.proofs.HeadPut.{lists-not, lists-copied}
+use Rattle.copy_parts.specs.Inner.Heads.{lists_counted}
+use Rattle.copy_parts.proofs.HeadPut.{lists-not, lists_copied}
 use Rattle.copy_parts.proofs.parts.copy_lists.Statement.{statement}
 use Rattle.copy_parts.proofs.parts.copy_lists.Tie as tie
 
@@ -11,19 +11,19 @@ returns : tie.Need-returns
 returns c =
     let a = c.before.before.before.before.before.before.before.args in
     let e = code-refused a.s.now a.limits a.before a.cursor.at _ (sym c.before.code.given.1 ∙ c.before.before.before.instructions-list.ensures.0) in
-    (ap listsCounted e, lists-not e)
+    (ap lists_counted e, lists-not e)
 
 returns-2 : tie.Need-returns-2
 returns-2 c =
     let a = c.before.before.before.before.before.before.before.before.before.before.before.before.before.before.before.before.before.before.args in
     let e = constants-refused a.s.now a.limits a.before a.cursor.at c.before.before.before.before.before.before.before.before.before.before.before.before.code2.given.0.0 c.before.before.before.before.before.before.before.before.before.before.before.before.code2.given.0.1.0 c.before.before.before.before.before.before.before.before.before.before.before.before.code2.given.0.1.1.0 (sym c.before.before.before.before.before.before.before.before.before.before.before.before.code2.given.1 ∙ c.before.before.before.before.before.before.before.before.before.before.before.before.before.before.instructions-list.ensures.0) _ (sym c.before.constants.given.1 ∙ c.before.before.before.before.before.copy-constants-list.ensures.0) in
-    (ap listsCounted e, lists-not e)
+    (ap lists_counted e, lists-not e)
 
 returns-3 : tie.Need-returns-3
 returns-3 c =
     let a = c.before.before.before.before.before.before.before.before.before.before.before.before.before.before.before.before.before.before.before.before.before.before.before.args in
     let e = upvalues-refused a.s.now a.limits a.before a.cursor.at c.before.before.before.before.before.before.before.before.before.before.before.before.before.before.before.before.before.code2.given.0.0 c.before.before.before.before.before.before.before.before.before.before.before.before.before.before.before.before.before.code2.given.0.1.0 c.before.before.before.before.before.before.before.before.before.before.before.before.before.before.before.before.before.code2.given.0.1.1.0 (sym c.before.before.before.before.before.before.before.before.before.before.before.before.before.before.before.before.before.code2.given.1 ∙ c.before.before.before.before.before.before.before.before.before.before.before.before.before.before.before.before.before.before.before.instructions-list.ensures.0) c.before.before.before.before.before.before.constants2.given.0.0 c.before.before.before.before.before.before.constants2.given.0.1.0 c.before.before.before.before.before.before.constants2.given.0.1.1.0 (sym c.before.before.before.before.before.before.constants2.given.1 ∙ c.before.before.before.before.before.before.before.before.before.before.copy-constants-list.ensures.0) _ (sym c.before.u.given.1 ∙ c.before.before.before.upvalues-list.ensures.0) in
-    (ap listsCounted e, lists-not e)
+    (ap lists_counted e, lists-not e)
 
 returns-4 : tie.Need-returns-4
 returns-4 c =
@@ -32,8 +32,8 @@ returns-4 c =
     let two = c.before.before.before.before.before.before.before.before.before.before.constants2.given.0 in
     let three = c.before.before.before.before.before.u2.given.0 in
     let e = all-lists a.s.now a.limits a.before a.cursor.at c.before.before.before.before.before.before.before.before.before.before.before.before.before.before.before.before.before.before.before.before.before.code2.given.0.0 c.before.before.before.before.before.before.before.before.before.before.before.before.before.before.before.before.before.before.before.before.before.code2.given.0.1.0 c.before.before.before.before.before.before.before.before.before.before.before.before.before.before.before.before.before.before.before.before.before.code2.given.0.1.1.0 (sym c.before.before.before.before.before.before.before.before.before.before.before.before.before.before.before.before.before.before.before.before.before.code2.given.1 ∙ c.before.before.before.before.before.before.before.before.before.before.before.before.before.before.before.before.before.before.before.before.before.before.before.instructions-list.ensures.0) c.before.before.before.before.before.before.before.before.before.before.constants2.given.0.0 c.before.before.before.before.before.before.before.before.before.before.constants2.given.0.1.0 c.before.before.before.before.before.before.before.before.before.before.constants2.given.0.1.1.0 (sym c.before.before.before.before.before.before.before.before.before.before.constants2.given.1 ∙ c.before.before.before.before.before.before.before.before.before.before.before.before.before.before.copy-constants-list.ensures.0) c.before.before.before.before.before.u2.given.0.0 c.before.before.before.before.before.u2.given.0.1.0 c.before.before.before.before.before.u2.given.0.1.1.0 (sym c.before.before.before.before.before.u2.given.1 ∙ c.before.before.before.before.before.before.before.upvalues-list.ensures.0) in (
-      ap listsCounted e,
-      lists-copied a.s.now a.limits (record { instructions = record { count = one.0; place = one.1.0 }; constants = record { count = two.0; place = two.1.0 }; upvalues = record { count = three.0; place = three.1.0 } }) e
+      ap lists_counted e,
+      lists_copied a.s.now a.limits (record { instructions = record { count = one.0; place = one.1.0 }; constants = record { count = two.0; place = two.1.0 }; upvalues = record { count = three.0; place = three.1.0 } }) e
           c.before.before.before.before.before.before.before.before.before.before.before.before.before.before.before.before.before.before.put-run.ensures (λ bytes. (c.before.before.before.before.before.before.before.before.before.before.before.before.before.before.copy-constants-list.ensures.1 bytes).put _ _ _ c.before.before.before.before.before.before.before.before.before.before.constants2.given.1) c.before.before.put-run2.ensures,
     )
 

@@ -2,7 +2,7 @@
 use mathlib.Core.Path.{refl}
 use native.Mathlib.Omega.{arith}
 use borrow.Author.Rules.{rules}
-use Rattle.slice.proofs.Splices.{splice-set}
+use Rattle.slice.proofs.Splices.{splice_set}
 use Rattle.copy_put.proofs.Writes.{put-room, put-none}
 use Rattle.copy_put.proofs.raw.put_byte.Statement.{statement}
 use Rattle.copy_put.proofs.raw.put_byte.Tie as tie
@@ -16,4 +16,4 @@ put-byte-spec =
     (λ c. search rules)
     (λ c. search rules)
     (λ c. search rules)
-    (λ c. let free = c.if1.false in put-room (omega arith) refl (splice-set _ _ _ (omega arith))))
+    (λ c. let free = c.if1.false in put-room (omega arith) refl (splice_set _ _ _ (omega arith))))

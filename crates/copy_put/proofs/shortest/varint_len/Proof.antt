@@ -3,7 +3,7 @@ use mathlib.Core.Path.{sym, ◌∙◌}
 use native.Mathlib.Omega.{arith}
 use borrow.Author.Rules.{rules}
 use lib.Count.{leading_le}
-use Rattle.copy_put.proofs.Table.{table-rule}
+use Rattle.copy_put.proofs.Table.{table_rule}
 use Rattle.copy_put.proofs.shortest.varint_len.Statement.{statement}
 use Rattle.copy_put.proofs.shortest.varint_len.Tie as tie
 
@@ -12,4 +12,4 @@ varint-len-spec =
     tie.close
     (tie.spec
     (λ c κs. omega (arith, leading_le 64 c.args.v))
-    (λ c. let both = sym c.length_at.ensures ∙ table-rule c.before.args.v (search rules) in cc))
+    (λ c. let both = sym c.length_at.ensures ∙ table_rule c.before.args.v (search rules) in cc))

@@ -3,8 +3,8 @@ use mathlib.Core.Path.{refl}
 use borrow.Author.Rules.{rules}
 use Rattle.format.specs.ReadChunk.{read}
 use Rattle.show_row.specs.Asked.{entry_of}
-use Rattle.show_entry.specs.Entries.{shownAnchor}
-use Rattle.c_boundary.proofs.Calls.{call-refuses, call-answers}
+use Rattle.show_entry.specs.Entries.{shown_anchor}
+use Rattle.c_boundary.proofs.Calls.{call_refuses, call_answers}
 use Rattle.lafzimdo.specs.Answers.{ofAnchor}
 use Rattle.lafzimdo.proofs.entry.lafzimdo_anchor.Statement.{statement}
 use Rattle.lafzimdo.proofs.entry.lafzimdo_anchor.Tie as tie
@@ -17,8 +17,8 @@ lafzimdo-anchor-spec =
     (λ c.
     let k = c.before.before.before.before in
     let a = k.before.before.before.args in
-    call-refuses ofAnchor (λ L. shownAnchor (entry_of (λ p. p.abs-line-info) a.function a.entry (read L a.chunk.now))) a.out.now k.before.Limits-of.ensures k.anchor.ensures c.before.before.answer.given.1 refl c.refused.ensures)
+    call_refuses ofAnchor (λ L. shown_anchor (entry_of (λ p. p.abs_line_info) a.function a.entry (read L a.chunk.now))) a.out.now k.before.Limits-of.ensures k.anchor.ensures c.before.before.answer.given.1 refl c.refused.ensures)
     (λ c.
     let k = c.before.before.before.before in
     let a = k.before.before.before.args in
-    call-answers ofAnchor (λ L. shownAnchor (entry_of (λ p. p.abs-line-info) a.function a.entry (read L a.chunk.now))) a.out.now k.before.Limits-of.ensures k.anchor.ensures c.before.before.answer2.given.1 refl c.anchor-numbers.ensures))
+    call_answers ofAnchor (λ L. shown_anchor (entry_of (λ p. p.abs_line_info) a.function a.entry (read L a.chunk.now))) a.out.now k.before.Limits-of.ensures k.anchor.ensures c.before.before.answer2.given.1 refl c.anchor-numbers.ensures))

@@ -3,8 +3,8 @@ use mathlib.Core.Path.{refl}
 use borrow.Author.Rules.{rules}
 use Rattle.format.specs.ReadChunk.{read}
 use Rattle.show_row.specs.Asked.{entry_of}
-use Rattle.show_entry.specs.Entries.{shownConstant}
-use Rattle.c_boundary.proofs.Calls.{call-refuses, call-answers}
+use Rattle.show_entry.specs.Entries.{shown_constant}
+use Rattle.c_boundary.proofs.Calls.{call_refuses, call_answers}
 use Rattle.lafzimdo.specs.Answers.{ofConstant}
 use Rattle.lafzimdo.proofs.entry.lafzimdo_constant.Statement.{statement}
 use Rattle.lafzimdo.proofs.entry.lafzimdo_constant.Tie as tie
@@ -17,8 +17,8 @@ lafzimdo-constant-spec =
     (λ c.
     let k = c.before.before.before.before in
     let a = k.before.before.before.args in
-    call-refuses ofConstant (λ L. shownConstant (entry_of (λ p. p.constants) a.function a.entry (read L a.chunk.now))) a.out.now k.before.Limits-of.ensures k.constant.ensures c.before.before.answer.given.1 refl c.refused.ensures)
+    call_refuses ofConstant (λ L. shown_constant (entry_of (λ p. p.constants) a.function a.entry (read L a.chunk.now))) a.out.now k.before.Limits-of.ensures k.constant.ensures c.before.before.answer.given.1 refl c.refused.ensures)
     (λ c.
     let k = c.before.before.before.before in
     let a = k.before.before.before.args in
-    call-answers ofConstant (λ L. shownConstant (entry_of (λ p. p.constants) a.function a.entry (read L a.chunk.now))) a.out.now k.before.Limits-of.ensures k.constant.ensures c.before.before.answer2.given.1 refl c.constant-numbers.ensures))
+    call_answers ofConstant (λ L. shown_constant (entry_of (λ p. p.constants) a.function a.entry (read L a.chunk.now))) a.out.now k.before.Limits-of.ensures k.constant.ensures c.before.before.answer2.given.1 refl c.constant_numbers_lem.ensures))

@@ -3,8 +3,8 @@ use mathlib.Core.Path.{refl}
 use borrow.Author.Rules.{rules}
 use Rattle.format.specs.ReadChunk.{read}
 use Rattle.show_row.specs.Asked.{entry_of}
-use Rattle.show_entry.specs.Entries.{shownUpvalue}
-use Rattle.c_boundary.proofs.Calls.{call-refuses, call-answers}
+use Rattle.show_entry.specs.Entries.{shown_upvalue}
+use Rattle.c_boundary.proofs.Calls.{call_refuses, call_answers}
 use Rattle.lafzimdo.specs.Answers.{ofUpvalue}
 use Rattle.lafzimdo.proofs.entry.lafzimdo_upvalue.Statement.{statement}
 use Rattle.lafzimdo.proofs.entry.lafzimdo_upvalue.Tie as tie
@@ -17,8 +17,8 @@ lafzimdo-upvalue-spec =
     (λ c.
     let k = c.before.before.before.before in
     let a = k.before.before.before.args in
-    call-refuses ofUpvalue (λ L. shownUpvalue (entry_of (λ p. p.upvalues) a.function a.entry (read L a.chunk.now))) a.out.now k.before.Limits-of.ensures k.upvalue.ensures c.before.before.answer.given.1 refl c.refused.ensures)
+    call_refuses ofUpvalue (λ L. shown_upvalue (entry_of (λ p. p.upvalues) a.function a.entry (read L a.chunk.now))) a.out.now k.before.Limits-of.ensures k.upvalue.ensures c.before.before.answer.given.1 refl c.refused.ensures)
     (λ c.
     let k = c.before.before.before.before in
     let a = k.before.before.before.args in
-    call-answers ofUpvalue (λ L. shownUpvalue (entry_of (λ p. p.upvalues) a.function a.entry (read L a.chunk.now))) a.out.now k.before.Limits-of.ensures k.upvalue.ensures c.before.before.answer2.given.1 refl c.upvalue-numbers.ensures))
+    call_answers ofUpvalue (λ L. shown_upvalue (entry_of (λ p. p.upvalues) a.function a.entry (read L a.chunk.now))) a.out.now k.before.Limits-of.ensures k.upvalue.ensures c.before.before.answer2.given.1 refl c.upvalue-numbers.ensures))

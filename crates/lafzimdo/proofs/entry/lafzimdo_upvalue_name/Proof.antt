@@ -3,8 +3,8 @@ use mathlib.Core.Path.{refl}
 use borrow.Author.Rules.{rules}
 use Rattle.format.specs.ReadChunk.{read}
 use Rattle.show_row.specs.Asked.{entry_of}
-use Rattle.show_entry.specs.Entries.{shownName}
-use Rattle.c_boundary.proofs.Calls.{call-refuses, call-answers}
+use Rattle.show_entry.specs.Entries.{shown_name}
+use Rattle.c_boundary.proofs.Calls.{call_refuses, call_answers}
 use Rattle.lafzimdo.specs.Answers.{ofName}
 use Rattle.lafzimdo.proofs.entry.lafzimdo_upvalue_name.Statement.{statement}
 use Rattle.lafzimdo.proofs.entry.lafzimdo_upvalue_name.Tie as tie
@@ -17,8 +17,8 @@ lafzimdo-upvalue-name-spec =
     (λ c.
     let k = c.before.before.before.before in
     let a = k.before.before.before.args in
-    call-refuses ofName (λ L. shownName (entry_of (λ p. p.upvalue-names) a.function a.entry (read L a.chunk.now))) a.out.now k.before.Limits-of.ensures k.upvalue-name.ensures c.before.before.answer.given.1 refl c.refused.ensures)
+    call_refuses ofName (λ L. shown_name (entry_of (λ p. p.upvalue_names_lem) a.function a.entry (read L a.chunk.now))) a.out.now k.before.Limits-of.ensures k.upvalue-name.ensures c.before.before.answer.given.1 refl c.refused.ensures)
     (λ c.
     let k = c.before.before.before.before in
     let a = k.before.before.before.args in
-    call-answers ofName (λ L. shownName (entry_of (λ p. p.upvalue-names) a.function a.entry (read L a.chunk.now))) a.out.now k.before.Limits-of.ensures k.upvalue-name.ensures c.before.before.answer2.given.1 refl c.string-numbers.ensures))
+    call_answers ofName (λ L. shown_name (entry_of (λ p. p.upvalue_names_lem) a.function a.entry (read L a.chunk.now))) a.out.now k.before.Limits-of.ensures k.upvalue-name.ensures c.before.before.answer2.given.1 refl c.string_numbers_lem.ensures))

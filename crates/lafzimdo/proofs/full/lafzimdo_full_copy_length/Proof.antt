@@ -2,8 +2,8 @@
 use mathlib.Core.Path.{refl}
 use borrow.Author.Rules.{rules}
 use Rattle.format.specs.ReadChunk.{read}
-use Rattle.copy_full.specs.InFull.{shownFullLength}
-use Rattle.c_boundary.proofs.Calls.{call-refuses, call-answers}
+use Rattle.copy_full.specs.InFull.{shown_full_length}
+use Rattle.c_boundary.proofs.Calls.{call_refuses, call_answers}
 use Rattle.lafzimdo.specs.Answers.{ofCopy}
 use Rattle.lafzimdo.proofs.full.lafzimdo_full_copy_length.Statement.{statement}
 use Rattle.lafzimdo.proofs.full.lafzimdo_full_copy_length.Tie as tie
@@ -16,8 +16,8 @@ lafzimdo-full-copy-length-spec =
     (λ c.
     let k = c.before.before.before.before in
     let a = k.before.before.before.args in
-    call-refuses ofCopy (λ L. shownFullLength (read L a.chunk.now)) a.out.now k.before.Limits-of.ensures k.full-copy-length.ensures c.before.before.answer.given.1 refl c.refused.ensures)
+    call_refuses ofCopy (λ L. shown_full_length (read L a.chunk.now)) a.out.now k.before.Limits-of.ensures k.full_copy-length.ensures c.before.before.answer.given.1 refl c.refused.ensures)
     (λ c.
     let k = c.before.before.before.before in
     let a = k.before.before.before.args in
-    call-answers ofCopy (λ L. shownFullLength (read L a.chunk.now)) a.out.now k.before.Limits-of.ensures k.full-copy-length.ensures c.before.before.answer2.given.1 refl c.one.ensures))
+    call_answers ofCopy (λ L. shown_full_length (read L a.chunk.now)) a.out.now k.before.Limits-of.ensures k.full_copy-length.ensures c.before.before.answer2.given.1 refl c.one.ensures))

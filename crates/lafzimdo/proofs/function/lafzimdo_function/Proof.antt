@@ -2,9 +2,9 @@
 use mathlib.Core.Path.{refl}
 use borrow.Author.Rules.{rules}
 use Rattle.format.specs.ReadChunk.{read}
-use Rattle.show_row.specs.Asked.{functionOf}
-use Rattle.show_chunk.specs.Fields.{shownFields}
-use Rattle.c_boundary.proofs.Calls.{call-refuses, call-answers}
+use Rattle.show_row.specs.Asked.{function_of}
+use Rattle.show_chunk.specs.Fields.{shown_fields}
+use Rattle.c_boundary.proofs.Calls.{call_refuses, call_answers}
 use Rattle.lafzimdo.specs.Answers.{of_fields}
 use Rattle.lafzimdo.proofs.function.lafzimdo_function.Statement.{statement}
 use Rattle.lafzimdo.proofs.function.lafzimdo_function.Tie as tie
@@ -17,8 +17,8 @@ lafzimdo-function-spec =
     (λ c.
     let k = c.before.before.before.before in
     let a = k.before.before.before.args in
-    call-refuses of_fields (λ L. shownFields (functionOf a.function (read L a.chunk.now))) a.out.now k.before.Limits-of.ensures k.function-fields.ensures c.before.before.answer.given.1 refl c.refused.ensures)
+    call_refuses of_fields (λ L. shown_fields (function_of a.function (read L a.chunk.now))) a.out.now k.before.Limits-of.ensures k.function_fields.ensures c.before.before.answer.given.1 refl c.refused.ensures)
     (λ c.
     let k = c.before.before.before.before in
     let a = k.before.before.before.args in
-    call-answers of_fields (λ L. shownFields (functionOf a.function (read L a.chunk.now))) a.out.now k.before.Limits-of.ensures k.function-fields.ensures c.before.before.answer2.given.1 refl c.fields-numbers.ensures))
+    call_answers of_fields (λ L. shown_fields (function_of a.function (read L a.chunk.now))) a.out.now k.before.Limits-of.ensures k.function_fields.ensures c.before.before.answer2.given.1 refl c.fields-numbers.ensures))

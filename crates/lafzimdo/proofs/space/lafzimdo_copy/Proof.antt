@@ -3,8 +3,8 @@ use mathlib.Core.Path.{refl, ◌∙◌, ap}
 use lib.ListN.{length}
 use borrow.Author.Rules.{rules}
 use Rattle.format.specs.ReadChunk.{read}
-use Rattle.copy.specs.Copied.{shownCopy, copyWritten}
-use Rattle.c_boundary.proofs.Calls.{call-refuses, call-answers}
+use Rattle.copy.specs.Copied.{shown_copy, copy_written}
+use Rattle.c_boundary.proofs.Calls.{call_refuses, call_answers}
 use Rattle.lafzimdo.specs.Answers.{ofCopy}
 use Rattle.lafzimdo.proofs.space.lafzimdo_copy.Statement.{statement}
 use Rattle.lafzimdo.proofs.space.lafzimdo_copy.Tie as tie
@@ -18,12 +18,12 @@ lafzimdo-copy-spec =
     let k = c.before.before.before.before.before.before in
     let l = k.before.before.Limits-of.ensures in
     let a = k.before.before.before.before.before.args in
-    let p = call-refuses ofCopy (λ L. shownCopy (length a.copy.now) (read L a.chunk.now)) a.out.now l k.encode-chunk-lua54.ensures.0 c.before.before.answer.given.1 refl c.refused.ensures in
-    (p.0, (p.1, k.encode-chunk-lua54.ensures.1 ∙ ap (λ L. copyWritten a.copy.now (read L a.chunk.now)) l)))
+    let p = call_refuses ofCopy (λ L. shown_copy (length a.copy.now) (read L a.chunk.now)) a.out.now l k.encode_chunk_lua54.ensures.0 c.before.before.answer.given.1 refl c.refused.ensures in
+    (p.0, (p.1, k.encode_chunk_lua54.ensures.1 ∙ ap (λ L. copy_written a.copy.now (read L a.chunk.now)) l)))
     (λ c. search rules)
     (λ c.
     let k = c.before.before.before.before.before.before in
     let l = k.before.before.Limits-of.ensures in
     let a = k.before.before.before.before.before.args in
-    let p = call-answers ofCopy (λ L. shownCopy (length a.copy.now) (read L a.chunk.now)) a.out.now l k.encode-chunk-lua54.ensures.0 c.before.before.answer2.given.1 refl c.one.ensures in
-    (p.0, (p.1, k.encode-chunk-lua54.ensures.1 ∙ ap (λ L. copyWritten a.copy.now (read L a.chunk.now)) l))))
+    let p = call_answers ofCopy (λ L. shown_copy (length a.copy.now) (read L a.chunk.now)) a.out.now l k.encode_chunk_lua54.ensures.0 c.before.before.answer2.given.1 refl c.one.ensures in
+    (p.0, (p.1, k.encode_chunk_lua54.ensures.1 ∙ ap (λ L. copy_written a.copy.now (read L a.chunk.now)) l))))

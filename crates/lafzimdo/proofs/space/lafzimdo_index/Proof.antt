@@ -3,8 +3,8 @@ use mathlib.Core.Path.{refl, ◌∙◌, ap}
 use lib.ListN.{length}
 use borrow.Author.Rules.{rules}
 use Rattle.format.specs.ReadChunk.{read}
-use Rattle.index.specs.Index.{shownIndex, indexWritten}
-use Rattle.c_boundary.proofs.Calls.{call-refuses, call-answers}
+use Rattle.index.specs.Index.{shown_index, index_written}
+use Rattle.c_boundary.proofs.Calls.{call_refuses, call_answers}
 use Rattle.lafzimdo.specs.Answers.{ofIndex}
 use Rattle.lafzimdo.proofs.space.lafzimdo_index.Statement.{statement}
 use Rattle.lafzimdo.proofs.space.lafzimdo_index.Tie as tie
@@ -18,12 +18,12 @@ lafzimdo-index-spec =
     let k = c.before.before.before.before.before.before in
     let l = k.before.before.Limits-of.ensures in
     let a = k.before.before.before.before.before.args in
-    let p = call-refuses ofIndex (λ L. shownIndex (length a.rows.now) (read L a.chunk.now)) a.out.now l k.function-index.ensures.0 c.before.before.answer.given.1 refl c.refused.ensures in
-    (p.0, (p.1, k.function-index.ensures.1 ∙ ap (λ L. indexWritten a.rows.now (read L a.chunk.now)) l)))
+    let p = call_refuses ofIndex (λ L. shown_index (length a.rows.now) (read L a.chunk.now)) a.out.now l k.function-index.ensures.0 c.before.before.answer.given.1 refl c.refused.ensures in
+    (p.0, (p.1, k.function-index.ensures.1 ∙ ap (λ L. index_written a.rows.now (read L a.chunk.now)) l)))
     (λ c. search rules)
     (λ c.
     let k = c.before.before.before.before.before.before in
     let l = k.before.before.Limits-of.ensures in
     let a = k.before.before.before.before.before.args in
-    let p = call-answers ofIndex (λ L. shownIndex (length a.rows.now) (read L a.chunk.now)) a.out.now l k.function-index.ensures.0 c.before.before.answer2.given.1 refl c.one.ensures in
-    (p.0, (p.1, k.function-index.ensures.1 ∙ ap (λ L. indexWritten a.rows.now (read L a.chunk.now)) l))))
+    let p = call_answers ofIndex (λ L. shown_index (length a.rows.now) (read L a.chunk.now)) a.out.now l k.function-index.ensures.0 c.before.before.answer2.given.1 refl c.one.ensures in
+    (p.0, (p.1, k.function-index.ensures.1 ∙ ap (λ L. index_written a.rows.now (read L a.chunk.now)) l))))

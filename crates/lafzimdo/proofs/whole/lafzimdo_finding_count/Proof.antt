@@ -3,7 +3,7 @@ use mathlib.Core.Path.{refl}
 use borrow.Author.Rules.{rules}
 use Rattle.format.specs.ReadChunk.{read}
 use Rattle.validate_verdict.specs.Answers.{shownCount}
-use Rattle.c_boundary.proofs.Calls.{call-refuses, call-answers}
+use Rattle.c_boundary.proofs.Calls.{call_refuses, call_answers}
 use Rattle.lafzimdo.specs.Answers.{ofCount}
 use Rattle.lafzimdo.proofs.whole.lafzimdo_finding_count.Statement.{statement}
 use Rattle.lafzimdo.proofs.whole.lafzimdo_finding_count.Tie as tie
@@ -16,8 +16,8 @@ lafzimdo-finding-count-spec =
     (λ c.
     let k = c.before.before.before.before in
     let a = k.before.before.before.args in
-    call-refuses ofCount (λ L. shownCount (read L a.chunk.now)) a.out.now k.before.Limits-of.ensures k.finding-count.ensures c.before.before.answer.given.1 refl c.refused.ensures)
+    call_refuses ofCount (λ L. shownCount (read L a.chunk.now)) a.out.now k.before.Limits-of.ensures k.finding_count.ensures c.before.before.answer.given.1 refl c.refused.ensures)
     (λ c.
     let k = c.before.before.before.before in
     let a = k.before.before.before.args in
-    call-answers ofCount (λ L. shownCount (read L a.chunk.now)) a.out.now k.before.Limits-of.ensures k.finding-count.ensures c.before.before.answer2.given.1 refl c.one.ensures))
+    call_answers ofCount (λ L. shownCount (read L a.chunk.now)) a.out.now k.before.Limits-of.ensures k.finding_count.ensures c.before.before.answer2.given.1 refl c.one.ensures))

@@ -5,8 +5,8 @@ use mir.Syntax.{w32}
 use mir.Val.{to_z, of_z}
 use mir.Facts.{to_z-of_z}
 use Rattle.word_fields.specs.Word.{encoded}
-use Rattle.c_boundary.proofs.Calls.{call-refuses, call-answers}
-use Rattle.c_words.specs.Words.{spelt, ofEncoded}
+use Rattle.c_boundary.proofs.Calls.{call_refuses, call_answers}
+use Rattle.c_words.specs.Words.{spelt, of_encoded}
 use Rattle.lafzimdo.proofs.word.lafzimdo_encode.Statement.{statement}
 use Rattle.lafzimdo.proofs.word.lafzimdo_encode.Tie as tie
 
@@ -21,7 +21,7 @@ lafzimdo-encode-spec =
     (λ c κs. search rules) (λ c κs. search rules) (λ c. search rules) (λ c κs. search rules) (λ c. search rules) (λ c. search rules) (λ c κs. search rules)
     (λ c.
     let k = c.before.before.before.before in
-    call-refuses ofEncoded encoded k.before.before.args.out.now (k.before.word_of.ensures ∙ as-given k.before.before) k.encode.ensures c.before.before.answer.given.1 refl c.refused.ensures)
+    call_refuses of_encoded encoded k.before.before.args.out.now (k.before.word_of.ensures ∙ as-given k.before.before) k.encode.ensures c.before.before.answer.given.1 refl c.refused.ensures)
     (λ c.
     let k = c.before.before.before.before in
-    call-answers ofEncoded encoded k.before.before.args.out.now (k.before.word_of.ensures ∙ as-given k.before.before) k.encode.ensures c.before.before.answer2.given.1 refl c.one.ensures))
+    call_answers of_encoded encoded k.before.before.args.out.now (k.before.word_of.ensures ∙ as-given k.before.before) k.encode.ensures c.before.before.answer2.given.1 refl c.one.ensures))

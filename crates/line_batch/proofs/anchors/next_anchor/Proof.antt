@@ -3,7 +3,7 @@ use mathlib.Core.Path.{sym, ◌∙◌}
 use borrow.Author.Rules.{rules}
 use lib.ListN.{drop}
 use Rattle.format.specs.ReadChunk.{anchor}
-use Rattle.read_entry.proofs.DebugInfo.{anchor-err, anchor-ok}
+use Rattle.read_entry.proofs.DebugInfo.{anchor_err, anchor-ok}
 use Rattle.line_batch.proofs.Ahead.{none_left, unreadable, one-there}
 use Rattle.line_batch.proofs.anchors.next_anchor.Statement.{statement}
 use Rattle.line_batch.proofs.anchors.next_anchor.Tie as tie
@@ -17,7 +17,7 @@ next-anchor-spec =
     (λ c.
     let b = c.before.before in
     let a = b.before.before.before.before.before.args in
-    unreadable a.s.now a.from b.before.before.if1.false _ (anchor-err (anchor a.from.next.at (drop a.from.next.at a.s.now)) _ (sym c.enum_told.given.1 ∙ b.read-anchor.ensures)))
+    unreadable a.s.now a.from b.before.before.if1.false _ (anchor_err (anchor a.from.next.at (drop a.from.next.at a.s.now)) _ (sym c.enum_told.given.1 ∙ b.read-anchor.ensures)))
     (λ c.
     let b = c.before.before.before.before in
     let a = b.before.before.before.before.before.args in

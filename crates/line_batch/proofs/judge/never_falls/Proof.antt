@@ -5,13 +5,13 @@ use native.Mathlib.Omega.{arith}
 use borrow.Author.Rules.{rules}
 use lib.Dec.{leb}
 use lib.ListN.{length, drop}
-use Rattle.line_batch.specs.Batch.{orderedFrom, neverFalls}
-use Rattle.line_batch.proofs.Judging.{falls-first, falls-here, falls-later, falls-nowhere}
+use Rattle.line_batch.specs.Batch.{ordered_from, never_falls}
+use Rattle.line_batch.proofs.Judging.{falls_first, falls_here, falls_later, falls_nowhere}
 use Rattle.line_batch.proofs.judge.never_falls.Statement.{statement}
 use Rattle.line_batch.proofs.judge.never_falls.Tie as tie
 
 abbrev invariant-loop : tie.invariant-loop
-invariant-loop pcs last₀ k₀ last k = neverFalls pcs ≡ orderedFrom leb last (drop k pcs)
+invariant-loop pcs last₀ k₀ last k = never_falls pcs ≡ ordered_from leb last (drop k pcs)
 
 abbrev decreases-loop : tie.decreases-loop
 decreases-loop pcs last₀ k₀ last k = length pcs - k
@@ -22,15 +22,15 @@ never-falls-spec =
     (tie.spec
     invariant-loop
     decreases-loop
-    (λ c. falls-first c.args.pcs.now)
+    (λ c. falls_first c.args.pcs.now)
     (λ c. search rules) (λ c. search rules)
     (λ c.
     let b = c.before.before in
     let l = b.before.loop in
-    falls-here b.before.before.args.pcs.now l.last l.k l.invariant b.loop-test.true c.if1.true)
+    falls_here b.before.before.args.pcs.now l.last l.k l.invariant b.loop-test.true c.if1.true)
     (λ c. search rules) (λ c. search rules)
     (λ c.
     let b = c.before.before in
     let l = b.before.loop in
-    falls-later b.before.before.args.pcs.now l.last l.k l.invariant b.loop-test.true c.if1.false)
-    (λ c. let l = c.before.loop in falls-nowhere c.before.before.args.pcs.now l.last l.k l.invariant c.loop-test.false))
+    falls_later b.before.before.args.pcs.now l.last l.k l.invariant b.loop-test.true c.if1.false)
+    (λ c. let l = c.before.loop in falls_nowhere c.before.before.args.pcs.now l.last l.k l.invariant c.loop-test.false))

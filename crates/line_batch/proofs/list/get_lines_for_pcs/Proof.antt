@@ -2,9 +2,9 @@
 use mathlib.Core.Path.{◌≡◌, sym, ◌∙◌}
 use borrow.Author.Rules.{rules}
 use Rattle.format.specs.ReadChunk.{read}
-use Rattle.show_row.specs.Asked.{functionOf}
-use Rattle.line_lookup.proofs.Asked.{input-low}
-use Rattle.line_batch.proofs.Rows.{full-row, lines-refused, lines-shown}
+use Rattle.show_row.specs.Asked.{function_of}
+use Rattle.line_lookup.proofs.Asked.{input_low}
+use Rattle.line_batch.proofs.Rows.{full_row, lines-refused, lines-shown}
 use Rattle.line_batch.proofs.list.get_lines_for_pcs.Statement.{statement}
 use Rattle.line_batch.proofs.list.get_lines_for_pcs.Tie as tie
 
@@ -17,11 +17,11 @@ get-lines-for-pcs-spec =
     let f = c.before.before.before.before in
     let a = f.before.before.before.before.args in
     let e = sym c.before.before.found2.given.1 ∙ f.function-row.ensures in
-    (input-low a.limits a.s.now a.function _ e, full-row a.limits a.s.now a.function _ e))
+    (input_low a.limits a.s.now a.function _ e, full_row a.limits a.s.now a.function _ e))
     (λ c.
     let f = c.before.before.before in
     let a = f.before.before.before.before.args in
-    lines-refused a.lines.now a.pcs.now (functionOf a.function (read a.limits a.s.now)) _ (sym c.before.found.given.1 ∙ f.function-row.ensures))
+    lines-refused a.lines.now a.pcs.now (function_of a.function (read a.limits a.s.now)) _ (sym c.before.found.given.1 ∙ f.function-row.ensures))
     (λ c. search rules)
     (λ c.
     let w = c.before.before in

@@ -1,6 +1,6 @@
 -- `line_batch::list::lines_in_row` meets its contract: by what the judge said (`Rows.antt`). Assumes nothing.
 use borrow.Author.Rules.{rules}
-use Rattle.line_batch.proofs.Rows.{row-stops, row_goes, row_wrote}
+use Rattle.line_batch.proofs.Rows.{row_stops, row_goes, row_wrote}
 use Rattle.line_batch.proofs.list.lines_in_row.Statement.{statement}
 use Rattle.line_batch.proofs.list.lines_in_row.Tie as tie
 
@@ -19,7 +19,7 @@ lines-in-row-spec =
     let j = c.before.before.before in
     let n = j.before.before in
     let a = n.before.before.before.before.args in
-    row-stops a.s.now a.row a.pcs.now a.lines.now n.all_in.ensures j.judge.ensures c.before.judged.given.1)
+    row_stops a.s.now a.row a.pcs.now a.lines.now n.all_in.ensures j.judge.ensures c.before.judged.given.1)
     (λ c. search rules)
     (λ c.
     let w = c.before.before in

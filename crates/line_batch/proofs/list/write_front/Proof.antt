@@ -1,6 +1,6 @@
 -- `line_batch::list::write_front` meets its contract: by the test (`Rows.antt`). Assumes nothing.
 use borrow.Author.Rules.{rules}
-use Rattle.line_batch.proofs.Rows.{front-numbered, front-none}
+use Rattle.line_batch.proofs.Rows.{front_numbered, front-none}
 use Rattle.line_batch.proofs.list.write_front.Statement.{statement}
 use Rattle.line_batch.proofs.list.write_front.Tie as tie
 
@@ -10,7 +10,7 @@ returns c =
     let t = w.before.before in
     let b = t.before.before.before.before.before in
     let a = b.before.before.before.before.args in
-    front-numbered a.s.now a.row a.pcs.now a.lines.now b.all_in.ensures t.if1.true w.write-numbered.ensures.0 w.write-numbered.ensures.1
+    front_numbered a.s.now a.row a.pcs.now a.lines.now b.all_in.ensures t.if1.true w.write-numbered.ensures.0 w.write-numbered.ensures.1
 
 returns-2 : tie.Need-returns-2
 returns-2 c =

@@ -5,14 +5,14 @@ use Prim.Native.Nat.{◌+◌, ◌-◌, ◌<◌}
 use native.Mathlib.Omega.{arith}
 use borrow.Author.Rules.{rules}
 use lib.ListN.{length, drop}
-use Rattle.line_batch.specs.Inner.Anchors.{anchorsOf}
-use Rattle.line_batch.specs.Inner.Numbered.{passed_by, nonePassed, numberedFrom}
-use Rattle.line_batch.proofs.Writing.{none-numbered, no_more, one-numbered, Left, at_first, ended, goes_on}
+use Rattle.line_batch.specs.Inner.Anchors.{anchors_of}
+use Rattle.line_batch.specs.Inner.Numbered.{passed_by, none_passed, numbered_from}
+use Rattle.line_batch.proofs.Writing.{none_numbered, no_more, one_numbered, Left, at_first, ended, goes_on_lem}
 use Rattle.line_batch.proofs.numbered.write_numbered.Statement.{statement}
 use Rattle.line_batch.proofs.numbered.write_numbered.Tie as tie
 
 abbrev invariant-loop : tie.invariant-loop
-invariant-loop s all pcs lines₀ z₀ k₀ lines z k = Left k (numberedFrom all.left (passed_by s z) (drop k pcs)) lines (numberedFrom all.left (nonePassed (anchorsOf s all)) pcs) lines₀
+invariant-loop s all pcs lines₀ z₀ k₀ lines z k = Left k (numbered_from all.left (passed_by s z) (drop k pcs)) lines (numbered_from all.left (none_passed (anchors_of s all)) pcs) lines₀
 
 abbrev decreases-loop : tie.decreases-loop
 decreases-loop s all pcs lines₀ z₀ k₀ lines z k = length pcs - k
@@ -23,14 +23,14 @@ write-numbered-spec =
     (tie.spec
     invariant-loop
     decreases-loop
-    (λ c. let a = c.before.before.before.args in at_first (numberedFrom a.all.left (nonePassed (anchorsOf a.s.now a.all)) a.pcs.now) a.lines.now)
+    (λ c. let a = c.before.before.before.args in at_first (numbered_from a.all.left (none_passed (anchors_of a.s.now a.all)) a.pcs.now) a.lines.now)
     (λ c. search rules) (λ c. search rules)
     (λ c. c.before.before.before.before.loop.invariant.same)
     (λ c.
     let t = c.before.before.before in
     let l = t.before in
     let a = l.before.before.before.before.args in
-    ended l.loop.invariant (none-numbered a.all.left (passed_by a.s.now l.loop.z) a.pcs.now l.loop.k t.loop-test.true c.if1.true))
+    ended l.loop.invariant (none_numbered a.all.left (passed_by a.s.now l.loop.z) a.pcs.now l.loop.k t.loop-test.true c.if1.true))
     (λ c κs.
     let fits = c.before.struct_known.given in
     let below = c.if1.false in
@@ -49,8 +49,8 @@ write-numbered-spec =
     let a = l.before.before.before.before.args in
     let room : l.loop.k < length l.loop.lines = let all = l.before.before.before.before.requires in let size = l.loop.invariant.same in let taken = t.loop-test.true in omega arith in
     let z = passed_by a.s.now l.loop.z in
-    let e = one-numbered a.all.left z a.pcs.now l.loop.k t.loop-test.true c.before.if1.false in
-    goes_on l.loop.invariant _ _ (e ∙ ap (λ y. y.line ∷ numberedFrom a.all.left y (drop (l.loop.k + 1) a.pcs.now)) (sym c.pass-to.ensures)) room)
+    let e = one_numbered a.all.left z a.pcs.now l.loop.k t.loop-test.true c.before.if1.false in
+    goes_on_lem l.loop.invariant _ _ (e ∙ ap (λ y. y.line ∷ numbered_from a.all.left y (drop (l.loop.k + 1) a.pcs.now)) (sym c.pass-to.ensures)) room)
     (λ c. c.before.loop.invariant.same)
     (λ c.
     let l = c.before in

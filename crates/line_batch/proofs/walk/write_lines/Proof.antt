@@ -8,9 +8,9 @@ use lib.ListN.{length, drop, get_or, set, length-set}
 use lib.Signed.{mag}
 use Rattle.format.specs.Limits.{MOST}
 use Rattle.slice.specs.Inner.Splice.{splice}
-use Rattle.line_batch.specs.Inner.Walk.{forward, lineIn, lines_from, end_of}
+use Rattle.line_batch.specs.Inner.Walk.{forward, line_in, lines_from, end_of}
 use Rattle.line_batch.specs.Inner.Steps.{step_of, Writable}
-use Rattle.line_batch.proofs.Writing.{this-one, written_on, read-on, written_all, read_all}
+use Rattle.line_batch.proofs.Writing.{this_one, written_on, read-on, written_all, read_all}
 use Rattle.line_batch.proofs.walk.write_lines.Statement.{statement}
 use Rattle.line_batch.proofs.walk.write_lines.Tie as tie
 
@@ -33,7 +33,7 @@ go-on-requires c κs =
     let l = c.before.before in
     let start = l.before.before.before.before.before in
     let a = start.args in
-    let w = this-one a.deltas.now (step_of a.s.now l.loop.walk) a.pcs.now l.loop.k c.before.loop-test.true l.loop.invariant.4 in
+    let w = this_one a.deltas.now (step_of a.s.now l.loop.walk) a.pcs.now l.loop.k c.before.loop-test.true l.loop.invariant.4 in
     (start.requires.0, w.0, l.loop.invariant.3)
 
 line-of-requires : tie.Need-line-of-requires invariant-loop decreases-loop
@@ -41,7 +41,7 @@ line-of-requires c κs =
     let l = c.before.before.before in
     let start = l.before.before.before.before.before in
     let a = start.args in
-    let w = this-one a.deltas.now (step_of a.s.now l.loop.walk) a.pcs.now l.loop.k c.before.before.loop-test.true l.loop.invariant.4 in
+    let w = this_one a.deltas.now (step_of a.s.now l.loop.walk) a.pcs.now l.loop.k c.before.before.loop-test.true l.loop.invariant.4 in
     let went = c.go_on.ensures.0 in
     let sum = c.go_on.ensures.1 in
     let from : c.go_on.result.from ≤ 4611686018427387904 = rw (ap (λ z. z.from) went) w.1 in
@@ -64,9 +64,9 @@ loop-again c =
     let z = step_of a.s.now l.loop.walk in
     let taken = c.before.before.before.loop-test.true in
     let went = c.before.go_on.ensures.0 in
-    let w = this-one a.deltas.now z a.pcs.now l.loop.k taken l.loop.invariant.4 in
+    let w = this_one a.deltas.now z a.pcs.now l.loop.k taken l.loop.invariant.4 in
     let room : l.loop.k < length l.loop.lines = let all = start.requires.1 in let size = l.loop.invariant.0 in omega arith in
-    let line : c.Line-of.result ≡ lineIn a.deltas.now (forward a.deltas.now (get_or a.pcs.now l.loop.k 0) z) = c.Line-of.ensures ∙ ap (lineIn a.deltas.now) went in (
+    let line : c.Line-of.result ≡ line_in a.deltas.now (forward a.deltas.now (get_or a.pcs.now l.loop.k 0) z) = c.Line-of.ensures ∙ ap (line_in a.deltas.now) went in (
       length-set l.loop.lines l.loop.k c.Line-of.result ∙ l.loop.invariant.0,
       rw (went, line) (written_on a.deltas.now z a.pcs.now l.loop.k taken l.loop.lines room ∙ l.loop.invariant.1),
       rw went (read-on a.deltas.now z a.pcs.now l.loop.k taken ∙ l.loop.invariant.2),

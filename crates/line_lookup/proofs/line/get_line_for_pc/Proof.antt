@@ -2,8 +2,8 @@
 use mathlib.Core.Path.{sym, ◌∙◌}
 use borrow.Author.Rules.{rules}
 use Rattle.format.specs.ReadChunk.{read}
-use Rattle.show_row.specs.Asked.{functionOf}
-use Rattle.line_lookup.proofs.Asked.{input-low, line_refused, line-shown}
+use Rattle.show_row.specs.Asked.{function_of}
+use Rattle.line_lookup.proofs.Asked.{input_low, line_refused, line-shown}
 use Rattle.line_lookup.proofs.line.get_line_for_pc.Statement.{statement}
 use Rattle.line_lookup.proofs.line.get_line_for_pc.Tie as tie
 
@@ -14,10 +14,10 @@ get-line-for-pc-spec =
     (λ c κs. search rules) (λ c. search rules) (λ c. search rules)
     (λ c κs.
     let a = c.before.before.before.before.before.args in
-    input-low a.limits a.s.now a.function _ (sym c.before.found2.given.1 ∙ c.before.before.before.function-row.ensures))
+    input_low a.limits a.s.now a.function _ (sym c.before.found2.given.1 ∙ c.before.before.before.function-row.ensures))
     (λ c.
     let a = c.before.before.before.before.before.args in
-    line_refused a.pc (functionOf a.function (read a.limits a.s.now)) _ (sym c.before.found.given.1 ∙ c.before.before.before.function-row.ensures))
+    line_refused a.pc (function_of a.function (read a.limits a.s.now)) _ (sym c.before.found.given.1 ∙ c.before.before.before.function-row.ensures))
     (λ c.
     let a = c.before.before.before.before.before.before.args in
     c.line-in-row.ensures ∙ line-shown a.limits a.s.now a.function a.pc _ (sym c.before.before.found2.given.1 ∙ c.before.before.before.before.function-row.ensures)))

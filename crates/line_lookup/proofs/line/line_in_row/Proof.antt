@@ -3,7 +3,7 @@ use mathlib.Core.Path.{sym, ◌∙◌, ap}
 use Prim.Native.Nat.{◌+◌}
 use borrow.Author.Rules.{rules}
 use lib.ListN.{take}
-use Rattle.line_lookup.proofs.Rows.{scan-refused, too_large, start-low, numbered-line, deltas-line, few}
+use Rattle.line_lookup.proofs.Rows.{scan_refused, too_large, start-low, numbered_line, deltas_line, few}
 use Rattle.line_lookup.proofs.line.line_in_row.Statement.{statement}
 use Rattle.line_lookup.proofs.line.line_in_row.Tie as tie
 
@@ -27,14 +27,14 @@ line-in-row-spec =
     let a = c.before.before.before.before.before.before.before.before.before.before.before.before.args in
     let cut = c.before.before.before.before.up_to.ensures ∙ ap (take (a.pc + 1)) c.before.before.before.before.before.bytes-at.ensures in
     let read = sym c.before.scanned.given.1 ∙ c.before.before.before.scan-anchors.ensures in
-    scan-refused a.row a.pc a.s.now cut _ read)
+    scan_refused a.row a.pc a.s.now cut _ read)
     (λ c.
     let a = c.before.before.before.before.before.before.before.before.before.before.before.before.before.before.before.before.before.args in
     let cut = c.before.before.before.before.before.before.before.before.before.up_to.ensures ∙ ap (take (a.pc + 1)) c.before.before.before.before.before.before.before.before.before.before.bytes-at.ensures in
     let read = sym c.before.before.before.before.before.before.scanned2.given.1 ∙ c.before.before.before.before.before.before.before.before.scan-anchors.ensures in
-    numbered-line a.row a.pc a.s.now cut read c.before.before.before.before.if1.false _ (sym c.before.found.given.1 ∙ c.before.before.before.numbered.ensures))
+    numbered_line a.row a.pc a.s.now cut read c.before.before.before.before.if1.false _ (sym c.before.found.given.1 ∙ c.before.before.before.numbered.ensures))
     (λ c.
     let a = c.before.before.before.before.before.before.before.before.before.before.before.before.before.before.before.before.before.args in
     let cut = c.before.before.before.before.before.before.before.before.before.up_to.ensures ∙ ap (take (a.pc + 1)) c.before.before.before.before.before.before.before.before.before.before.bytes-at.ensures in
     let read = sym c.before.before.before.before.before.before.scanned2.given.1 ∙ c.before.before.before.before.before.before.before.before.scan-anchors.ensures in
-    deltas-line a.row a.pc a.s.now cut read c.before.before.before.before.if1.false _ (sym c.before.enum_told.given.1 ∙ c.before.before.before.numbered.ensures) c.line-from.ensures))
+    deltas_line a.row a.pc a.s.now cut read c.before.before.before.before.if1.false _ (sym c.before.enum_told.given.1 ∙ c.before.before.before.numbered.ensures) c.line-from.ensures))

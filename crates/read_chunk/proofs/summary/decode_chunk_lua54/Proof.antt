@@ -2,9 +2,9 @@
 use mathlib.Core.Path.{sym, ◌∙◌, ap}
 use borrow.Author.Rules.{rules}
 use Rattle.read_chunk.specs.declared.summary.DecodedResult.TheVariants as decoded
-use Rattle.read_chunk.specs.Inner.Decoded.{decodedResult}
-use Rattle.read_chunk.proofs.Summaries.{in-ceilings}
-use Rattle.read_chunk.proofs.BeforeMain.{not_opened, in-limits, decoded-refused, decoded-read}
+use Rattle.read_chunk.specs.Inner.Decoded.{decoded_result}
+use Rattle.read_chunk.proofs.Summaries.{in_ceilings}
+use Rattle.read_chunk.proofs.BeforeMain.{not_opened, in_limits, decoded-refused, decoded-read}
 use Rattle.read_chunk.proofs.summary.decode_chunk_lua54.Statement.{statement}
 use Rattle.read_chunk.proofs.summary.decode_chunk_lua54.Tie as tie
 
@@ -13,14 +13,14 @@ find-row-requires c κs =
     let k = c.before.before in
     let o = k.before.before in
     let a = o.before.before.args in
-    let l = in-ceilings a.limits (in-limits a.limits a.s.now k.begins2.given.0.0 (sym k.begins2.given.1 ∙ o.open-chunk.ensures)) in
+    let l = in_ceilings a.limits (in_limits a.limits a.s.now k.begins2.given.0.0 (sym k.begins2.given.1 ∙ o.open-chunk.ensures)) in
     (l.1, l.0)
 
 returns : tie.Need-returns
 returns c =
     let o = c.before.before.before in
     let a = o.before.before.args in
-    sym (ap (decodedResult a.wanted) (not_opened a.limits a.s.now _ (sym c.before.begins.given.1 ∙ o.open-chunk.ensures)))
+    sym (ap (decoded_result a.wanted) (not_opened a.limits a.s.now _ (sym c.before.begins.given.1 ∙ o.open-chunk.ensures)))
 
 returns-2 : tie.Need-returns-2
 returns-2 c =

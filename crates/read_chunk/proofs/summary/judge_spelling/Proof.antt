@@ -3,11 +3,11 @@ use mathlib.Core.Path.{refl, sym, ◌∙◌, ap}
 use borrow.Author.Rules.{rules}
 use Rattle.format.specs.GrammarChunk.{outermost}
 use Rattle.format_spelling.specs.ReadSpelling.{spelling}
-use Rattle.format_spelling.proofs.Tallies.{room-unused}
+use Rattle.format_spelling.proofs.Tallies.{room_unused}
 use Rattle.read_chunk.specs.declared.summary.SpeltResult.TheVariants as spelt
-use Rattle.read_chunk.specs.Inner.Decoded.{speltResult}
-use Rattle.read_chunk.proofs.Summaries.{in-ceilings}
-use Rattle.read_chunk.proofs.BeforeMain.{not_opened, in-limits, spelt-refused, spelt-read}
+use Rattle.read_chunk.specs.Inner.Decoded.{spelt_result}
+use Rattle.read_chunk.proofs.Summaries.{in_ceilings}
+use Rattle.read_chunk.proofs.BeforeMain.{not_opened, in_limits, spelt-refused, spelt-read}
 use Rattle.read_chunk.proofs.summary.judge_spelling.Statement.{statement}
 use Rattle.read_chunk.proofs.summary.judge_spelling.Tie as tie
 
@@ -16,14 +16,14 @@ skim-main-requires c κs =
     let k = c.before.before.before in
     let o = k.before.before in
     let a = o.before.before.args in
-    let l = in-ceilings a.limits (in-limits a.limits a.s.now k.begins2.given.0.0 (sym k.begins2.given.1 ∙ o.open-chunk.ensures)) in
-    (l.1, l.0, room-unused _)
+    let l = in_ceilings a.limits (in_limits a.limits a.s.now k.begins2.given.0.0 (sym k.begins2.given.1 ∙ o.open-chunk.ensures)) in
+    (l.1, l.0, room_unused _)
 
 returns : tie.Need-returns
 returns c =
     let o = c.before.before.before in
     let a = o.before.before.args in
-    sym (ap (speltResult (spelling a.limits a.s.now)) (not_opened a.limits a.s.now _ (sym c.before.begins.given.1 ∙ o.open-chunk.ensures)))
+    sym (ap (spelt_result (spelling a.limits a.s.now)) (not_opened a.limits a.s.now _ (sym c.before.begins.given.1 ∙ o.open-chunk.ensures)))
 
 returns-2 : tie.Need-returns-2
 returns-2 c =

@@ -2,7 +2,7 @@
 use mathlib.Core.Path.{sym, ◌∙◌}
 use borrow.Author.Rules.{rules}
 use lib.ListN.{drop}
-use Rattle.read_entry.proofs.Passes.{passes-room, covers_one, two-stop, two-on}
+use Rattle.read_entry.proofs.Passes.{passes_room, covers_one, two_stop, two-on}
 use Rattle.read_entry.proofs.pass.pass_anchor.Statement.{statement}
 use Rattle.read_entry.proofs.pass.pass_anchor.Tie as tie
 
@@ -14,10 +14,10 @@ pass-anchor-spec =
     (λ c κs.
     let b = c.before.before.before.before.before.before.before in
     let e = c.before.before.before.before.pass-number.ensures in
-    passes-room covers_one b.args.cursor.at (drop b.args.cursor.at b.args.s.now) b.requires (sym c.before.before.pc2.given.1 ∙ e.0, e.1))
+    passes_room covers_one b.args.cursor.at (drop b.args.cursor.at b.args.s.now) b.requires (sym c.before.before.pc2.given.1 ∙ e.0, e.1))
     (λ c.
     let a = c.before.before.before.before.before.before.args in
-    two-stop (λ pc line. record { pc = pc; line = line }) a.s.now a.cursor.at (sym c.before.pc.given.1 ∙ c.before.before.before.pass-number.ensures.0))
+    two_stop (λ pc line. record { pc = pc; line = line }) a.s.now a.cursor.at (sym c.before.pc.given.1 ∙ c.before.before.before.pass-number.ensures.0))
     (λ c.
     let a = c.before.before.before.before.before.before.before.before.args in
     let e = c.before.before.before.before.before.pass-number.ensures in

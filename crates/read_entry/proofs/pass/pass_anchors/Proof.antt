@@ -3,12 +3,12 @@ use mathlib.Core.Path.{sym, ◌∙◌}
 use native.Mathlib.Omega.{arith}
 use borrow.Author.Rules.{rules}
 use Rattle.format.specs.ReadChunk.{anchor}
-use Rattle.format.proofs.ExactChunk.{exact-anchor}
+use Rattle.format.proofs.ExactChunk.{exact_anchor}
 use Rattle.format_spelling.specs.ReadSpelling as count
-use Rattle.format_spelling.proofs.SpellingLaws.{tells-anchor}
-use Rattle.format_spelling.proofs.Few.{few-anchor}
-use Rattle.format_spelling.proofs.Covers.{covers-few}
-use Rattle.read_entry.proofs.TurnsCounted.{Left, begins, ends, stops, goes_on}
+use Rattle.format_spelling.proofs.SpellingLaws.{tells_anchor}
+use Rattle.format_spelling.proofs.Few.{few_anchor}
+use Rattle.format_spelling.proofs.Covers.{covers_few}
+use Rattle.read_entry.proofs.TurnsCounted.{Left, begins, ends, stops, goes_on_lem}
 use Rattle.read_entry.proofs.pass.pass_anchors.Statement.{statement}
 use Rattle.read_entry.proofs.pass.pass_anchors.Tie as tie
 
@@ -31,5 +31,5 @@ pass-anchors-spec =
     (λ c. search rules) (λ c. search rules) (λ c. search rules)
     (λ c.
     let e = c.before.before.before.pass-anchor.ensures in
-    goes_on c.before.before.before.before.before.before.loop.invariant (omega arith) exact-anchor (covers-few exact-anchor tells-anchor few-anchor) (sym c.before.passed2.given.1 ∙ e.0) e.1)
+    goes_on_lem c.before.before.before.before.before.before.loop.invariant (omega arith) exact_anchor (covers_few exact_anchor tells_anchor few_anchor) (sym c.before.passed2.given.1 ∙ e.0) e.1)
     (λ c. ends c.before.loop.invariant (omega arith)))

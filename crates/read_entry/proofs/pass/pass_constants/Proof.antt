@@ -3,12 +3,12 @@ use mathlib.Core.Path.{sym, ◌∙◌}
 use native.Mathlib.Omega.{arith}
 use borrow.Author.Rules.{rules}
 use Rattle.format.specs.ReadChunk.{constant}
-use Rattle.format.proofs.ExactChunk.{exact-constant}
+use Rattle.format.proofs.ExactChunk.{exact_constant}
 use Rattle.format_spelling.specs.ReadSpelling as count
-use Rattle.format_spelling.proofs.SpellingLaws.{tells-constant}
-use Rattle.format_spelling.proofs.Few.{few-constant}
-use Rattle.format_spelling.proofs.Covers.{covers-few}
-use Rattle.read_entry.proofs.TurnsCounted.{Left, begins, ends, stops, goes_on}
+use Rattle.format_spelling.proofs.SpellingLaws.{tells_constant}
+use Rattle.format_spelling.proofs.Few.{few_constant}
+use Rattle.format_spelling.proofs.Covers.{covers_few}
+use Rattle.read_entry.proofs.TurnsCounted.{Left, begins, ends, stops, goes_on_lem}
 use Rattle.read_entry.proofs.pass.pass_constants.Statement.{statement}
 use Rattle.read_entry.proofs.pass.pass_constants.Tie as tie
 
@@ -35,5 +35,5 @@ pass-constants-spec =
     (λ c.
     let limit = c.before.before.before.before.before.before.before.before.args.max-string-bytes in
     let e = c.before.before.before.pass-constant.ensures in
-    goes_on c.before.before.before.before.before.before.loop.invariant (omega arith) (exact-constant limit) (covers-few (exact-constant limit) (tells-constant limit) (few-constant limit)) (sym c.before.passed2.given.1 ∙ e.0) e.1)
+    goes_on_lem c.before.before.before.before.before.before.loop.invariant (omega arith) (exact_constant limit) (covers_few (exact_constant limit) (tells_constant limit) (few_constant limit)) (sym c.before.passed2.given.1 ∙ e.0) e.1)
     returns-2)

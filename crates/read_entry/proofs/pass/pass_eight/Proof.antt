@@ -3,7 +3,7 @@ use mathlib.Core.Path.{sym, ◌∙◌}
 use borrow.Author.Rules.{rules}
 use lib.ListN.{drop}
 use Rattle.format.specs.ReadFields.{field}
-use Rattle.read_field.proofs.Shows.{u64-err, u64-ok}
+use Rattle.read_field.proofs.Shows.{u64_err, u64_ok}
 use Rattle.read_entry.proofs.pass.pass_eight.Statement.{statement}
 use Rattle.read_entry.proofs.pass.pass_eight.Tie as tie
 
@@ -12,5 +12,5 @@ pass-eight-spec =
     tie.close
     (tie.spec
     (λ c κs. search rules) (λ c. search rules) (λ c. search rules)
-    (λ c. let a = c.before.before.before.before.before.args in rw (u64-err (field 8 a.cursor.at (drop a.cursor.at a.s.now)) _ (sym c.before.read.given.1 ∙ c.before.before.before.read-u64-le.ensures)))
-    (λ c. let a = c.before.before.before.before.before.args in rw (u64-ok (field 8 a.cursor.at (drop a.cursor.at a.s.now)) _ _ (sym c.before.read2.given.1 ∙ c.before.before.before.read-u64-le.ensures)).is))
+    (λ c. let a = c.before.before.before.before.before.args in rw (u64_err (field 8 a.cursor.at (drop a.cursor.at a.s.now)) _ (sym c.before.read.given.1 ∙ c.before.before.before.read-u64-le.ensures)))
+    (λ c. let a = c.before.before.before.before.before.args in rw (u64_ok (field 8 a.cursor.at (drop a.cursor.at a.s.now)) _ _ (sym c.before.read2.given.1 ∙ c.before.before.before.read-u64-le.ensures)).is))

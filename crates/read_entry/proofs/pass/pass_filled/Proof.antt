@@ -5,7 +5,7 @@ use borrow.Author.Rules.{rules}
 use lib.ListN.{drop}
 use Rattle.format.specs.ReadFields.{string}
 use Rattle.format_spelling.proofs.Tallies.{adds-not}
-use Rattle.read_field.proofs.Shows.{string-err, string-ok}
+use Rattle.read_field.proofs.Shows.{string_err, string-ok}
 use Rattle.read_entry.proofs.Filled.{filled-fits, filled-adds}
 use Rattle.read_entry.proofs.pass.pass_filled.Statement.{statement}
 use Rattle.read_entry.proofs.pass.pass_filled.Tie as tie
@@ -22,7 +22,7 @@ pass-filled-spec =
     (omega (arith, c.before.known-told2.given)))
     (λ c.
     let a = c.before.before.before.before.before.before.args in
-    let e = string-err (string a.max-string-bytes a.cursor.at (drop a.cursor.at a.s.now)) _ (sym c.before.read.given.1 ∙ c.before.before.before.tally-string.ensures.0) in
+    let e = string_err (string a.max-string-bytes a.cursor.at (drop a.cursor.at a.s.now)) _ (sym c.before.read.given.1 ∙ c.before.before.before.tally-string.ensures.0) in
     (rw e, adds-not e))
     (λ c.
     let a = c.before.before.before.before.before.before.before.before.args in

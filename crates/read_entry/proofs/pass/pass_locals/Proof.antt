@@ -3,12 +3,12 @@ use mathlib.Core.Path.{sym, ◌∙◌}
 use native.Mathlib.Omega.{arith}
 use borrow.Author.Rules.{rules}
 use Rattle.format.specs.ReadChunk.{local}
-use Rattle.format.proofs.ExactChunk.{exact-local}
+use Rattle.format.proofs.ExactChunk.{exact_local}
 use Rattle.format_spelling.specs.ReadSpelling as count
-use Rattle.format_spelling.proofs.SpellingLaws.{tells-local}
-use Rattle.format_spelling.proofs.Few.{few-local}
-use Rattle.format_spelling.proofs.Covers.{covers-few}
-use Rattle.read_entry.proofs.TurnsCounted.{Left, begins, ends, stops, goes_on}
+use Rattle.format_spelling.proofs.SpellingLaws.{tells_local}
+use Rattle.format_spelling.proofs.Few.{few_local}
+use Rattle.format_spelling.proofs.Covers.{covers_few}
+use Rattle.read_entry.proofs.TurnsCounted.{Left, begins, ends, stops, goes_on_lem}
 use Rattle.read_entry.proofs.pass.pass_locals.Statement.{statement}
 use Rattle.read_entry.proofs.pass.pass_locals.Tie as tie
 
@@ -32,5 +32,5 @@ pass-locals-spec =
     (λ c.
     let limit = c.before.before.before.before.before.before.before.before.args.max-string-bytes in
     let e = c.before.before.before.pass-local.ensures in
-    goes_on c.before.before.before.before.before.before.loop.invariant (omega arith) (exact-local limit) (covers-few (exact-local limit) (tells-local limit) (few-local limit)) (sym c.before.passed2.given.1 ∙ e.0) e.1)
+    goes_on_lem c.before.before.before.before.before.before.loop.invariant (omega arith) (exact_local limit) (covers_few (exact_local limit) (tells_local limit) (few_local limit)) (sym c.before.passed2.given.1 ∙ e.0) e.1)
     (λ c. ends c.before.loop.invariant (omega arith)))

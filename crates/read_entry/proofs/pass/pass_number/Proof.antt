@@ -3,7 +3,7 @@ use mathlib.Core.Path.{sym, ◌∙◌}
 use borrow.Author.Rules.{rules}
 use lib.ListN.{drop}
 use Rattle.format.specs.ReadFields.{number}
-use Rattle.read_field.proofs.Shows.{u64-err, u64-ok}
+use Rattle.read_field.proofs.Shows.{u64_err, u64_ok}
 use Rattle.read_entry.proofs.pass.pass_number.Statement.{statement}
 use Rattle.read_entry.proofs.pass.pass_number.Tie as tie
 
@@ -14,7 +14,7 @@ pass-number-spec =
     (λ c κs. search rules) (λ c. search rules) (λ c. search rules)
     (λ c.
     let a = c.before.before.before.before.before.before.args in
-    (rw (u64-err (number a.cursor.at (drop a.cursor.at a.s.now)) _ (sym c.before.read.given.1 ∙ c.before.before.before.tally-varint.ensures.0)), c.before.before.before.tally-varint.ensures.1))
+    (rw (u64_err (number a.cursor.at (drop a.cursor.at a.s.now)) _ (sym c.before.read.given.1 ∙ c.before.before.before.tally-varint.ensures.0)), c.before.before.before.tally-varint.ensures.1))
     (λ c.
     let a = c.before.before.before.before.before.before.args in
-    (rw (u64-ok (number a.cursor.at (drop a.cursor.at a.s.now)) _ _ (sym c.before.read2.given.1 ∙ c.before.before.before.tally-varint.ensures.0)).is, c.before.before.before.tally-varint.ensures.1)))
+    (rw (u64_ok (number a.cursor.at (drop a.cursor.at a.s.now)) _ _ (sym c.before.read2.given.1 ∙ c.before.before.before.tally-varint.ensures.0)).is, c.before.before.before.tally-varint.ensures.1)))

@@ -3,12 +3,12 @@ use mathlib.Core.Path.{sym, ◌∙◌}
 use native.Mathlib.Omega.{arith}
 use borrow.Author.Rules.{rules}
 use Rattle.format.specs.ReadFields.{string}
-use Rattle.format.proofs.ExactFields.{exact-string}
+use Rattle.format.proofs.ExactFields.{exact_string}
 use Rattle.format_spelling.specs.ReadSpelling as count
-use Rattle.format_spelling.proofs.SpellingLaws.{tells-string}
-use Rattle.format_spelling.proofs.Few.{few-string}
-use Rattle.format_spelling.proofs.Covers.{covers-few}
-use Rattle.read_entry.proofs.TurnsCounted.{Left, begins, ends, stops, goes_on}
+use Rattle.format_spelling.proofs.SpellingLaws.{tells_string}
+use Rattle.format_spelling.proofs.Few.{few_string}
+use Rattle.format_spelling.proofs.Covers.{covers_few}
+use Rattle.read_entry.proofs.TurnsCounted.{Left, begins, ends, stops, goes_on_lem}
 use Rattle.read_entry.proofs.pass.pass_strings.Statement.{statement}
 use Rattle.read_entry.proofs.pass.pass_strings.Tie as tie
 
@@ -32,5 +32,5 @@ pass-strings-spec =
     (λ c.
     let limit = c.before.before.before.before.before.before.before.before.args.max-string-bytes in
     let e = c.before.before.before.pass-string.ensures in
-    goes_on c.before.before.before.before.before.before.loop.invariant (omega arith) (exact-string limit) (covers-few (exact-string limit) (tells-string limit) (few-string limit)) (sym c.before.passed2.given.1 ∙ e.0) e.1)
+    goes_on_lem c.before.before.before.before.before.before.loop.invariant (omega arith) (exact_string limit) (covers_few (exact_string limit) (tells_string limit) (few_string limit)) (sym c.before.passed2.given.1 ∙ e.0) e.1)
     (λ c. ends c.before.loop.invariant (omega arith)))

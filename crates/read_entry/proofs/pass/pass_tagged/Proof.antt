@@ -9,8 +9,8 @@ use Rattle.format.specs.Reading.{integer, float, short-string, long-string}
 use Rattle.format.specs.ReadFields.{field}
 use Rattle.format.specs.ReadChunk.{always}
 use Rattle.format_spelling.proofs.Tallies.{adds_none, adds-not}
-use Rattle.read_entry.proofs.Passes.{passes-value}
-use Rattle.read_entry.proofs.Filled.{passes-filled}
+use Rattle.read_entry.proofs.Passes.{passes_value}
+use Rattle.read_entry.proofs.Filled.{passes_filled}
 use Rattle.read_entry.proofs.pass.pass_tagged.Statement.{statement}
 use Rattle.read_entry.proofs.pass.pass_tagged.Tie as tie
 
@@ -26,16 +26,16 @@ pass-tagged-spec =
     let a = c.before.before.before.args in
     let eight = field 8 a.cursor.at (drop a.cursor.at a.s.now) in
     ⊎_elim
-    (λ e. rw e (passes-value (λ n _. integer n) eight (c.pass-eight.ensures, adds_none)))
-    (λ e. rw e (passes-value (λ n _. float n) eight (c.pass-eight.ensures, adds_none)))
+    (λ e. rw e (passes_value (λ n _. integer n) eight (c.pass-eight.ensures, adds_none)))
+    (λ e. rw e (passes_value (λ n _. float n) eight (c.pass-eight.ensures, adds_none)))
     c.before.match.keys4)
     (λ c.
     let a = c.before.before.before.before.args in
     let filled = always a.max-string-bytes [] a.cursor.at (drop a.cursor.at a.s.now) in
-    let passed = passes-filled a.max-string-bytes [] a.cursor.at (drop a.cursor.at a.s.now) c.pass-filled.ensures in
+    let passed = passes_filled a.max-string-bytes [] a.cursor.at (drop a.cursor.at a.s.now) c.pass-filled.ensures in
     ⊎_elim
-    (λ e. rw e (passes-value (λ t _. short-string t) filled passed))
-    (λ e. rw e (passes-value (λ t _. long-string t) filled passed))
+    (λ e. rw e (passes_value (λ t _. short-string t) filled passed))
+    (λ e. rw e (passes_value (λ t _. long-string t) filled passed))
     c.before.before.match.keys5)
     (λ c.
     let n = c.match.rest in

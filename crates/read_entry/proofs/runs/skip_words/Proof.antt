@@ -3,7 +3,7 @@ use Prim.Native.Nat.{◌/◌}
 use native.Mathlib.Omega.{arith}
 use borrow.Author.Rules.{rules}
 use lib.ListN.{drop, length-drop}
-use Rattle.read_entry.proofs.FixedWidth.{fields-enough, fields-short}
+use Rattle.read_entry.proofs.FixedWidth.{fields_enough, fields_short}
 use Rattle.read_entry.proofs.runs.skip_words.Statement.{statement}
 use Rattle.read_entry.proofs.runs.skip_words.Tie as tie
 
@@ -14,10 +14,10 @@ skip-words-spec =
     (λ c κs. search rules)
     (λ c. search rules)
     (λ c. let a = c.before.before.before.args in omega (arith, length-drop a.cursor.at a.s.now))
-    (λ c. let a = c.before.before.before.args in fields-enough 4 a.n a.cursor.at (drop a.cursor.at a.s.now) (omega arith))
+    (λ c. let a = c.before.before.before.args in fields_enough 4 a.n a.cursor.at (drop a.cursor.at a.s.now) (omega arith))
     (λ c. search rules)
     (λ c. let a = c.before.before.before.args in omega (arith, length-drop a.cursor.at a.s.now))
     (λ c κs. search rules)
     (λ c.
     let a = c.before.before.before.before.args in
-    rw c.short.ensures (fields-short 4 (c.before.before.remaining.result / 4) a.n a.cursor.at (drop a.cursor.at a.s.now) (omega arith) (omega arith) (omega arith))))
+    rw c.short.ensures (fields_short 4 (c.before.before.remaining.result / 4) a.n a.cursor.at (drop a.cursor.at a.s.now) (omega arith) (omega arith) (omega arith))))

@@ -2,7 +2,7 @@
 use native.Mathlib.Omega.{arith}
 use borrow.Author.Rules.{rules}
 use lib.ListN.{drop, length-drop}
-use Rattle.format.proofs.Steps.{field-short, field-enough}
+use Rattle.format.proofs.Steps.{field-short, field_enough}
 use Rattle.read_field.proofs.field.read_u32_le.Statement.{statement}
 use Rattle.read_field.proofs.field.read_u32_le.Tie as tie
 
@@ -15,4 +15,4 @@ read-u32-le-spec =
     (λ c. let a = c.before.before.before.before.args in rw (c.short.ensures, field-short 4 a.cursor.at (drop a.cursor.at a.s.now) (omega arith)))
     (λ c κs. let a = c.before.before.before.args in omega (arith, length-drop a.cursor.at a.s.now))
     (λ c. let a = c.before.before.before.before.args in omega (arith, length-drop a.cursor.at a.s.now))
-    (λ c. let a = c.before.before.before.before.args in rw (c.u32-at.ensures, field-enough 4 a.cursor.at (drop a.cursor.at a.s.now) (omega arith))))
+    (λ c. let a = c.before.before.before.before.args in rw (c.u32-at.ensures, field_enough 4 a.cursor.at (drop a.cursor.at a.s.now) (omega arith))))

@@ -6,8 +6,8 @@ use native.Mathlib.Omega.{arith}
 use borrow.Author.Rules.{rules}
 use lib.ListN.{length, drop}
 use Rattle.format.specs.ReadFields.{groups}
-use Rattle.format.proofs.Steps.{groups-short, groups-overflow, groups-last, groups-more}
-use Rattle.read_field.specs.Shown.{u64Result}
+use Rattle.format.proofs.Steps.{groups-short, groups_overflow, groups-last, groups-more}
+use Rattle.read_field.specs.Shown.{u64_result}
 use Rattle.read_field.proofs.varint.read_groups.Statement.{statement}
 use Rattle.read_field.proofs.varint.read_groups.Tie as tie
 
@@ -21,14 +21,14 @@ returns : tie.Need-returns invariant-loop decreases-loop
 returns c =
     let s = c.before.before.before.before.args.s.now in
     let l = c.before.before.loop in
-    sym (ap u64Result (l.invariant ∙ groups-overflow s l.i l.value (omega arith) (omega arith)))
+    sym (ap u64_result (l.invariant ∙ groups_overflow s l.i l.value (omega arith) (omega arith)))
 
 returns-2 : tie.Need-returns-2 invariant-loop decreases-loop
 returns-2 c =
     let s = c.before.before.before.before.before.before.before.args.s.now in
     let l = c.before.before.before.before.before.loop in
     let w = c.before.wide in
-    sym (ap u64Result (l.invariant ∙ groups-last s l.i l.value (omega arith) w.result w.ensures.0 (omega arith) (omega arith) (omega arith)))
+    sym (ap u64_result (l.invariant ∙ groups-last s l.i l.value (omega arith) w.result w.ensures.0 (omega arith) (omega arith) (omega arith)))
 
 loop-again : tie.Need-loop-preserved invariant-loop decreases-loop
 loop-again c =
@@ -41,7 +41,7 @@ returns-3 : tie.Need-returns-3 invariant-loop decreases-loop
 returns-3 c =
     let s = c.before.before.before.before.args.s.now in
     let l = c.before.before.loop in
-    rw c.short.ensures (sym (ap u64Result (l.invariant ∙ groups-short s l.i l.value (omega arith))))
+    rw c.short.ensures (sym (ap u64_result (l.invariant ∙ groups-short s l.i l.value (omega arith))))
 
 pub read-groups-spec : {M : Type 1} → statement M
 read-groups-spec =

@@ -2,7 +2,7 @@
 use mathlib.Core.Path.{sym, ◌∙◌, ap}
 use borrow.Author.Rules.{rules}
 use Rattle.read_find.specs.declared.find.FindResult.TheVariants as answer
-use Rattle.read_find.proofs.Spots.{no-row-left}
+use Rattle.read_find.proofs.Spots.{no_row_left}
 use Rattle.read_find.proofs.Main.{main-refused, main-read}
 use Rattle.read_find.proofs.find.find_row.Statement.{statement}
 use Rattle.read_find.proofs.find.find_row.Tie as tie
@@ -20,7 +20,7 @@ returns-2 c =
     let a = f.before.before.before.args in
     ap (answer.Ok n.functions2.given.0.0) c.row_at.ensures
     ∙ main-read a.s.now a.limits a.wanted a.limits.max_nesting_depth a.main-at n.functions2.given.0.0 (sym n.functions2.given.1 ∙ f.find-function.ensures.0)
-    _ _ (no-row-left a.limits a.s.now) f.find-function.ensures.1
+    _ _ (no_row_left a.limits a.s.now) f.find-function.ensures.1
 
 pub find-row-spec : {M : Type 1} → statement M
 find-row-spec = tie.close (tie.spec (λ c κs. search rules) (λ c. search rules) (λ c. search rules) (λ c κs. search rules) returns returns-2)

@@ -10,22 +10,22 @@ use borrow.Author.Rules.{rules}
 use borrow.Fn.Kinds.{In}
 use borrow.Fn.PlainCycle.{Measures, is, falls, and}
 use Rattle.format.specs.Limits.{DEEPEST}
-use Rattle.format_spelling.proofs.Tallies.{room-unused}
+use Rattle.format_spelling.proofs.Tallies.{room_unused}
 use Rattle.slice.specs.declared.cursor.Cursor.{Cursor}
 use Rattle.read_prototype.specs.declared.pass.HeadCounts.{HeadCounts}
 use Rattle.read_prototype.specs.declared.pass.HeadCountsResult.TheVariants as head-answer
 use Rattle.read_prototype.specs.Parts as parts
-use Rattle.read_prototype.specs.Inner.Counts.{headCountsResult}
-use Rattle.read_walk.proofs.HeadTail.{counts-total}
+use Rattle.read_prototype.specs.Inner.Counts.{head_counts_result}
+use Rattle.read_walk.proofs.HeadTail.{counts_total}
 use Rattle.read_walk.proofs.Passes as passes
 use Rattle.read_walk.proofs.SoFar.{ends, deep, many, stops, level}
 use Rattle.read_walk.specs.declared.walk.Skimmed.{Skimmed}
 use Rattle.read_walk.specs.declared.walk.SkimResult.{SkimResult}
 use Rattle.read_walk.specs.declared.walk.SkimResult.TheVariants as skim
-use Rattle.read_walk.specs.Inner.Skim.{skimResult}
+use Rattle.read_walk.specs.Inner.Skim.{skim_result}
 use Rattle.read_find.specs.declared.spot.Above.{Above}
-use Rattle.read_find.specs.Inner.Spot.{belowShown, standing, functionsAt, row_at, Found}
-use Rattle.read_find.proofs.Finds.{refuses, nested-refused, tail-refused, function-shown, function-found, Behind, starts-behind, ends-behind, on-behind}
+use Rattle.read_find.specs.Inner.Spot.{below_shown, standing, functions_at, row_at, Found}
+use Rattle.read_find.proofs.Finds.{refuses, nested_refused, tail-refused, function-shown, function-found, Behind, starts-behind, ends_behind, on-behind}
 use Rattle.read_find.proofs.spot.find_function.Reads as find-function
 use Rattle.read_find.proofs.spot.find_function.Kinds as find-function-kinds
 use Rattle.read_find.proofs.spot.+find_function_find_functions.Lts-find_function as find-function-lts
@@ -85,7 +85,7 @@ function-total : (t : ℕ) → find-function-lts.Need-overflow-add-t24 (function
 function-total t c =
     let h = c.before.before.before.before in
     let b = h.before.before.before.before.before in
-    let e = counts-total b.args.s.now b.args.limits b.args.from.instructions b.args.from.next.at h.begins2.given.0.0 h.begins2.given.0.1.0 (sym h.begins2.given.1 ∙ h.before.before.pass-head.ensures.0) in
+    let e = counts_total b.args.s.now b.args.limits b.args.from.instructions b.args.from.next.at h.begins2.given.0.0 h.begins2.given.0.1.0 (sym h.begins2.given.1 ∙ h.before.before.pass-head.ensures.0) in
     let limit = b.requires.1.0.1 in
     omega (arith, e, limit)
 
@@ -118,19 +118,19 @@ module _ (t : ℕ) (h : find-function-lts.After-begins2 (function-calls t) (find
   abbrev behind : Cursor
   behind = h.begins2.given.0.1.0
 
-  begun : head-answer.Ok counts behind ≡ headCountsResult (parts.head a.limits a.from.instructions a.from.next.at (drop a.from.next.at a.s.now))
+  begun : head-answer.Ok counts behind ≡ head_counts_result (parts.head a.limits a.from.instructions a.from.next.at (drop a.from.next.at a.s.now))
   begun = sym h.begins2.given.1 ∙ h.before.before.pass-head.ensures.0
 
   abbrev nest : Above
-  nest = belowShown a.above a.from counts.named
+  nest = below_shown a.above a.from counts.named
 
   abbrev first : Skimmed
   first = record { next = behind; number = a.from.number + 1; instructions = a.from.instructions + counts.instructions }
 
   -- what a walk over them shows, and what it has found
   record Walked (r : SkimResult) (spot : List ℕ) : Type 0 where
-    shown : r ≡ skimResult (standing a.limits a.s.now nest first) (functionsAt a.limits a.s.now counts.protos a.left nest first)
-    found : Found a.wanted first.number (functionsAt a.limits a.s.now counts.protos a.left nest first) (row_at a.limits a.s.now a.spot.now) (row_at a.limits a.s.now spot)
+    shown : r ≡ skim_result (standing a.limits a.s.now nest first) (functions_at a.limits a.s.now counts.protos a.left nest first)
+    found : Found a.wanted first.number (functions_at a.limits a.s.now counts.protos a.left nest first) (row_at a.limits a.s.now a.spot.now) (row_at a.limits a.s.now spot)
 
 -- behind the call, where there are some
 module _ (t : ℕ) (f : find-function-lts.After-find-functions (function-calls t) (find-function-at t) find-function.Post) where
@@ -142,8 +142,8 @@ module _ (t : ℕ) (f : find-function-lts.After-find-functions (function-calls t
       let x = a t begins in
       let at = f.before.before.below.ensures in
       record {
-        shown = subst (λ b. f.find-functions.result ≡ skimResult (standing x.limits x.s.now b (first t begins)) (functionsAt x.limits x.s.now (counts t begins).protos x.left b (first t begins))) at f.find-functions.ensures.0;
-        found = subst (λ b. Found x.wanted (first t begins).number (functionsAt x.limits x.s.now (counts t begins).protos x.left b (first t begins)) (row_at x.limits x.s.now x.spot.now) (row_at x.limits x.s.now f.find-functions.last.1.1.1.1.1.1.1.0)) at f.find-functions.ensures.1;
+        shown = subst (λ b. f.find-functions.result ≡ skim_result (standing x.limits x.s.now b (first t begins)) (functions_at x.limits x.s.now (counts t begins).protos x.left b (first t begins))) at f.find-functions.ensures.0;
+        found = subst (λ b. Found x.wanted (first t begins).number (functions_at x.limits x.s.now (counts t begins).protos x.left b (first t begins)) (row_at x.limits x.s.now x.spot.now) (row_at x.limits x.s.now f.find-functions.last.1.1.1.1.1.1.1.0)) at f.find-functions.ensures.1;
       }
 
 function-returns : (t : ℕ) → find-function-lts.Need-returns (function-calls t) (find-function-at t) find-function.Post
@@ -151,7 +151,7 @@ function-returns t c =
     let f = c.before.before.before in
     let g = begins t f in
     let x = a t g in
-    refuses _ _ _ _ _ _ (nested-refused x.s.now x.limits x.left x.above x.from (counts t g) (behind t g) (begun t g) (nest t g) refl _ (sym c.before.inner.given.1 ∙ (inner t f).shown))
+    refuses _ _ _ _ _ _ (nested_refused x.s.now x.limits x.left x.above x.from (counts t g) (behind t g) (begun t g) (nest t g) refl _ (sym c.before.inner.given.1 ∙ (inner t f).shown))
 
 -- whether there are some or none
 module _ (t : ℕ) (j : find-function-lts.Joined1 (function-calls t) (find-function-at t) find-function.Post) where
@@ -169,7 +169,7 @@ module _ (t : ℕ) (j : find-function-lts.Joined1 (function-calls t) (find-funct
       (λ none.
       let all = starts-behind x.s.now x.limits (nest t begins-here) x.wanted (counts t begins-here).protos x.left (first t begins-here) (row_at x.limits x.s.now x.spot.now) in
       let is : skim.Ok (first t begins-here) ≡ skim.Ok j.if1.nested = ap skim.Ok (sym none.2) in
-      let stays : Walked t begins-here (skim.Ok (first t begins-here)) x.spot.now = record { shown = ends all.so_far none.0.left; found = ends-behind all none.0.left } in
+      let stays : Walked t begins-here (skim.Ok (first t begins-here)) x.spot.now = record { shown = ends all.so_far none.0.left; found = ends_behind all none.0.left } in
       subst (λ r. Walked t begins-here r j.if1.spot) is (subst (Walked t begins-here (skim.Ok (first t begins-here))) (sym none.1) stays))
       j.if1.came
 
@@ -247,14 +247,14 @@ functions-loop-again t c =
     on-behind l.loop.invariant e.before.loop-test.true (level l.before.before.args.left e.if1.false) g.if2.false _ (sym c.before.one2.given.1 ∙ f.find-function.ensures.0) _ f.find-function.ensures.1
 
 functions-returns-4 : (t : ℕ) → find-functions-lts.Need-returns-4 (functions-calls t) (find-functions-at t) find-functions.Post find-functions-Inv-loop find-functions-μ-loop
-functions-returns-4 t c = (ends c.before.loop.invariant.so_far c.loop-test.false, ends-behind c.before.loop.invariant c.loop-test.false)
+functions-returns-4 t c = (ends c.before.loop.invariant.so_far c.loop-test.false, ends_behind c.before.loop.invariant c.loop-test.false)
 
 pub +find-function-find-functions-spec : {M : Type 1} → statement M
 +find-function-find-functions-spec =
     close μ-find-function μ-find-functions (λ t. find-function-lts.spec (function-calls t)
     (find-function-at t)
     find-function.Post
-    (λ c κs. room-unused _)
+    (λ c κs. room_unused _)
     (λ c. search rules)
     (λ c. search rules)
     (function-number t)
@@ -264,7 +264,7 @@ pub +find-function-find-functions-spec : {M : Type 1} → statement M
     (λ c. search rules)
     (function-returns t)
     (λ c. search rules)
-    (λ c κs. room-unused _)
+    (λ c κs. room_unused _)
     (λ c. search rules)
     (λ c. search rules)
     (λ c κs. search rules)

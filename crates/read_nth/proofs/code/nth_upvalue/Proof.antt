@@ -2,10 +2,10 @@
 use mathlib.Core.Path.{sym, ◌∙◌}
 use borrow.Author.Rules.{rules}
 use Rattle.format.specs.ReadChunk.{upvalue}
-use Rattle.format.proofs.Exact.{exact-many}
-use Rattle.format.proofs.ExactChunk.{exact-upvalue}
-use Rattle.read_nth.specs.Shown.{upvalueResult}
-use Rattle.read_nth.proofs.Passing.{first-refused, second-read}
+use Rattle.format.proofs.Exact.{exact_many}
+use Rattle.format.proofs.ExactChunk.{exact_upvalue}
+use Rattle.read_nth.specs.Shown.{upvalue_result}
+use Rattle.read_nth.proofs.Passing.{first_refused, second_read}
 use Rattle.read_nth.proofs.code.nth_upvalue.Statement.{statement}
 use Rattle.read_nth.proofs.code.nth_upvalue.Tie as tie
 
@@ -16,7 +16,7 @@ nth-upvalue-spec =
     (λ c κs. search rules) (λ c. search rules) (λ c. search rules) (λ c κs. search rules)
     (λ c.
     let a = c.before.before.before.before.before.args in
-    first-refused (exact-many a.entry exact-upvalue) upvalue upvalueResult a.s.now a.cursor.at _ (sym c.before.passed.given.1 ∙ c.before.before.before.skip-upvalues.ensures))
+    first_refused (exact_many a.entry exact_upvalue) upvalue upvalue_result a.s.now a.cursor.at _ (sym c.before.passed.given.1 ∙ c.before.before.before.skip-upvalues.ensures))
     (λ c.
     let a = c.before.before.before.before.before.before.args in
-    second-read (exact-many a.entry exact-upvalue) upvalue upvalueResult a.s.now a.cursor.at _ (sym c.before.before.passed2.given.1 ∙ c.before.before.before.before.skip-upvalues.ensures) c.read-upvalue.ensures))
+    second_read (exact_many a.entry exact_upvalue) upvalue upvalue_result a.s.now a.cursor.at _ (sym c.before.before.passed2.given.1 ∙ c.before.before.before.before.skip-upvalues.ensures) c.read-upvalue.ensures))

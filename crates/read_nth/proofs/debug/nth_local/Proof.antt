@@ -2,12 +2,12 @@
 use mathlib.Core.Path.{sym, ◌∙◌}
 use borrow.Author.Rules.{rules}
 use Rattle.format.specs.ReadChunk.{local}
-use Rattle.format.proofs.Exact.{exact-many}
-use Rattle.format.proofs.ExactChunk.{exact-local}
-use Rattle.read_entry.specs.Readers.{rawLocal}
-use Rattle.read_entry.specs.Shown.{localResult}
-use Rattle.format_spelling.proofs.Tallies.{room-unused}
-use Rattle.read_nth.proofs.Passing.{first-refused, second-read}
+use Rattle.format.proofs.Exact.{exact_many}
+use Rattle.format.proofs.ExactChunk.{exact_local}
+use Rattle.read_entry.specs.Readers.{raw_local}
+use Rattle.read_entry.specs.Shown.{local_result}
+use Rattle.format_spelling.proofs.Tallies.{room_unused}
+use Rattle.read_nth.proofs.Passing.{first_refused, second_read}
 use Rattle.read_nth.proofs.debug.nth_local.Statement.{statement}
 use Rattle.read_nth.proofs.debug.nth_local.Tie as tie
 
@@ -15,10 +15,10 @@ pub nth-local-spec : {M : Type 1} → statement M
 nth-local-spec =
     tie.close
     (tie.spec
-    (λ c κs. room-unused _) (λ c. search rules) (λ c. search rules) (λ c κs. search rules)
+    (λ c κs. room_unused _) (λ c. search rules) (λ c. search rules) (λ c κs. search rules)
     (λ c.
     let a = c.before.before.before.before.before.before.args in
-    first-refused (exact-many a.entry (exact-local a.max-string-bytes)) (rawLocal a.max-string-bytes) localResult a.s.now a.cursor.at _ (sym c.before.passed.given.1 ∙ c.before.before.before.pass-locals.ensures.0))
+    first_refused (exact_many a.entry (exact_local a.max-string-bytes)) (raw_local a.max-string-bytes) local_result a.s.now a.cursor.at _ (sym c.before.passed.given.1 ∙ c.before.before.before.pass-locals.ensures.0))
     (λ c.
     let a = c.before.before.before.before.before.before.before.args in
-    second-read (exact-many a.entry (exact-local a.max-string-bytes)) (rawLocal a.max-string-bytes) localResult a.s.now a.cursor.at _ (sym c.before.before.passed2.given.1 ∙ c.before.before.before.before.pass-locals.ensures.0) c.read-local.ensures))
+    second_read (exact_many a.entry (exact_local a.max-string-bytes)) (raw_local a.max-string-bytes) local_result a.s.now a.cursor.at _ (sym c.before.before.passed2.given.1 ∙ c.before.before.before.before.pass-locals.ensures.0) c.read-local.ensures))

@@ -4,22 +4,22 @@ use borrow.Author.Rules.{rules}
 use lib.ListN.{drop}
 use Rattle.format.specs.ReadFields.{string}
 use Rattle.read_field.specs.declared.string.StringResult.TheVariants as str
-use Rattle.read_field.specs.Shown.{stringResult}
+use Rattle.read_field.specs.Shown.{string_result}
 use Rattle.read_prototype.specs.declared.front.LinesResult.TheVariants as lines-answer
 use Rattle.read_prototype.specs.Front.{lines}
-use Rattle.read_prototype.specs.Inner.Results.{linesResult}
+use Rattle.read_prototype.specs.Inner.Results.{lines_result}
 use Rattle.read_prototype.proofs.On.{nothing_said}
-use Rattle.read_prototype.proofs.FrontAnswers.{source-refused, lines-refused, sizes-refused, whole-front, front-err, source-room, front-add}
+use Rattle.read_prototype.proofs.FrontAnswers.{source-refused, lines-refused, sizes-refused, whole-front, front_err, source-room, front-add}
 use Rattle.read_prototype.proofs.front.read_front.Statement.{statement}
 use Rattle.read_prototype.proofs.front.read_front.Tie as tie
 
 -- what the calls showed
-named : (c : tie.After-name2) → let a = c.before.before.before.before.before.args in str.Ok c.name2.given.0.0 c.name2.given.0.1.0 ≡ stringResult (string a.max-string-bytes a.cursor.at (drop a.cursor.at a.s.now))
+named : (c : tie.After-name2) → let a = c.before.before.before.before.before.args in str.Ok c.name2.given.0.0 c.name2.given.0.1.0 ≡ string_result (string a.max-string-bytes a.cursor.at (drop a.cursor.at a.s.now))
 named c = sym c.name2.given.1 ∙ c.before.before.tally-string.ensures.0
 
 lined : (c : tie.After-between2) → let n = c.before.before.before.before.before in
     let at = n.name2.given.0.1.0.at in
-    lines-answer.Ok c.between2.given.0.0 c.between2.given.0.1.0 ≡ linesResult (lines at (drop at n.before.before.before.before.before.args.s.now))
+    lines-answer.Ok c.between2.given.0.0 c.between2.given.0.1.0 ≡ lines_result (lines at (drop at n.before.before.before.before.before.args.s.now))
 lined c = sym c.between2.given.1 ∙ c.before.before.read-lines.ensures.0
 
 room : tie.Need-read-lines-requires
@@ -31,20 +31,20 @@ room c κs =
 returns : tie.Need-returns
 returns c =
     let a = c.before.before.before.before.before.before.args in
-    nothing_said (front-err _ _) (source-refused a.s.now a.max-string-bytes a.cursor.at _ (sym c.before.name.given.1 ∙ c.before.before.before.tally-string.ensures.0))
+    nothing_said (front_err _ _) (source-refused a.s.now a.max-string-bytes a.cursor.at _ (sym c.before.name.given.1 ∙ c.before.before.before.tally-string.ensures.0))
 
 returns-2 : tie.Need-returns-2
 returns-2 c =
     let n = c.before.before.before.before.before.before in
     let a = n.before.before.before.before.before.args in
-    nothing_said (front-err _ _) (lines-refused a.s.now a.max-string-bytes a.cursor.at _ _ (named n) _ (sym c.before.between.given.1 ∙ c.before.before.before.read-lines.ensures.0))
+    nothing_said (front_err _ _) (lines-refused a.s.now a.max-string-bytes a.cursor.at _ _ (named n) _ (sym c.before.between.given.1 ∙ c.before.before.before.read-lines.ensures.0))
 
 returns-3 : tie.Need-returns-3
 returns-3 c =
     let b = c.before.before.before.before.before in
     let n = b.before.before.before.before.before in
     let a = n.before.before.before.before.before.args in
-    nothing_said (front-err _ _) (sizes-refused a.s.now a.max-string-bytes a.cursor.at _ _ (named n) _ _ (lined b) _ (sym c.before.three.given.1 ∙ c.before.before.before.read-sizes.ensures))
+    nothing_said (front_err _ _) (sizes-refused a.s.now a.max-string-bytes a.cursor.at _ _ (named n) _ _ (lined b) _ (sym c.before.three.given.1 ∙ c.before.before.before.read-sizes.ensures))
 
 returns-4 : tie.Need-returns-4
 returns-4 c =

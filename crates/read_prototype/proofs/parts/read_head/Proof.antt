@@ -6,23 +6,23 @@ use Rattle.format_spelling.specs.Inner.Tally.{Room}
 use Rattle.read_prototype.specs.declared.front.FrontResult.TheVariants as front-answer
 use Rattle.read_prototype.specs.declared.parts.HeadListsResult.TheVariants as lists-answer
 use Rattle.read_prototype.specs.Front.{front}
-use Rattle.read_prototype.specs.Parts.{headLists}
-use Rattle.read_prototype.specs.Inner.Results.{frontResult}
-use Rattle.read_prototype.specs.PartsShown.{headListsResult}
+use Rattle.read_prototype.specs.Parts.{head_lists}
+use Rattle.read_prototype.specs.Inner.Results.{front_result}
+use Rattle.read_prototype.specs.PartsShown.{head_lists_result}
 use Rattle.read_prototype.proofs.On.{nothing_said}
-use Rattle.read_prototype.proofs.HeadAnswers.{front-refused, lists-refused, protos-refused, whole-head, head-err, front-room, lists-room, head-add}
+use Rattle.read_prototype.proofs.HeadAnswers.{front-refused, lists-refused, protos-refused, whole-head, head_err, front-room, lists-room, head-add}
 use Rattle.read_prototype.proofs.parts.read_head.Statement.{statement}
 use Rattle.read_prototype.proofs.parts.read_head.Tie as tie
 
 -- what the calls showed
 begun : (c : tie.After-begins2) → let a = c.before.before.before.before.before.args in
-    front-answer.Ok c.begins2.given.0.0 c.begins2.given.0.1.0 ≡ frontResult (front a.limits.max_string_bytes a.cursor.at (drop a.cursor.at a.s.now))
+    front-answer.Ok c.begins2.given.0.0 c.begins2.given.0.1.0 ≡ front_result (front a.limits.max_string_bytes a.cursor.at (drop a.cursor.at a.s.now))
 begun c = sym c.begins2.given.1 ∙ c.before.before.read-front.ensures.0
 
 listed : (c : tie.After-middle2) → let f = c.before.before.before.before.before in
     let a = f.before.before.before.before.before.args in
     let at = f.begins2.given.0.1.0.at in
-    lists-answer.Ok c.middle2.given.0.0 c.middle2.given.0.1.0 ≡ headListsResult (headLists a.limits a.before at (drop at a.s.now))
+    lists-answer.Ok c.middle2.given.0.0 c.middle2.given.0.1.0 ≡ head_lists_result (head_lists a.limits a.before at (drop at a.s.now))
 listed c = sym c.middle2.given.1 ∙ c.before.before.read-head-lists.ensures.0
 
 room : (c : tie.After-begins2) → Room c.before.before.read-front.new.1.1.1.0 c.begins2.given.0.1.0.at
@@ -40,20 +40,20 @@ room-2 c κs =
 returns : tie.Need-returns
 returns c =
     let a = c.before.before.before.before.before.before.args in
-    nothing_said (head-err _ _) (front-refused a.s.now a.limits a.before a.cursor.at _ (sym c.before.begins.given.1 ∙ c.before.before.before.read-front.ensures.0))
+    nothing_said (head_err _ _) (front-refused a.s.now a.limits a.before a.cursor.at _ (sym c.before.begins.given.1 ∙ c.before.before.before.read-front.ensures.0))
 
 returns-2 : tie.Need-returns-2
 returns-2 c =
     let f = c.before.before.before.before.before.before in
     let a = f.before.before.before.before.before.args in
-    nothing_said (head-err _ _) (lists-refused a.s.now a.limits a.before a.cursor.at _ _ (begun f) _ (sym c.before.middle.given.1 ∙ c.before.before.before.read-head-lists.ensures.0))
+    nothing_said (head_err _ _) (lists-refused a.s.now a.limits a.before a.cursor.at _ _ (begun f) _ (sym c.before.middle.given.1 ∙ c.before.before.before.read-head-lists.ensures.0))
 
 returns-3 : tie.Need-returns-3
 returns-3 c =
     let m = c.before.before.before.before.before.before in
     let f = m.before.before.before.before.before in
     let a = f.before.before.before.before.before.args in
-    nothing_said (head-err _ _) (protos-refused a.s.now a.limits a.before a.cursor.at _ _ (begun f) _ _ (listed m) _ (sym c.before.nested.given.1 ∙ c.before.before.before.protos-count.ensures.0))
+    nothing_said (head_err _ _) (protos-refused a.s.now a.limits a.before a.cursor.at _ _ (begun f) _ _ (listed m) _ (sym c.before.nested.given.1 ∙ c.before.before.before.protos-count.ensures.0))
 
 returns-4 : tie.Need-returns-4
 returns-4 c =

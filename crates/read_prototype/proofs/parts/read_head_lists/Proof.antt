@@ -3,11 +3,11 @@ use mathlib.Core.Path.{sym, ◌∙◌}
 use borrow.Author.Rules.{rules}
 use Rattle.format.specs.ReadChunk as reader
 use Rattle.format_spelling.specs.ReadSpelling as count
-use Rattle.format_spelling.proofs.Covers.{covers-number}
-use Rattle.read_list.proofs.Within.{exact-code}
+use Rattle.format_spelling.proofs.Covers.{covers_number}
+use Rattle.read_list.proofs.Within.{exact_code}
 use Rattle.read_prototype.proofs.On.{nothing_said}
-use Rattle.read_prototype.proofs.CoversParts.{covers-constants}
-use Rattle.read_prototype.proofs.HeadAnswers.{Ended, ended, codes, constants, code-refused, constants-refused, upvalues-refused, all-lists, lists-err, lists-add, end_is}
+use Rattle.read_prototype.proofs.CoversParts.{covers_constants}
+use Rattle.read_prototype.proofs.HeadAnswers.{Ended, ended, codes, constants, code-refused, constants-refused, upvalues-refused, all-lists, lists_err, lists-add, end_is}
 use Rattle.read_prototype.proofs.parts.read_head_lists.Statement.{statement}
 use Rattle.read_prototype.proofs.parts.read_head_lists.Tie as tie
 
@@ -18,7 +18,7 @@ words : (c : tie.After-passed) → let g = c.before.before.before.before in
 words c =
     let g = c.before.before.before.before in
     let b = g.before.before.before in
-    ended (covers-number (exact-code _ _ _)) b.args.s.now b.args.cursor.at c.passed.ensures c.before.before.code2.given.1 g.instructions-list.ensures b.requires
+    ended (covers_number (exact_code _ _ _)) b.args.s.now b.args.cursor.at c.passed.ensures c.before.before.code2.given.1 g.instructions-list.ensures b.requires
 
 values : (c : tie.After-passed2) → let g = c.before.before.before.before in
     let p = g.before.before in
@@ -27,25 +27,25 @@ values : (c : tie.After-passed2) → let g = c.before.before.before.before in
 values c =
     let g = c.before.before.before.before in
     let p = g.before.before in
-    ended (covers-constants _ _) _ p.passed.result.next.at c.passed2.ensures c.before.before.k2.given.1 g.constants-list.ensures (words p).room
+    ended (covers_constants _ _) _ p.passed.result.next.at c.passed2.ensures c.before.before.k2.given.1 g.constants-list.ensures (words p).room
 
 returns : tie.Need-returns
 returns c =
     let a = c.before.before.before.before.before.before.args in
-    nothing_said (lists-err _ _) (code-refused a.s.now a.limits a.before a.cursor.at _ (sym c.before.code.given.1 ∙ c.before.before.before.instructions-list.ensures.0))
+    nothing_said (lists_err _ _) (code-refused a.s.now a.limits a.before a.cursor.at _ (sym c.before.code.given.1 ∙ c.before.before.before.instructions-list.ensures.0))
 
 returns-2 : tie.Need-returns-2
 returns-2 c =
     let p = c.before.before.before.before.before in
     let a = p.before.before.before.before.before.before.before.args in
-    nothing_said (lists-err _ _) (constants-refused a.s.now a.limits a.before a.cursor.at _ _ p.passed.result.next (words p).shown _ (sym c.before.k.given.1 ∙ c.before.before.before.constants-list.ensures.0))
+    nothing_said (lists_err _ _) (constants-refused a.s.now a.limits a.before a.cursor.at _ _ p.passed.result.next (words p).shown _ (sym c.before.k.given.1 ∙ c.before.before.before.constants-list.ensures.0))
 
 returns-3 : tie.Need-returns-3
 returns-3 c =
     let q = c.before.before.before.before.before in
     let p = q.before.before.before.before.before.before in
     let a = p.before.before.before.before.before.before.before.args in
-    nothing_said (lists-err _ _)
+    nothing_said (lists_err _ _)
     (upvalues-refused a.s.now a.limits a.before a.cursor.at _ _ p.passed.result.next (words p).shown _ _ q.passed2.result.next (values q).shown
     _ (sym c.before.u.given.1 ∙ c.before.before.before.upvalues-list.ensures.0))
 

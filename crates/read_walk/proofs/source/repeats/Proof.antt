@@ -1,7 +1,7 @@
 -- `read_walk::source::repeats` meets its contract: by whether a source is spelt at the first place (`Sources.antt`). Assumes nothing.
 use mathlib.Core.Path.{sym, subst, ◌∙◌}
 use borrow.Author.Rules.{rules}
-use Rattle.read_walk.specs.Inner.Source.{ParentsOwn, sourceAt}
+use Rattle.read_walk.specs.Inner.Source.{ParentsOwn, source_at}
 use Rattle.read_walk.proofs.Sources.{not-spelt, own_is}
 use Rattle.read_walk.proofs.source.repeats.Statement.{statement}
 use Rattle.read_walk.proofs.source.repeats.Tie as tie
@@ -10,7 +10,7 @@ returns : tie.Need-returns
 returns c =
     let first = c.before.before in
     let a = first.before.before.args in
-    not-spelt (sourceAt a.max-string-bytes a.s.now a.own) (sourceAt a.max-string-bytes a.s.now a.parent) (sym c.enum_told.given.1 ∙ first.source-at.ensures)
+    not-spelt (source_at a.max-string-bytes a.s.now a.own) (source_at a.max-string-bytes a.s.now a.parent) (sym c.enum_told.given.1 ∙ first.source-at.ensures)
 
 returns-2 : tie.Need-returns-2
 returns-2 c =

@@ -4,13 +4,13 @@ use Prim.Native.Nat.{◌-◌}
 use native.Mathlib.Omega.{arith}
 use borrow.Author.Rules.{rules}
 use lib.ListN.{length}
-use Rattle.read_walk.specs.Inner.Source.{unpaddedAt}
+use Rattle.read_walk.specs.Inner.Source.{unpadded_at}
 use Rattle.read_walk.proofs.Unpadded.{zeros-end, zeros-over, zeros-on}
 use Rattle.read_walk.proofs.source.unpadded.Statement.{statement}
 use Rattle.read_walk.proofs.source.unpadded.Tie as tie
 
 abbrev invariant-loop : tie.invariant-loop
-invariant-loop s at place₀ place = unpaddedAt s place ≡ unpaddedAt s at
+invariant-loop s at place₀ place = unpadded_at s place ≡ unpadded_at s at
 
 abbrev decreases-loop : tie.decreases-loop
 decreases-loop s at place₀ place = length s - place

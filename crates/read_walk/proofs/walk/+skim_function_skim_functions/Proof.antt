@@ -27,13 +27,13 @@ use Rattle.read_prototype.specs.declared.pass.HeadCounts.{HeadCounts}
 use Rattle.read_prototype.specs.declared.pass.HeadCountsResult.TheVariants as counts-answer
 use Rattle.read_prototype.specs.Parts as parts
 use Rattle.read_prototype.specs.PartsSpelt as spelt
-use Rattle.read_prototype.specs.Inner.Counts.{headCountsResult}
+use Rattle.read_prototype.specs.Inner.Counts.{head_counts_result}
 use Rattle.read_walk.specs.declared.walk.Skimmed.{Skimmed}
 use Rattle.read_walk.specs.declared.walk.SkimResult.TheVariants as skim
-use Rattle.read_walk.specs.Inner.Skim.{entered, on, skimResult}
-use Rattle.read_walk.specs.Inner.Source.{sourceAt, repeatsAt}
-use Rattle.read_walk.specs.Inner.Spelt.{nestedSpelt, ownSource}
-use Rattle.read_walk.proofs.HeadTail.{counts-total}
+use Rattle.read_walk.specs.Inner.Skim.{entered, on, skim_result}
+use Rattle.read_walk.specs.Inner.Source.{source_at, repeats_at}
+use Rattle.read_walk.specs.Inner.Spelt.{nested_spelt, own_source}
+use Rattle.read_walk.proofs.HeadTail.{counts_total}
 use Rattle.read_walk.proofs.Passes as passes
 use Rattle.read_walk.proofs.SoFar as so_far
 use Rattle.read_walk.proofs.SoFar.{SoFar, level}
@@ -98,20 +98,20 @@ functions-calls t = (skim-function-below t, skim-function.Post)
 record Passed (s : Bytes) (L : ResourceLimits) (left n source : ℕ) (k₀ : Skimmed) (t₀ : List ℕ) (k : Skimmed) (more : ℕ) (t : List ℕ) (w : Where) : Type 0 where
   passed : List Prototype
   so_far : SoFar (entered L left) s w n k₀.next.at k more passed
-  total : w.source ≡ sourceAt L.max_string_bytes s source → Total L left s w n k₀.next.at t₀ k more t
+  total : w.source ≡ source_at L.max_string_bytes s source → Total L left s w n k₀.next.at t₀ k more t
 
 starts : (s : Bytes) (L : ResourceLimits) (left n source : ℕ) (k : Skimmed) (t : List ℕ) (w : Where) → k.number ≡ w.number → k.instructions ≡ w.instructions → Passed s L left n source k t k n t w
-starts s L left n source k t w e i = record { passed = []; so_far = so_far.starts (entered L left) s w n k e i; total = λ _. tally.total-starts L left s w n k t e i }
+starts s L left n source k t w e i = record { passed = []; so_far = so_far.starts (entered L left) s w n k e i; total = λ _. tally.total_starts L left s w n k t e i }
 
 -- none is left
 ends : {s : Bytes} {L : ResourceLimits} {left n source : ℕ} {k₀ : Skimmed} {t₀ : List ℕ} {k : Skimmed} {more : ℕ} {t : List ℕ}
     → ((w : Where) → k₀.number ≡ w.number → k₀.instructions ≡ w.instructions → Passed s L left n source k₀ t₀ k more t w) → more ≤ 0
-    → ((w : Where) → k₀.number ≡ w.number → k₀.instructions ≡ w.instructions → skim.Ok k ≡ skimResult w (forest n (entered L left) w k₀.next.at (drop k₀.next.at s)))
-    × ((w : Where) → k₀.number ≡ w.number → k₀.instructions ≡ w.instructions → w.source ≡ sourceAt L.max_string_bytes s source
-    → Adds (forest n (entered L left) w k₀.next.at (drop k₀.next.at s)) (count.forest n (entered L left) (nestedSpelt L left) w k₀.next.at (drop k₀.next.at s)) t₀ t)
+    → ((w : Where) → k₀.number ≡ w.number → k₀.instructions ≡ w.instructions → skim.Ok k ≡ skim_result w (forest n (entered L left) w k₀.next.at (drop k₀.next.at s)))
+    × ((w : Where) → k₀.number ≡ w.number → k₀.instructions ≡ w.instructions → w.source ≡ source_at L.max_string_bytes s source
+    → Adds (forest n (entered L left) w k₀.next.at (drop k₀.next.at s)) (count.forest n (entered L left) (nested_spelt L left) w k₀.next.at (drop k₀.next.at s)) t₀ t)
 ends {s} {L} {left} {n} {source} {k₀} {t₀} {k} {more} {t} p over = (
   (λ w e i. so_far.ends (p w e i).so_far over),
-  λ w e i o. tally.total-ends L left s w n k₀.next.at t₀ k more t ((p w e i).total o) over,
+  λ w e i o. tally.total_ends L left s w n k₀.next.at t₀ k more t ((p w e i).total o) over,
 )
 
 -- ## A function
@@ -138,7 +138,7 @@ module _ (t : ℕ) (h : skim-function-lts.After-begins2 (function-calls t) (skim
   abbrev behind : Cursor
   behind = h.begins2.given.0.1.0
 
-  begun : counts-answer.Ok kept behind ≡ headCountsResult (parts.head a.limits a.from.instructions at (drop at a.s.now))
+  begun : counts-answer.Ok kept behind ≡ head_counts_result (parts.head a.limits a.from.instructions at (drop at a.s.now))
   begun = sym h.begins2.given.1 ∙ h.before.before.pass-head.ensures.0
 
   room : Room a.tally.now at
@@ -152,7 +152,7 @@ module _ (t : ℕ) (h : skim-function-lts.After-begins2 (function-calls t) (skim
 
   -- the source that it may inherit
   abbrev outer : Option LuaString
-  outer = sourceAt a.limits.max_string_bytes a.s.now a.source
+  outer = source_at a.limits.max_string_bytes a.s.now a.source
 
   -- wherever it stands
   abbrev anywhere : Where
@@ -161,7 +161,7 @@ module _ (t : ℕ) (h : skim-function-lts.After-begins2 (function-calls t) (skim
 own-requires : (t : ℕ) → skim-function-lts.Need-own-source-requires (function-calls t) (skim-function-at t) skim-function.Post
 own-requires t c κs =
     let h = c.before.before in
-    tally.own-fits (a t h).s.now (a t h).limits (a t h).left (anywhere t h) (at t h) refl (kept t h) (behind t h) (begun t h) (room t h) (told t h) (a t h).source refl (omega (arith, c.before.known-told2.given))
+    tally.own_fits (a t h).s.now (a t h).limits (a t h).left (anywhere t h) (at t h) refl (kept t h) (behind t h) (begun t h) (room t h) (told t h) (a t h).source refl (omega (arith, c.before.known-told2.given))
 
 function-number : (t : ℕ) → skim-function-lts.Need-overflow-add-t22 (function-calls t) (skim-function-at t) skim-function.Post
 function-number t c =
@@ -171,7 +171,7 @@ function-number t c =
 function-total : (t : ℕ) → skim-function-lts.Need-overflow-add-t23 (function-calls t) (skim-function-at t) skim-function.Post
 function-total t c =
     let h = c.before.before.before.before.before.before in
-    let e = counts-total (a t h).s.now (a t h).limits (a t h).from.instructions (at t h) (kept t h) (behind t h) (begun t h) in
+    let e = counts_total (a t h).s.now (a t h).limits (a t h).from.instructions (at t h) (kept t h) (behind t h) (begun t h) in
     let limit = h.before.before.before.before.before.requires.1.0.1 in
     omega (arith, e, limit)
 
@@ -181,7 +181,7 @@ nested-requires t c κs =
     let h = o.before.before.before in
     let b = h.before.before.before.before.before in (
       omega (arith, b.requires.0),
-      (b.requires.1.0, tally.first-room (a t h).s.now (a t h).limits (a t h).left (anywhere t h) (at t h) refl (kept t h) (behind t h) (begun t h) (room t h) (told t h) (a t h).source refl o.own-source.ensures.1),
+      (b.requires.1.0, tally.first_room (a t h).s.now (a t h).limits (a t h).left (anywhere t h) (at t h) refl (kept t h) (behind t h) (begun t h) (room t h) (told t h) (a t h).source refl o.own-source.ensures.1),
     )
 
 -- behind its own source: those that nest in it
@@ -197,10 +197,10 @@ module _ (t : ℕ) (o : skim-function-lts.After-own-source (function-calls t) (s
   stand = record { next = behind t h; number = (a t h).from.number + 1; instructions = (a t h).from.instructions + (kept t h).instructions }
 
   module _ (w : Where) (n : (a t h).from.number ≡ w.number) (i : (a t h).from.instructions ≡ w.instructions) where
-    owned : counts own ≡ counts (tallied t h) ⊕ ownSource (kept t h).named w.number (repeatsAt (a t h).limits.max_string_bytes (a t h).s.now (at t h) (a t h).source)
+    owned : counts own ≡ counts (tallied t h) ⊕ own_source (kept t h).named w.number (repeats_at (a t h).limits.max_string_bytes (a t h).s.now (at t h) (a t h).source)
     owned =
         o.own-source.ensures.1
-        ∙ ap (λ m. counts (tallied t h) ⊕ ownSource (kept t h).named m (repeatsAt (a t h).limits.max_string_bytes (a t h).s.now (at t h) (a t h).source)) n
+        ∙ ap (λ m. counts (tallied t h) ⊕ own_source (kept t h).named m (repeats_at (a t h).limits.max_string_bytes (a t h).s.now (at t h) (a t h).source)) n
 
     abbrev first : Where
     first = passes.first (a t h).s.now (a t h).limits (a t h).left w (at t h) i (kept t h) (behind t h) (begun t h)
@@ -209,18 +209,18 @@ module _ (t : ℕ) (o : skim-function-lts.After-own-source (function-calls t) (s
     inside = passes.inner (a t h).s.now (a t h).limits (a t h).left w (at t h) i (kept t h) (behind t h) (begun t h)
 
     abbrev those : Spelling
-    those = count.forest (kept t h).protos (entered (a t h).limits (a t h).left) (nestedSpelt (a t h).limits (a t h).left) first (behind t h).at (drop (behind t h).at (a t h).s.now)
+    those = count.forest (kept t h).protos (entered (a t h).limits (a t h).left) (nested_spelt (a t h).limits (a t h).left) first (behind t h).at (drop (behind t h).at (a t h).s.now)
 
     number : stand.number ≡ first.number
     number = ap (λ m. m + 1) n
 
     instructions : stand.instructions ≡ first.instructions
-    instructions = passes.first-instructions (a t h).s.now (a t h).limits (a t h).left w (at t h) i (kept t h) (behind t h) (begun t h)
+    instructions = passes.first_instructions (a t h).s.now (a t h).limits (a t h).left w (at t h) i (kept t h) (behind t h) (begun t h)
 
-    inherited : w.source ≡ outer t h → first.source ≡ sourceAt (a t h).limits.max_string_bytes (a t h).s.now o.own-source.result
+    inherited : w.source ≡ outer t h → first.source ≡ source_at (a t h).limits.max_string_bytes (a t h).s.now o.own-source.result
     inherited from =
         tally.inherits (a t h).s.now (a t h).limits (a t h).left w (at t h) i (kept t h) (behind t h) (begun t h) (room t h) (told t h) (a t h).source from
-        ∙ ap (sourceAt (a t h).limits.max_string_bytes (a t h).s.now) (sym o.own-source.ensures.0)
+        ∙ ap (source_at (a t h).limits.max_string_bytes (a t h).s.now) (sym o.own-source.ensures.0)
 
 -- behind the call, where there are some: what it shows
 module _ (t : ℕ) (f : skim-function-lts.After-skim-functions (function-calls t) (skim-function-at t) skim-function.Post) where
@@ -228,7 +228,7 @@ module _ (t : ℕ) (f : skim-function-lts.After-skim-functions (function-calls t
   owning = f.before.before.before.before.before.before.before
 
   module _ (w : Where) (n : (a t (h t owning)).from.number ≡ w.number) (i : (a t (h t owning)).from.instructions ≡ w.instructions) where
-    inner : f.skim-functions.result ≡ skimResult (first t owning w n i) (inside t owning w n i)
+    inner : f.skim-functions.result ≡ skim_result (first t owning w n i) (inside t owning w n i)
     inner = f.skim-functions.ensures.0 (first t owning w n i) (number t owning w n i) (instructions t owning w n i)
 
     counted : w.source ≡ outer t (h t owning) → Adds (inside t owning w n i) (those t owning w n i) (own t owning) f.skim-functions.last.1.1.1.1.1.1.0
@@ -239,7 +239,7 @@ function-returns t c =
     let f = c.before.before.before in
     let g = h t (owning t f) in
     let a = a t g in
-    refuses λ w n i. passes.nested-refused a.s.now a.limits a.left w (at t g) i _ _ (begun t g) _ (sym c.before.inner.given.1 ∙ inner t f w n i)
+    refuses λ w n i. passes.nested_refused a.s.now a.limits a.left w (at t g) i _ _ (begun t g) _ (sym c.before.inner.given.1 ∙ inner t f w n i)
 
 -- whether there are some or none: what was shown of them, and counted
 module _ (t : ℕ) (j : skim-function-lts.Joined1 (function-calls t) (skim-function-at t) skim-function.Post) where
@@ -254,7 +254,7 @@ module _ (t : ℕ) (j : skim-function-lts.Joined1 (function-calls t) (skim-funct
   empty test = test.left
 
   record Walked (w : Where) (n : (a t (h t behind-own)).from.number ≡ w.number) (i : (a t (h t behind-own)).from.instructions ≡ w.instructions) : Type 0 where
-    shown : skim.Ok nested ≡ skimResult (first t behind-own w n i) (inside t behind-own w n i)
+    shown : skim.Ok nested ≡ skim_result (first t behind-own w n i) (inside t behind-own w n i)
     counted : w.source ≡ outer t (h t behind-own) → Adds (inside t behind-own w n i) (those t behind-own w n i) (own t behind-own) j.if1.tally
 
   walked : (w : Where) (n : (a t (h t behind-own)).from.number ≡ w.number) (i : (a t (h t behind-own)).from.instructions ≡ w.instructions) → Walked w n i
@@ -281,7 +281,7 @@ tail-requires t c κs =
     let g = h t o in
     let w = anywhere t g in
     let k = walked t j w refl refl in
-    tally.nested-room (a t g).s.now (a t g).limits (a t g).left w (at t g) refl (kept t g) (behind t g) (begun t g) (room t g) (told t g) (a t g).source refl (owned t o w refl refl) (nested t j) k.shown (k.counted refl)
+    tally.nested_room (a t g).s.now (a t g).limits (a t g).left w (at t g) refl (kept t g) (behind t g) (begun t g) (room t g) (told t g) (a t g).source refl (owned t o w refl refl) (nested t j) k.shown (k.counted refl)
 
 function-returns-3 : (t : ℕ) → skim-function-lts.Need-returns-3 (function-calls t) (skim-function-at t) skim-function.Post
 function-returns-3 t c =
@@ -360,15 +360,15 @@ functions-loop-again t c =
     let told = sym c.before.one2.given.1 in
     let up = level a.left e.if1.false in
     let ens = f.skim-function.ensures in
-    let anywhere : Where = record { number = 0; instructions = 0; depth = 0; parent = 0; source = sourceAt a.limits.max_string_bytes a.s.now a.source } in (
-      tally.later-room a.limits a.left a.s.now k l.loop.tally later f.skim-function.new.1.1.1.1.1.0 anywhere (told ∙ ens.0 (on anywhere k) refl refl) (ens.1 (on anywhere k) refl refl refl) l.loop.invariant.0,
+    let anywhere : Where = record { number = 0; instructions = 0; depth = 0; parent = 0; source = source_at a.limits.max_string_bytes a.s.now a.source } in (
+      tally.later_room a.limits a.left a.s.now k l.loop.tally later f.skim-function.new.1.1.1.1.1.0 anywhere (told ∙ ens.0 (on anywhere k) refl refl) (ens.1 (on anywhere k) refl refl refl) l.loop.invariant.0,
       λ w n i.
           let p = l.loop.invariant.1 w n i in
           let shown = told ∙ ens.0 (on w k) refl refl in
           record {
             passed = _;
             so_far = so_far.goes_on _ _ p.so_far e.before.loop-test.true up f.before.before.if2.false _ shown;
-            total = λ o. tally.total-on a.limits a.left a.s.now k l.loop.tally later f.skim-function.new.1.1.1.1.1.0 w shown (ens.1 (on w k) refl refl o) (p.total o) e.before.loop-test.true up f.before.before.if2.false;
+            total = λ o. tally.total_on a.limits a.left a.s.now k l.loop.tally later f.skim-function.new.1.1.1.1.1.0 w shown (ens.1 (on w k) refl refl o) (p.total o) e.before.loop-test.true up f.before.before.if2.false;
           },
     )
 

@@ -6,13 +6,13 @@ use lib.Dec.{eqb}
 use borrow.Author.Rules.{rules}
 use Rattle.format_spelling.specs.Spelling.{◌⊕◌}
 use Rattle.format_spelling.specs.Inner.Tally.{counts, Fits}
-use Rattle.format_spelling.proofs.Sums.{join-same}
+use Rattle.format_spelling.proofs.Sums.{join_same}
 use Rattle.read_walk.specs.Inner.Source.{handed}
-use Rattle.read_walk.specs.Inner.Spelt.{ownSource}
+use Rattle.read_walk.specs.Inner.Spelt.{own_source}
 use Rattle.read_walk.proofs.walk.own_source.Statement.{statement}
 use Rattle.read_walk.proofs.walk.own_source.Tie as tie
 
-counted : (named : Bool) (n : ℕ) (r : Bool) → named ≡ true → {sources repeated : ℕ} {b : Bool} → sources ≡ cond (eqb n 0) 0 1 → repeated ≡ cond b 1 0 → b ≡ r → ownSource named n r ≡ record { padded = 0; filled = 0; sources = sources; repeated = repeated }
+counted : (named : Bool) (n : ℕ) (r : Bool) → named ≡ true → {sources repeated : ℕ} {b : Bool} → sources ≡ cond (eqb n 0) 0 1 → repeated ≡ cond b 1 0 → b ≡ r → own_source named n r ≡ record { padded = 0; filled = 0; sources = sources; repeated = repeated }
 counted named n r e f g h = rw (e, f, g, h)
 
 told : (named : Bool) → named ≡ true → (own parent : ℕ) → own ≡ handed named own parent
@@ -38,7 +38,7 @@ returns c =
     )
 
 returns-2 : tie.Need-returns-2
-returns-2 c = rw c.if1.false (refl, sym (join-same (counts c.before.before.args.tally.now)))
+returns-2 c = rw c.if1.false (refl, sym (join_same (counts c.before.before.args.tally.now)))
 
 pub own-source-spec : {M : Type 1} → statement M
 own-source-spec =

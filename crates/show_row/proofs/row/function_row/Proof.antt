@@ -2,7 +2,7 @@
 use mathlib.Core.Path.{sym, ◌∙◌}
 use borrow.Author.Rules.{rules}
 use Rattle.format.specs.ReadChunk.{read}
-use Rattle.show_row.proofs.RowLaws.{row-refused, row-none, row-some}
+use Rattle.show_row.proofs.RowLaws.{row_refused, row_none, row_some}
 use Rattle.show_row.proofs.row.function_row.Statement.{statement}
 use Rattle.show_row.proofs.row.function_row.Tie as tie
 
@@ -10,7 +10,7 @@ use Rattle.show_row.proofs.row.function_row.Tie as tie
 found : tie.Need-returns-3
 found c =
     let a = c.before.before.before.before.before.before.before.before.args in
-    row-some a.function (read a.limits a.s.now) _ (sym c.before.before.before.before.decoded2.given.1 ∙ c.before.before.before.before.before.before.decode-chunk-lua54.ensures) _ c.before.found.given.1
+    row_some a.function (read a.limits a.s.now) _ (sym c.before.before.before.before.decoded2.given.1 ∙ c.before.before.before.before.before.before.decode-chunk-lua54.ensures) _ c.before.found.given.1
 
 pub function-row-spec : {M : Type 1} → statement M
 function-row-spec =
@@ -19,8 +19,8 @@ function-row-spec =
     (λ c κs. search rules) (λ c. search rules) (λ c. search rules) (λ c. search rules) (λ c. search rules)
     (λ c.
     let a = c.before.before.before.before.before.args in
-    row-refused a.function (read a.limits a.s.now) _ (sym c.before.decoded.given.1 ∙ c.before.before.before.decode-chunk-lua54.ensures))
+    row_refused a.function (read a.limits a.s.now) _ (sym c.before.decoded.given.1 ∙ c.before.before.before.decode-chunk-lua54.ensures))
     (λ c.
     let a = c.before.before.before.before.before.before.before.args in
-    row-none a.function (read a.limits a.s.now) _ (sym c.before.before.before.decoded2.given.1 ∙ c.before.before.before.before.before.decode-chunk-lua54.ensures) c.enum_told.given.1)
+    row_none a.function (read a.limits a.s.now) _ (sym c.before.before.before.decoded2.given.1 ∙ c.before.before.before.before.before.decode-chunk-lua54.ensures) c.enum_told.given.1)
     found)

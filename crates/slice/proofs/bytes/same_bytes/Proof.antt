@@ -4,13 +4,13 @@ use Prim.Native.Nat.{◌+◌, ◌-◌}
 use native.Mathlib.Omega.{arith}
 use borrow.Author.Rules.{rules}
 use lib.ListN.{length, take, drop}
-use Rattle.format.specs.ReadHeader.{sameBytes}
+use Rattle.format.specs.ReadHeader.{same_bytes}
 use Rattle.slice.proofs.Same.{rest, start, all, inside, differs, agrees}
 use Rattle.slice.proofs.bytes.same_bytes.Statement.{statement}
 use Rattle.slice.proofs.bytes.same_bytes.Tie as tie
 
 abbrev invariant-loop : tie.invariant-loop
-invariant-loop s at bytes i₀ i = sameBytes (take (length bytes) (drop at s)) bytes ≡ rest s at bytes i
+invariant-loop s at bytes i₀ i = same_bytes (take (length bytes) (drop at s)) bytes ≡ rest s at bytes i
 
 abbrev decreases-loop : tie.decreases-loop
 decreases-loop s at bytes i₀ i = length bytes - i

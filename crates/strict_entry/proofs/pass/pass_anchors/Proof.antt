@@ -2,14 +2,14 @@
 use mathlib.Core.Path.{sym, ◌∙◌}
 use native.Mathlib.Omega.{arith}
 use borrow.Author.Rules.{rules}
-use Rattle.format_strict.specs.ReadStrict.{strictAnchor}
-use Rattle.format_strict.proofs.ExactStrict.{exact-strictAnchor}
-use Rattle.strict_entry.proofs.Turns.{Left, begins, ends, stops, goes_on}
+use Rattle.format_strict.specs.ReadStrict.{strict_anchor}
+use Rattle.format_strict.proofs.ExactStrict.{exact_strict_anchor}
+use Rattle.strict_entry.proofs.Turns.{Left, begins, ends, stops, goes_on_lem}
 use Rattle.strict_entry.proofs.pass.pass_anchors.Statement.{statement}
 use Rattle.strict_entry.proofs.pass.pass_anchors.Tie as tie
 
 abbrev invariant-loop : tie.invariant-loop
-invariant-loop s n next₀ left₀ next left = Left strictAnchor s n next₀.at left next.at
+invariant-loop s n next₀ left₀ next left = Left strict_anchor s n next₀.at left next.at
 
 abbrev decreases-loop : tie.decreases-loop
 decreases-loop s n next₀ left₀ next left = left
@@ -23,5 +23,5 @@ pass-anchors-spec =
     (λ c. begins) (λ c κs. search rules) (λ c. search rules)
     (λ c. stops c.before.before.before.before.before.loop.invariant (omega arith) (sym c.before.passed.given.1 ∙ c.before.before.before.pass-two.ensures))
     (λ c. search rules) (λ c. search rules) (λ c. search rules)
-    (λ c. goes_on c.before.before.before.before.before.loop.invariant (omega arith) exact-strictAnchor (sym c.before.passed2.given.1 ∙ c.before.before.before.pass-two.ensures))
+    (λ c. goes_on_lem c.before.before.before.before.before.loop.invariant (omega arith) exact_strict_anchor (sym c.before.passed2.given.1 ∙ c.before.before.before.pass-two.ensures))
     (λ c. ends c.before.loop.invariant (omega arith)))

@@ -2,14 +2,14 @@
 use mathlib.Core.Path.{sym, ◌∙◌}
 use native.Mathlib.Omega.{arith}
 use borrow.Author.Rules.{rules}
-use Rattle.format_strict.specs.ReadStrict.{strictConstant}
-use Rattle.format_strict.proofs.ExactStrict.{exact-strictConstant}
-use Rattle.strict_entry.proofs.Turns.{Left, begins, ends, stops, goes_on}
+use Rattle.format_strict.specs.ReadStrict.{strict_constant}
+use Rattle.format_strict.proofs.ExactStrict.{exact_strict_constant}
+use Rattle.strict_entry.proofs.Turns.{Left, begins, ends, stops, goes_on_lem}
 use Rattle.strict_entry.proofs.pass.pass_constants.Statement.{statement}
 use Rattle.strict_entry.proofs.pass.pass_constants.Tie as tie
 
 abbrev invariant-loop : tie.invariant-loop
-invariant-loop s n max-string-bytes next₀ left₀ next left = Left (strictConstant max-string-bytes) s n next₀.at left next.at
+invariant-loop s n max-string-bytes next₀ left₀ next left = Left (strict_constant max-string-bytes) s n next₀.at left next.at
 
 abbrev decreases-loop : tie.decreases-loop
 decreases-loop s n max-string-bytes next₀ left₀ next left = left
@@ -23,5 +23,5 @@ pass-constants-spec =
     (λ c. begins) (λ c κs. search rules) (λ c. search rules)
     (λ c. stops c.before.before.before.before.before.loop.invariant (omega arith) (sym c.before.passed.given.1 ∙ c.before.before.before.pass-constant.ensures))
     (λ c. search rules) (λ c. search rules) (λ c. search rules)
-    (λ c. goes_on c.before.before.before.before.before.loop.invariant (omega arith) (exact-strictConstant c.before.before.before.before.before.before.before.args.max-string-bytes) (sym c.before.passed2.given.1 ∙ c.before.before.before.pass-constant.ensures))
+    (λ c. goes_on_lem c.before.before.before.before.before.loop.invariant (omega arith) (exact_strict_constant c.before.before.before.before.before.before.before.args.max-string-bytes) (sym c.before.passed2.given.1 ∙ c.before.before.before.pass-constant.ensures))
     (λ c. ends c.before.loop.invariant (omega arith)))

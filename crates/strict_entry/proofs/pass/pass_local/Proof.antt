@@ -3,8 +3,8 @@ use mathlib.Core.Path.{sym, ◌∙◌}
 use borrow.Author.Rules.{rules}
 use lib.ListN.{drop}
 use Rattle.format.specs.ReadFields.{string}
-use Rattle.format.proofs.ExactFields.{exact-string}
-use Rattle.format_strict.specs.ReadStrict.{strictAnchor}
+use Rattle.format.proofs.ExactFields.{exact_string}
+use Rattle.format_strict.specs.ReadStrict.{strict_anchor}
 use Rattle.strict_entry.proofs.Chains.{stops, passes}
 use Rattle.strict_entry.proofs.Entries.{named}
 use Rattle.strict_entry.proofs.pass.pass_local.Statement.{statement}
@@ -13,13 +13,13 @@ use Rattle.strict_entry.proofs.pass.pass_local.Tie as tie
 returns : tie.Need-returns
 returns c =
     let a = c.before.before.before.before.args in
-    stops (string a.max-string-bytes) (λ _. strictAnchor) a.s.now a.cursor.at c.before.before.pass-string.ensures c.enum_told.given.1
+    stops (string a.max-string-bytes) (λ _. strict_anchor) a.s.now a.cursor.at c.before.before.pass-string.ensures c.enum_told.given.1
     ∙ sym (named a.max-string-bytes a.cursor.at (drop a.cursor.at a.s.now))
 
 returns-2 : tie.Need-returns-2
 returns-2 c =
     let a = c.before.before.before.before.before.before.args in
-    passes (string a.max-string-bytes) (λ _. strictAnchor) a.s.now a.cursor.at c.before.before.before.before.pass-string.ensures (exact-string a.max-string-bytes) c.before.before.name.given.1 (λ _. c.pass-two.ensures)
+    passes (string a.max-string-bytes) (λ _. strict_anchor) a.s.now a.cursor.at c.before.before.before.before.pass-string.ensures (exact_string a.max-string-bytes) c.before.before.name.given.1 (λ _. c.pass-two.ensures)
     ∙ sym (named a.max-string-bytes a.cursor.at (drop a.cursor.at a.s.now))
 
 pub pass-local-spec : {M : Type 1} → statement M

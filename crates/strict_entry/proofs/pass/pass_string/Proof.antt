@@ -3,12 +3,12 @@ use mathlib.Core.Path.{sym, ◌∙◌}
 use borrow.Author.Rules.{rules}
 use lib.ListN.{drop}
 use Rattle.format.specs.ReadFields.{string}
-use Rattle.strict_entry.proofs.Entries.{string-stop, string-end}
+use Rattle.strict_entry.proofs.Entries.{string_stop, string-end}
 use Rattle.strict_entry.proofs.pass.pass_string.Statement.{statement}
 use Rattle.strict_entry.proofs.pass.pass_string.Tie as tie
 
 returns : tie.Need-returns
-returns c = let a = c.before.before.before.before.before.args in string-stop (string a.max-string-bytes a.cursor.at (drop a.cursor.at a.s.now)) _ (sym c.before.read.given.1 ∙ c.before.before.before.read-string-lua54.ensures)
+returns c = let a = c.before.before.before.before.before.args in string_stop (string a.max-string-bytes a.cursor.at (drop a.cursor.at a.s.now)) _ (sym c.before.read.given.1 ∙ c.before.before.before.read-string-lua54.ensures)
 
 returns-2 : tie.Need-returns-2
 returns-2 c = let a = c.before.before.before.before.before.args in string-end (string a.max-string-bytes a.cursor.at (drop a.cursor.at a.s.now)) _ _ (sym c.before.read2.given.1 ∙ c.before.before.before.read-string-lua54.ensures)

@@ -3,8 +3,8 @@ use mathlib.Core.Path.{sym, ◌∙◌}
 use native.Mathlib.Omega.{arith}
 use borrow.Author.Rules.{rules}
 use Rattle.format.specs.ReadFields.{string}
-use Rattle.format.proofs.ExactFields.{exact-string}
-use Rattle.strict_entry.proofs.Turns.{Left, begins, ends, stops, goes_on}
+use Rattle.format.proofs.ExactFields.{exact_string}
+use Rattle.strict_entry.proofs.Turns.{Left, begins, ends, stops, goes_on_lem}
 use Rattle.strict_entry.proofs.pass.pass_strings.Statement.{statement}
 use Rattle.strict_entry.proofs.pass.pass_strings.Tie as tie
 
@@ -23,5 +23,5 @@ pass-strings-spec =
     (λ c. begins) (λ c κs. search rules) (λ c. search rules)
     (λ c. stops c.before.before.before.before.before.loop.invariant (omega arith) (sym c.before.passed.given.1 ∙ c.before.before.before.pass-string.ensures))
     (λ c. search rules) (λ c. search rules) (λ c. search rules)
-    (λ c. goes_on c.before.before.before.before.before.loop.invariant (omega arith) (exact-string c.before.before.before.before.before.before.before.args.max-string-bytes) (sym c.before.passed2.given.1 ∙ c.before.before.before.pass-string.ensures))
+    (λ c. goes_on_lem c.before.before.before.before.before.loop.invariant (omega arith) (exact_string c.before.before.before.before.before.before.before.args.max-string-bytes) (sym c.before.passed2.given.1 ∙ c.before.before.before.pass-string.ensures))
     (λ c. ends c.before.loop.invariant (omega arith)))

@@ -1,20 +1,20 @@
 -- `strict_walk::list::pass_line_info_list` meets its contract: an int, and as many bytes (`Lists.antt`). Assumes nothing.
 use borrow.Author.Rules.{rules}
 use Rattle.format.specs.Read.{run}
-use Rattle.format_strict.proofs.ExactStrict.{exact-int}
-use Rattle.strict_walk.proofs.Lists.{count-stops, count-passes}
+use Rattle.format_strict.proofs.ExactStrict.{exact_int}
+use Rattle.strict_walk.proofs.Lists.{count_stops, count_passes}
 use Rattle.strict_walk.proofs.list.pass_line_info_list.Statement.{statement}
 use Rattle.strict_walk.proofs.list.pass_line_info_list.Tie as tie
 
 returns : tie.Need-returns
 returns c =
     let a = c.before.before.before.before.before.args in
-    count-stops exact-int run a.s.now a.cursor.at c.before.before.before.read_int.ensures c.before.read.given.1
+    count_stops exact_int run a.s.now a.cursor.at c.before.before.before.read_int.ensures c.before.read.given.1
 
 returns-2 : tie.Need-returns-2
 returns-2 c =
     let a = c.before.before.before.before.before.before.args in
-    count-passes exact-int run a.s.now a.cursor.at c.before.before.before.before.read_int.ensures c.before.before.read2.given.1 c.read-exact.ensures
+    count_passes exact_int run a.s.now a.cursor.at c.before.before.before.before.read_int.ensures c.before.before.read2.given.1 c.read-exact.ensures
 
 pub pass-line-info-list-spec : {M : Type 1} → statement M
 pass-line-info-list-spec = tie.close (tie.spec (λ c κs. search rules) (λ c. search rules) (λ c. search rules) (λ c κs. search rules) returns returns-2)

@@ -2,20 +2,20 @@
 use borrow.Author.Rules.{rules}
 use Rattle.format.specs.Read.{many}
 use Rattle.format.specs.ReadFields.{string}
-use Rattle.format_strict.proofs.ExactStrict.{exact-int}
-use Rattle.strict_walk.proofs.Lists.{count-stops, count-passes}
+use Rattle.format_strict.proofs.ExactStrict.{exact_int}
+use Rattle.strict_walk.proofs.Lists.{count_stops, count_passes}
 use Rattle.strict_walk.proofs.list.pass_names_list.Statement.{statement}
 use Rattle.strict_walk.proofs.list.pass_names_list.Tie as tie
 
 returns : tie.Need-returns
 returns c =
     let a = c.before.before.before.before.before.args in
-    count-stops exact-int (λ n. many n (string a.max-string-bytes)) a.s.now a.cursor.at c.before.before.before.read_int.ensures c.before.read.given.1
+    count_stops exact_int (λ n. many n (string a.max-string-bytes)) a.s.now a.cursor.at c.before.before.before.read_int.ensures c.before.read.given.1
 
 returns-2 : tie.Need-returns-2
 returns-2 c =
     let a = c.before.before.before.before.before.before.args in
-    count-passes exact-int (λ n. many n (string a.max-string-bytes)) a.s.now a.cursor.at c.before.before.before.before.read_int.ensures c.before.before.read2.given.1 c.pass-strings.ensures
+    count_passes exact_int (λ n. many n (string a.max-string-bytes)) a.s.now a.cursor.at c.before.before.before.before.read_int.ensures c.before.before.read2.given.1 c.pass-strings.ensures
 
 pub pass-names-list-spec : {M : Type 1} → statement M
 pass-names-list-spec = tie.close (tie.spec (λ c κs. search rules) (λ c. search rules) (λ c. search rules) (λ c κs. search rules) returns returns-2)

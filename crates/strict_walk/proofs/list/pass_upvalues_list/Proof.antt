@@ -2,25 +2,25 @@
 use mathlib.Core.Path.{sym, ◌∙◌, ap}
 use borrow.Author.Rules.{rules}
 use lib.ListN.{drop}
-use Rattle.slice.specs.Inner.Results.{cursorResult}
+use Rattle.slice.specs.Inner.Results.{cursor_result}
 use Rattle.format.specs.declared.refusal.Refusal.TheVariants.{Upvalues}
 use Rattle.format.specs.Read.{many}
 use Rattle.format.specs.ReadChunk.{upvalue}
-use Rattle.strict_walk.proofs.Lists.{count-stops, count-passes, up_to, exact-intUpTo}
+use Rattle.strict_walk.proofs.Lists.{count_stops, count_passes, up_to, exact_int_up_to}
 use Rattle.strict_walk.proofs.list.pass_upvalues_list.Statement.{statement}
 use Rattle.strict_walk.proofs.list.pass_upvalues_list.Tie as tie
 
 returns : tie.Need-returns
 returns c =
     let a = c.before.before.before.before.before.args in
-    count-stops (exact-intUpTo a.max-upvalues (Upvalues a.cursor.at)) (λ n. many n upvalue) a.s.now a.cursor.at c.before.before.before.int-up-to.ensures c.before.read.given.1
-    ∙ sym (ap cursorResult (up_to a.max-upvalues Upvalues upvalue a.cursor.at (drop a.cursor.at a.s.now)))
+    count_stops (exact_int_up_to a.max-upvalues (Upvalues a.cursor.at)) (λ n. many n upvalue) a.s.now a.cursor.at c.before.before.before.int-up-to.ensures c.before.read.given.1
+    ∙ sym (ap cursor_result (up_to a.max-upvalues Upvalues upvalue a.cursor.at (drop a.cursor.at a.s.now)))
 
 returns-2 : tie.Need-returns-2
 returns-2 c =
     let a = c.before.before.before.before.before.before.args in
-    count-passes (exact-intUpTo a.max-upvalues (Upvalues a.cursor.at)) (λ n. many n upvalue) a.s.now a.cursor.at c.before.before.before.before.int-up-to.ensures c.before.before.read2.given.1 c.skip-upvalues.ensures
-    ∙ sym (ap cursorResult (up_to a.max-upvalues Upvalues upvalue a.cursor.at (drop a.cursor.at a.s.now)))
+    count_passes (exact_int_up_to a.max-upvalues (Upvalues a.cursor.at)) (λ n. many n upvalue) a.s.now a.cursor.at c.before.before.before.before.int-up-to.ensures c.before.before.read2.given.1 c.skip-upvalues.ensures
+    ∙ sym (ap cursor_result (up_to a.max-upvalues Upvalues upvalue a.cursor.at (drop a.cursor.at a.s.now)))
 
 pub pass-upvalues-list-spec : {M : Type 1} → statement M
 pass-upvalues-list-spec = tie.close (tie.spec (λ c κs. search rules) (λ c. search rules) (λ c. search rules) (λ c κs. search rules) returns returns-2)

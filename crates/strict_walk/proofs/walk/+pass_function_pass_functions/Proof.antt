@@ -15,16 +15,16 @@ use Rattle.format.specs.Form.{Bytes}
 use Rattle.format.specs.Reading.{Prototype}
 use Rattle.format.specs.GrammarChunk.{Where}
 use Rattle.format.specs.Read.{Read}
-use Rattle.format_strict.specs.ReadStrict.{strictFunction}
-use Rattle.format_strict.proofs.ExactStrict.{exact-strictFunction}
+use Rattle.format_strict.specs.ReadStrict.{strict_function}
+use Rattle.format_strict.proofs.ExactStrict.{exact_strict_function}
 use Rattle.slice.specs.declared.cursor.Cursor.{Cursor}
 use Rattle.read_walk.specs.declared.walk.Skimmed.{Skimmed}
 use Rattle.read_walk.specs.declared.walk.SkimResult.TheVariants as skim
-use Rattle.read_walk.specs.Inner.Skim.{enteredBy, on, skimResult}
-use Rattle.read_walk.proofs.SoFar.{SoFar, starts, ends, deep-by, many_by, stops-by, goes-on-by, level}
+use Rattle.read_walk.specs.Inner.Skim.{entered_by, on, skim_result}
+use Rattle.read_walk.proofs.SoFar.{SoFar, starts, ends, deep_by, many_by, stops_by, goes_on_by, level}
 use Rattle.strict_walk.specs.declared.parts.HeadPassed.TheVariants as head
-use Rattle.strict_walk.specs.Inner.StrictParts.{strictHead}
-use Rattle.strict_walk.specs.Inner.Results.{headPassed}
+use Rattle.strict_walk.specs.Inner.StrictParts.{strict_head}
+use Rattle.strict_walk.specs.Inner.Results.{head_passed}
 use Rattle.strict_walk.proofs.HeadAnswers.{head_ok}
 use Rattle.strict_walk.proofs.Passes as passes
 use Rattle.strict_walk.proofs.walk.pass_function.Reads as pass-function
@@ -68,10 +68,10 @@ functions-calls t = (pass-function-below t, pass-function.Post)
 -- wherever the first of them stands
 record Passed (s : Bytes) (L : ResourceLimits) (left n from : ℕ) (k : Skimmed) (more : ℕ) (w : Where) : Type 0 where
   passed : List Prototype
-  so_far : SoFar (enteredBy (strictFunction L) L left) s w n from k more passed
+  so_far : SoFar (entered_by (strict_function L) L left) s w n from k more passed
 
 begin : (s : Bytes) (L : ResourceLimits) (left n : ℕ) (k : Skimmed) (w : Where) → k.number ≡ w.number → k.instructions ≡ w.instructions → Passed s L left n k.next.at k n w
-begin s L left n k w e i = record { passed = []; so_far = starts (enteredBy (strictFunction L) L left) s w n k e i }
+begin s L left n k w e i = record { passed = []; so_far = starts (entered_by (strict_function L) L left) s w n k e i }
 
 -- ## A function
 function-returns-2 : (t : ℕ) → pass-function-lts.Need-returns-2 (function-calls t) (pass-function-at t) pass-function.Post
@@ -96,7 +96,7 @@ module _ (t : ℕ) (h : pass-function-lts.After-begins2 (function-calls t) (pass
   abbrev behind : Cursor
   behind = h.begins2.given.0.1.1.0
 
-  begun : head.Ok words protos behind ≡ headPassed (strictHead a.limits a.from.instructions at (drop at a.s.now))
+  begun : head.Ok words protos behind ≡ head_passed (strict_head a.limits a.from.instructions at (drop at a.s.now))
   begun = sym h.begins2.given.1 ∙ h.before.before.pass-head.ensures
 
 function-number : (t : ℕ) → pass-function-lts.Need-overflow-add-t18 (function-calls t) (pass-function-at t) pass-function.Post
@@ -129,14 +129,14 @@ module _ (t : ℕ) (h : pass-function-lts.After-begins2 (function-calls t) (pass
     inside = passes.inner (a t h).s.now (a t h).limits (a t h).left w (at t h) i (words t h) (protos t h) (behind t h) (begun t h)
 
     instructions : stand.instructions ≡ first.instructions
-    instructions = passes.first-instructions (a t h).s.now (a t h).limits (a t h).left w (at t h) i (words t h) (protos t h) (behind t h) (begun t h)
+    instructions = passes.first_instructions (a t h).s.now (a t h).limits (a t h).left w (at t h) i (words t h) (protos t h) (behind t h) (begun t h)
 
 -- behind the call, where there are some: what it shows
 module _ (t : ℕ) (f : pass-function-lts.After-pass-functions (function-calls t) (pass-function-at t) pass-function.Post) where
   abbrev begins : pass-function-lts.After-begins2 (function-calls t) (pass-function-at t) pass-function.Post
   begins = f.before.before.before.before.before
 
-  inner : (w : Where) → (a t begins).from.number ≡ w.number → (i : (a t begins).from.instructions ≡ w.instructions) → f.pass-functions.result ≡ skimResult (first t begins w i) (inside t begins w i)
+  inner : (w : Where) → (a t begins).from.number ≡ w.number → (i : (a t begins).from.instructions ≡ w.instructions) → f.pass-functions.result ≡ skim_result (first t begins w i) (inside t begins w i)
   inner w n i = f.pass-functions.ensures (first t begins w i) (λ j. n j + 1) (instructions t begins w i)
 
 function-returns : (t : ℕ) → pass-function-lts.Need-returns (function-calls t) (pass-function-at t) pass-function.Post
@@ -144,16 +144,16 @@ function-returns t c w n i =
     let f = c.before.before.before in
     let g = begins t f in
     let a = a t g in
-    passes.nested-refused a.s.now a.limits a.left w (at t g) i _ _ _ (begun t g) _ (sym c.before.inner.given.1 ∙ inner t f w n i)
+    passes.nested_refused a.s.now a.limits a.left w (at t g) i _ _ _ (begun t g) _ (sym c.before.inner.given.1 ∙ inner t f w n i)
 
 -- whether there are some or none: what was shown of them
 module _ (t : ℕ) (j : pass-function-lts.Joined1 (function-calls t) (pass-function-at t) pass-function.Post) where
   abbrev begins-here : pass-function-lts.After-begins2 (function-calls t) (pass-function-at t) pass-function.Post
   begins-here = j.before.before.before.before
 
-  shown : (w : Where) → (a t begins-here).from.number ≡ w.number → (i : (a t begins-here).from.instructions ≡ w.instructions) → skim.Ok j.if1.nested ≡ skimResult (first t begins-here w i) (inside t begins-here w i)
+  shown : (w : Where) → (a t begins-here).from.number ≡ w.number → (i : (a t begins-here).from.instructions ≡ w.instructions) → skim.Ok j.if1.nested ≡ skim_result (first t begins-here w i) (inside t begins-here w i)
   shown w n i =
-      ⊎_elim {C = skim.Ok j.if1.nested ≡ skimResult (first t begins-here w i) (inside t begins-here w i)}
+      ⊎_elim {C = skim.Ok j.if1.nested ≡ skim_result (first t begins-here w i) (inside t begins-here w i)}
       (λ some.
       let f : pass-function-lts.After-pass-functions (function-calls t) (pass-function-at t) pass-function.Post = record { before = record { before = j.before; if1 = some.0 }; pass-functions = some.1 } in
       ap skim.Ok some.5 ∙ sym some.3.given.1 ∙ inner t f w n i)
@@ -190,14 +190,14 @@ functions-loop-holds t c = let a = c.before.args in begin a.s.now a.limits a.lef
 functions-returns : (t : ℕ) → pass-functions-lts.Need-returns (functions-calls t) (pass-functions-at t) pass-functions.Post functions-Inv-loop functions-μ-loop
 functions-returns t c w n i =
     let l = c.before.before in
-    deep-by (exact-strictFunction l.before.before.args.limits) _ _ (l.loop.invariant w n i).so_far c.before.loop-test.true c.if1.true
+    deep_by (exact_strict_function l.before.before.args.limits) _ _ (l.loop.invariant w n i).so_far c.before.loop-test.true c.if1.true
 
 functions-returns-2 : (t : ℕ) → pass-functions-lts.Need-returns-2 (functions-calls t) (pass-functions-at t) pass-functions.Post functions-Inv-loop functions-μ-loop
 functions-returns-2 t c w n i =
     let e = c.before.before.before in
     let l = e.before.before in
     let a = l.before.before.args in
-    many_by (exact-strictFunction a.limits) _ _ (l.loop.invariant w n i).so_far e.before.loop-test.true (level a.left e.if1.false) c.if2.true
+    many_by (exact_strict_function a.limits) _ _ (l.loop.invariant w n i).so_far e.before.loop-test.true (level a.left e.if1.false) c.if2.true
 
 function-requires : (t : ℕ) → pass-functions-lts.Need-pass-function-requires (functions-calls t) (pass-functions-at t) pass-functions.Post functions-Inv-loop functions-μ-loop
 function-requires t c κs =
@@ -214,7 +214,7 @@ functions-returns-3 t c w n i =
     let e = f.before.before.before.before in
     let l = e.before.before in
     let a = l.before.before.args in
-    stops-by (exact-strictFunction a.limits) _ _ (l.loop.invariant w n i).so_far e.before.loop-test.true (level a.left e.if1.false) f.before.if2.false _ (sym c.before.one.given.1 ∙ f.pass-function.ensures (on w l.loop.passed) refl refl)
+    stops_by (exact_strict_function a.limits) _ _ (l.loop.invariant w n i).so_far e.before.loop-test.true (level a.left e.if1.false) f.before.if2.false _ (sym c.before.one.given.1 ∙ f.pass-function.ensures (on w l.loop.passed) refl refl)
 
 functions-loop-again : (t : ℕ) → pass-functions-lts.Need-loop-preserved (functions-calls t) (pass-functions-at t) pass-functions.Post functions-Inv-loop functions-μ-loop
 functions-loop-again t c w n i =
@@ -222,7 +222,7 @@ functions-loop-again t c w n i =
     let e = f.before.before.before.before in
     let l = e.before.before in
     let a = l.before.before.args in
-    record { passed = _; so_far = goes-on-by (exact-strictFunction a.limits) _ _ (l.loop.invariant w n i).so_far e.before.loop-test.true (level a.left e.if1.false) f.before.if2.false _ (sym c.before.one2.given.1 ∙ f.pass-function.ensures (on w l.loop.passed) refl refl) }
+    record { passed = _; so_far = goes_on_by (exact_strict_function a.limits) _ _ (l.loop.invariant w n i).so_far e.before.loop-test.true (level a.left e.if1.false) f.before.if2.false _ (sym c.before.one2.given.1 ∙ f.pass-function.ensures (on w l.loop.passed) refl refl) }
 
 functions-returns-4 : (t : ℕ) → pass-functions-lts.Need-returns-4 (functions-calls t) (pass-functions-at t) pass-functions.Post functions-Inv-loop functions-μ-loop
 functions-returns-4 t c w n i = ends (c.before.loop.invariant w n i).so_far c.loop-test.false

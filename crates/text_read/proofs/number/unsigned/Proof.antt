@@ -6,7 +6,7 @@ use native.Mathlib.Omega.{arith}
 use borrow.Author.Rules.{rules}
 use lib.ListN.{length, drop}
 use Rattle.text_read.specs.Inner.Numbers.{spelling, spelt}
-use Rattle.text_read.proofs.NumberLaws.{above, within, spelling-end, no_digit, too_large, one-digit, spelt-empty, spelt-all}
+use Rattle.text_read.proofs.NumberLaws.{above, within, spelling-end, no_digit, too_large, one_digit, spelt_empty, spelt-all}
 use Rattle.text_read.proofs.number.unsigned.Statement.{statement}
 use Rattle.text_read.proofs.number.unsigned.Tie as tie
 
@@ -42,7 +42,7 @@ loop-again c =
     let l = c.before.before.before.before.before.loop in (
       search rules,
       next c,
-      sym (one-digit _ _ l.value _ l.i _ (search rules) c.before.before.digit.ensures (search rules) (next c)) ∙ l.invariant.2,
+      sym (one_digit _ _ l.value _ l.i _ (search rules) c.before.before.digit.ensures (search rules) (next c)) ∙ l.invariant.2,
     )
 
 pub unsigned-spec : {M : Type 1} → statement M
@@ -51,7 +51,7 @@ unsigned-spec =
     (tie.spec
     invariant-loop
     decreases-loop
-    (λ c. (tt, sym (spelt-empty _ _ _ c.if1.true)))
+    (λ c. (tt, sym (spelt_empty _ _ _ c.if1.true)))
     (λ c. (search rules, search rules, sym (spelt-all _ _ _ c.if1.false)))
     (λ c. search rules)
     (λ c κs. search rules)

@@ -5,7 +5,7 @@ use Prim.Native.Nat.{◌≤◌, ◌-◌}
 use borrow.Author.Rules.{rules}
 use lib.ListN.{length, drop}
 use Rattle.text_read.specs.Inner.Tokens.{starts}
-use Rattle.text_read.proofs.WordLaws.{starts-end, starts_other, starts_more, starts-longer}
+use Rattle.text_read.proofs.WordLaws.{starts-end, starts_other, starts_more, starts_longer}
 use Rattle.text_read.proofs.token.begins.Statement.{statement}
 use Rattle.text_read.proofs.token.begins.Tie as tie
 
@@ -22,7 +22,7 @@ begins-spec =
     (tie.spec
     invariant-loop
     decreases-loop
-    (λ c. sym (starts-longer _ _ c.if1.true))
+    (λ c. sym (starts_longer _ _ c.if1.true))
     (λ c. (search rules, search rules, refl))
     (λ c. search rules)
     (λ c. search rules)

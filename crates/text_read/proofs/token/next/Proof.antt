@@ -7,14 +7,14 @@ use borrow.Author.Rules.{rules}
 use borrow.Author.Tests.{le-leb, lt-leb}
 use lib.ListN.{length, drop}
 use Rattle.text_read.specs.declared.token.Token.TheVariants.{Word}
-use Rattle.text_read.specs.Inner.Tokens.{wordLength}
-use Rattle.text_read.proofs.WordLaws.{word_end, word-space, word_more}
+use Rattle.text_read.specs.Inner.Tokens.{word_length}
+use Rattle.text_read.proofs.WordLaws.{word_end, word_space, word_more}
 use Rattle.text_read.proofs.token.next.Statement.{statement}
 use Rattle.text_read.proofs.token.next.Tie as tie
 
 abbrev invariant-loop : tie.invariant-loop
 invariant-loop line at i₀ i =
-    (at ≤ i) × (i ≤ length line) × (i + wordLength (drop i line) ≡ at + wordLength (drop at line))
+    (at ≤ i) × (i ≤ length line) × (i + word_length (drop i line) ≡ at + word_length (drop at line))
 
 abbrev decreases-loop : tie.decreases-loop
 decreases-loop line at i₀ i = length line - i
@@ -23,7 +23,7 @@ returns-2 : tie.Need-returns-2 invariant-loop decreases-loop
 returns-2 c =
     let l = c.before.before.before.loop in (
       (search rules, search rules),
-      rw (le-leb _ _ c.before.before.before.before.if1.false) (ap (Word c.before.before.before.before.before.args.at) (omega (arith, l.invariant.2, word-space c.before.before.before.before.before.args.line.now l.i (search rules) c.if2.true))),
+      rw (le-leb _ _ c.before.before.before.before.if1.false) (ap (Word c.before.before.before.before.before.args.at) (omega (arith, l.invariant.2, word_space c.before.before.before.before.before.args.line.now l.i (search rules) c.if2.true))),
     )
 
 loop-again : tie.Need-loop-preserved invariant-loop decreases-loop

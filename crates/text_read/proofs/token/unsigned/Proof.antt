@@ -4,7 +4,7 @@ use Prim.Native.Nat.{◌+◌, ◌≤◌}
 use native.Mathlib.Omega.{arith}
 use borrow.Author.Rules.{rules}
 use lib.ListN.{length}
-use Rattle.text_read.specs.Inner.Tokens.{numberThen, number_in}
+use Rattle.text_read.specs.Inner.Tokens.{number_then, number_in}
 use Rattle.text_read.proofs.token.unsigned.Statement.{statement}
 use Rattle.text_read.proofs.token.unsigned.Tie as tie
 
@@ -17,7 +17,7 @@ returns-2 c =
     let a = c.before.before.before.before.before.before.before.before.before.args in
     let to = c.before.before.before.before.before.from.given.0.1.0 in (
       tt,
-      ap (λ x. numberThen x (to + 1)) (sym c.enum-told2.given.1 ∙ c.before.before.unsigned.ensures.1)
+      ap (λ x. number_then x (to + 1)) (sym c.enum-told2.given.1 ∙ c.before.before.unsigned.ensures.1)
           ∙ ap (number_in a.most a.line.now) (sym c.before.before.before.before.before.from.given.1 ∙ c.before.before.before.before.before.before.before.next.ensures.1),
     )
 
@@ -26,7 +26,7 @@ returns-3 c =
     let a = c.before.before.before.before.before.before.before.before.before.before.args in
     let to = c.before.before.before.before.before.before.from.given.0.1.0 in (
       rw c.before.n.given.1 at c.before.before.before.unsigned.ensures.0,
-      ap (λ x. numberThen x (to + 1)) (sym c.before.n.given.1 ∙ c.before.before.before.unsigned.ensures.1)
+      ap (λ x. number_then x (to + 1)) (sym c.before.n.given.1 ∙ c.before.before.before.unsigned.ensures.1)
           ∙ ap (number_in a.most a.line.now) (sym c.before.before.before.before.before.before.from.given.1 ∙ c.before.before.before.before.before.before.before.before.next.ensures.1),
     )
 

@@ -51,10 +51,10 @@ use Rattle.format.specs.declared.limits.ResourceLimits.{ResourceLimits}
 use Rattle.format.specs.ReadChunk.{read}
 use Rattle.validate_rules.specs.declared.finding.Finding.{Finding}
 use Rattle.validate_plan.specs.declared.FindingsAnswer.{FindingsAnswer}
-use Rattle.validate_plan.specs.Validated.{shownFindings, findingsWritten}
+use Rattle.validate_plan.specs.Validated.{shown_findings, findings_written}
 use Rattle.validate_findings.specs.declared.array.FindingArray.{FindingArray}
-use Rattle.validate_findings.specs.Blank.{LONGEST, blankList}
-use Rattle.validate_findings.proofs.ArrayLent.{to-arr, from-arr, big-lit, each-as}
+use Rattle.validate_findings.specs.Blank.{LONGEST, blank_list}
+use Rattle.validate_findings.proofs.ArrayLent.{to_arr, from_arr, big_lit, each_as}
 use Rattle.format.specs.contracts.limits.ResourceLimits as L
 use Rattle.format.proofs.limits.ResourceLimits.TheLaws as L'
 use Rattle.validate_rules.specs.contracts.finding.Finding as T
@@ -116,7 +116,7 @@ abbrev field-val : List Finding → Val
 field-val ys = (Q'.the_laws).1.0.val (as-field ys)
 
 is_field : (ys : List Finding) (vs : List Val) → IsList ys vs → Is F (as-field ys) vs
-is_field ys vs is = (is.0, ((is.1.0.0, length-map ys (λ (y : Finding). (T.the_type).to y) ∙ is.1.0.1), each-as (λ (y : Finding). (T.the_type).to y) (T.the_field).row.own_val ys is.0 is.1.1))
+is_field ys vs is = (is.0, ((is.1.0.0, length-map ys (λ (y : Finding). (T.the_type).to y) ∙ is.1.0.1), each_as (λ (y : Finding). (T.the_type).to y) (T.the_field).row.own_val ys is.0 is.1.1))
 
 field_vals : (ys : List Finding) (vs : List Val) → IsList ys vs → vs ≡ field-val ys ∷ []
 field_vals ys vs is = (Q'.the_laws).1.0.tells (as-field ys) vs (is_field ys vs is)
@@ -132,8 +132,8 @@ module _ {M : Type 1} {𝓤 : Ura M} (𝓛 : Logic 𝓤) (mem' : Memory → SPro
   abbrev Validate : Contract 𝓤
   Validate = triple_of 𝓛 validate.signature (validate.spec 𝓛 mem' run)
 
-  blanked : (r : List Finding) → ent 𝓤 (ensured 𝓛 blank.ended (blank.clauses 𝓛 mem' run) tt tt tt r) (fact 𝓤 (r ≡ blankList))
-  blanked r = ex_e 𝓤 _ (λ ws. snd∗ 𝓤 (sem 𝓛 (lasts blank.ended tt tt ws)) (fact 𝓤 (r ≡ blankList)))
+  blanked : (r : List Finding) → ent 𝓤 (ensured 𝓛 blank.ended (blank.clauses 𝓛 mem' run) tt tt tt r) (fact 𝓤 (r ≡ blank_list))
+  blanked r = ex_e 𝓤 _ (λ ws. snd∗ 𝓤 (sem 𝓛 (lasts blank.ended tt tt ws)) (fact 𝓤 (r ≡ blank_list)))
 
 module _ {M : Type 1} {𝓤 : Ura M} (𝓛 : Logic 𝓤) (mem' : Memory → SProp 𝓤) (run : Routine → Fun 𝓤) (κ : Lft) (q : Share) (chunk : Bor (List ℕ)) (limits : ResourceLimits)
     (chunk-room : Room u8 (length chunk.now)) (good-limits : Is L.the_row limits (limits-val limits ∷ [])) where
@@ -165,7 +165,7 @@ module _ {M : Type 1} {𝓤 : Ura M} (𝓛 : Logic 𝓤) (mem' : Memory → SPro
 
   -- what the writer says of its answer and of the list
   abbrev Says : List Finding → FindingsAnswer → List Finding → Type 0
-  Says xs ans ys = (ans ≡ shownFindings (length xs) (read limits chunk.now)) × (ys ≡ findingsWritten xs (read limits chunk.now))
+  Says xs ans ys = (ans ≡ shown_findings (length xs) (read limits chunk.now)) × (ys ≡ findings_written xs (read limits chunk.now))
 
   abbrev to-blank : (Blank 𝓛 mem' run).Ghost
   to-blank = ((tt, tt, tt, tt, tt), tt)
@@ -192,7 +192,7 @@ module _ {M : Type 1} {𝓤 : Ura M} (𝓛 : Logic 𝓤) (mem' : Memory → SPro
         qed 𝓛 (‵ (flft κ q) ∷ ‵ (flft (α ∷ []) full_share) ∷ ‵ Ch ∷ ‵ Sl ∷ []) ∵ nothing ! $ move ! (2 ∷ 0 ∷ []) $ join ! $ move ! (1 ∷ 0 ∷ []) $ join ! $
         nothing ! $ move ! (3 ∷ 0 ∷ []) $ fjoin ! $ owned ! L.the_row (Is L.the_row) (LL.makes L.the_type L'.the_plain 𝓛) limits _ good-limits $ fjoin ! $ move ! (2 ∷ 0 ∷ []) $ fjoin ! $ move ! (1 ∷ 0 ∷ []) $ join ! $ frame ! $ done !
 
-  module _ (xs : List Finding) (blank-xs : xs ≡ blankList) (as_long : length xs ≡ LONGEST) where
+  module _ (xs : List Finding) (blank-xs : xs ≡ blank_list) (as_long : length xs ≡ LONGEST) where
     module _ (ans : FindingsAnswer) (ys : List Finding) (told : Says xs ans ys) (is-ans : Is R.the_row ans (EL.vals R.the_type R'.the_laws ans)) (is-ys : IsList ys (field-val ys ∷ [])) where
       abbrev listed : FindingArray
       listed = record { answer = ans; list = ys }
@@ -210,7 +210,7 @@ module _ {M : Type 1} {𝓤 : Ura M} (𝓛 : Logic 𝓤) (mem' : Memory → SPro
       exits =
           qed 𝓛 (‵ (flft κ q) ∷ ‵ Ch ∷ []) ∵
           suffices ! _ (ends_at 𝓛 f.ended stayed (f.clauses 𝓛 mem' run) (((κ, tt), (q, tt), tt, a, vals), tt) listed-val listed (tt, (tt, tt)) (tt, (tt, tt))) $
-          says ! (told.0 ∙ ap (λ (n : ℕ). shownFindings n (read limits chunk.now)) as_long, told.1 ∙ ap (λ (xs : List Finding). findingsWritten xs (read limits chunk.now)) blank-xs) $
+          says ! (told.0 ∙ ap (λ (n : ℕ). shown_findings n (read limits chunk.now)) as_long, told.1 ∙ ap (λ (xs : List Finding). findings_written xs (read limits chunk.now)) blank-xs) $
           nothing ! $ move ! (1 ∷ 0 ∷ []) $ join ! $ frame ! $ nothing ! $ owned ! L.the_row (Is L.the_row) (LL.makes L.the_type L'.the_plain 𝓛) limits _ good-limits $ fjoin ! $ move ! (1 ∷ 0 ∷ []) $ fjoin ! $
           owned ! Q.the_row (Is Q.the_row) (LL.makes Q.the_type Q'.the_plain 𝓛) listed _ made $ move ! (1 ∷ 0 ∷ []) $ done !
 
@@ -236,7 +236,7 @@ module _ {M : Type 1} {𝓤 : Ura M} (𝓛 : Logic 𝓤) (mem' : Memory → SPro
       ends α γ ans ys told is-ans =
           rewrite ! 2 (λ (n : ℕ). ‵ (flent (α ∷ []) (Held T.the_row n l₃ 0 γ))) as_long refl $
           move ! (1 ∷ []) $ lft_end ! tt $ move ! (0 ∷ 2 ∷ 1 ∷ []) $ use3 𝓛 (later (‵ ((Arr (mem T.the_row) LONGEST).own_at ys l₃ 0))) (slice_back 𝓛 T.the_row (α ∷ []) γ ys LONGEST l₃ 0) $ await ! tt $
-          use1 𝓛 (‵ (fat full_share array l₃ 0 (list-val ys)) ⊛ ‵ ((Array T.the_row LONGEST).own_val ys (vals-of ys))) (from-arr 𝓛 T.the_row tt LONGEST l₃ ys (LL.vals T.the_type T'.the_laws) (LL.tells T.the_type T'.the_laws)) $ split ! $ move ! (1 ∷ []) $
+          use1 𝓛 (‵ (fat full_share array l₃ 0 (list-val ys)) ⊛ ‵ ((Array T.the_row LONGEST).own_val ys (vals-of ys))) (from_arr 𝓛 T.the_row tt LONGEST l₃ ys (LL.vals T.the_type T'.the_laws) (LL.tells T.the_type T'.the_laws)) $ split ! $ move ! (1 ∷ []) $
           peeks ! (Array T.the_row LONGEST) (Is (Array T.the_row LONGEST)) (shows 𝓛 (Array T.the_row LONGEST)) ys (vals-of ys) (λ is-vals. drop ! $
           let spelled : vals-of ys ≡ field-val ys ∷ [] = field_vals ys (vals-of ys) is-vals in
           let is-ys : IsList ys (field-val ys ∷ []) = subst (IsList ys) spelled is-vals in
@@ -253,12 +253,12 @@ module _ {M : Type 1} {𝓤 : Ura M} (𝓛 : Logic 𝓤) (mem' : Memory → SPro
           → Sq 𝓛 (‵ ((Array T.the_row LONGEST).own_val xs (v₅ ∷ [])) ∷ ‵ (froom array l₃ 0) ∷ ‵ (flft κ q) ∷ ‵ Ch ∷ locals (‵ (froom slice l₇ 0)) (‵ (froom ref l₆ 0)) (‵ (froom R'.mir l₄ 0))) (runs C Λ En mir'.t-2 (at_ret En Post))
       begins is-xs =
           assigns ! (of_opd ! (load ! (from ! (stop !)) (look ! 8 refl))) (from ! (stop !)) (init ! 1 refl (list-wt xs v₅ is-xs)) $ move ! (1 ∷ 0 ∷ []) $
-          use2 𝓛 (‵ ((Arr (mem T.the_row) LONGEST).own_at xs l₃ 0)) (to-arr 𝓛 T.the_row tt LONGEST l₃ xs v₅) $ fsplit ! $ drop ! $
+          use2 𝓛 (‵ ((Arr (mem T.the_row) LONGEST).own_at xs l₃ 0)) (to_arr 𝓛 T.the_row tt LONGEST l₃ xs v₅) $ fsplit ! $ drop ! $
           lft_new ! tt (λ α. move ! (1 ∷ []) $
           use1 𝓛 (later (some (λ (γ : GName). ‵ (Sl xs l₃ α γ) ⊛ ‵ (flent (α ∷ []) (Held T.the_row (length xs) l₃ 0 γ))))) (lends_slice 𝓛 T.the_row (named 1) (α ∷ []) xs l₃ 0 (subst (Room T.the_row) (sym as_long) room)) $ await ! tt $ pick ! (λ γ. split ! $
           -- [the slice; the lender's part; the token; the chunk's token; the chunk; _7 at 5; …]
           assigns ! (addr ! (from ! (stop !))) (from ! (stop !)) (init ! 7 refl (tt, tt)) $
-          assigns ! (agg ! (and_then ! (load ! (from ! (stop !)) (look ! 7 refl)) (and_then ! (big-lit 𝓛 (record { fits = lit< tt })) (no_more !)))) (from ! (stop !)) (init ! 5 refl (tt, (tt, (record { fits = lit< tt }, tt)))) $
+          assigns ! (agg ! (and_then ! (load ! (from ! (stop !)) (look ! 7 refl)) (and_then ! (big_lit 𝓛 (record { fits = lit< tt })) (no_more !)))) (from ! (stop !)) (init ! 5 refl (tt, (tt, (record { fits = lit< tt }, tt)))) $
           rewrite ! 5 (λ (n : ℕ). ‵ (fat full_share slice l₇ 0 (slice_val (l₃, 0) n))) (sym as_long) refl $
           move ! (4 ∷ []) $ use1 𝓛 (‵ Ch ⊛ ‵ Ch) ((shr_slice_copy 𝓛 (named 0) κ u8).twice chunk (ch ∷ [])) $ split ! $
           -- [the chunk; the chunk; the slice; the lender's part; the token; the chunk's token; _7 at 6; …]
@@ -290,7 +290,7 @@ module _ {M : Type 1} {𝓤 : Ura M} (𝓛 : Logic 𝓤) (mem' : Memory → SPro
       -- [the chunk; the limits; the token; true; _7 at 4; …]
       use0 𝓛 (raw ((Blank 𝓛 mem' run).pre to-blank)) goes_blank $ calls_at ! fm (Blank 𝓛 mem' run) known-blank to-blank (no_more !) (λ v.
       use1 𝓛 (later (some (λ (r : List Finding). (‵ ftrue ⊛ ‵ ((Array T.the_row LONGEST).own_val r (v ∷ []))) ⊛ raw (ensured 𝓛 blank.ended (blank.clauses 𝓛 mem' run) tt tt tt r)))) (id⊢ 𝓤 _) $ await ! tt $ pick ! (λ r.
-      split ! $ move ! (1 ∷ []) $ use1 𝓛 (raw (fact 𝓤 (r ≡ blankList))) (blanked 𝓛 mem' run r) $ heard ! (r ≡ blankList) (λ e. split ! $ move ! (1 ∷ []) $
+      split ! $ move ! (1 ∷ []) $ use1 𝓛 (raw (fact 𝓤 (r ≡ blank_list))) (blanked 𝓛 mem' run r) $ heard ! (r ≡ blank_list) (λ e. split ! $ move ! (1 ∷ []) $
       peeks ! (Array T.the_row LONGEST) (Is (Array T.the_row LONGEST)) (shows 𝓛 (Array T.the_row LONGEST)) r (v ∷ []) (λ is-r.
       -- [what the array owns; true; the chunk; the limits; the token; true; _7 at 6; …; _5 at 10; …; _3 at 14; …]
       land ! (from ! (stop !)) (init ! 10 refl (list-wt r v is-r)) $

@@ -11,7 +11,7 @@ use denote.Enum.Declared.{tag_of}
 use Rattle.word_opcodes.specs.declared.opcode.Opcode54.{Opcode54}
 use Rattle.word_opcodes.specs.contracts.opcode.Opcode54 as opcode
 use Rattle.word_opcodes.proofs.Tests.{each, keyed}
-use Rattle.word_opcodes.proofs.Opcodes.{tag-number}
+use Rattle.word_opcodes.proofs.Opcodes.{tag_number}
 use Rattle.validate_rules.specs.Inner.Glance.{class_at, class_of}
 use Rattle.validate_rules.proofs.glance.class_of.Statement.{statement}
 use Rattle.validate_rules.proofs.glance.class_of.Tie as tie
@@ -24,7 +24,7 @@ places c n (suc k) = let more = places c (suc n) k in cond (eqb c (class_at n)) 
 arm : (c : ℕ) → T (each (places c 0 83) (λ n. eqb c (class_at n))) → (o : Opcode54) → OneOf (places c 0 83) (tag_of opcode.the_type o) → c ≡ class_of o
 arm c t o keys =
     let n = tag_of opcode.the_type o in
-    eqb→eq c (class_at n) (keyed (places c 0 83) (λ n. eqb c (class_at n)) t n keys) ∙ ap class_at (tag-number o)
+    eqb→eq c (class_at n) (keyed (places c 0 83) (λ n. eqb c (class_at n)) t n keys) ∙ ap class_at (tag_number o)
 
 pub class-of-spec : {M : Type 1} → statement M
 class-of-spec =

@@ -7,7 +7,7 @@ use borrow.Author.Rules.{rules}
 use borrow.Author.Tests.{ltb-true}
 use mir.Facts.{Fits-mask, Fits-and}
 use Rattle.word_opcodes.specs.Lopcodes.{SIZE-OP}
-use Rattle.validate_rules.proofs.Glances.{at-a-glance}
+use Rattle.validate_rules.proofs.Glances.{at_a_glance}
 use Rattle.validate_rules.proofs.glance.fine_at_a_glance.Statement.{statement}
 use Rattle.validate_rules.proofs.glance.fine_at_a_glance.Tie as tie
 
@@ -20,7 +20,7 @@ passed c =
     let o = k.before.before in
     let f = o.before.before in
     λ function b pc of-a of_mask of-limit e.
-    at-a-glance f.before.args.word b pc function _ (sym f.from-u8.ensures ∙ o.op.given.1) _ k.class_of.ensures.0 _ _ _ of-a of_mask of-limit (c.before.before.if1.true, ltb-true _ _ e)
+    at_a_glance f.before.args.word b pc function _ (sym f.from_u8.ensures ∙ o.op.given.1) _ k.class_of.ensures.0 _ _ _ of-a of_mask of-limit (c.before.before.if1.true, ltb-true _ _ e)
 
 pub fine-at-a-glance-spec : {M : Type 1} → statement M
 fine-at-a-glance-spec =

@@ -2,7 +2,7 @@
 use mathlib.Core.Path.{◌∙◌}
 use borrow.Author.Rules.{rules}
 use Rattle.validate_rules.specs.Rules.{instruction}
-use Rattle.validate_rules.proofs.Judging.{with-opcode}
+use Rattle.validate_rules.proofs.Judging.{with_opcode}
 use Rattle.validate_rules.proofs.judge.judge.Statement.{statement}
 use Rattle.validate_rules.proofs.judge.judge.Tie as tie
 
@@ -21,5 +21,5 @@ judge-spec =
     (λ c κs. search rules)
     (λ c. let o = c.before.before.before.before.before in
     c.both.ensures
-    ∙ with-opcode _ _ _ _ _ o.before.before.decode.ensures _ o.opcode.given.1 _ c.before.before.before.register-rule.ensures
+    ∙ with_opcode _ _ _ _ _ o.before.before.decode.ensures _ o.opcode.given.1 _ c.before.before.before.register-rule.ensures
     _ c.before.before.check-of.ensures _ c.before.operand-rule.ensures))

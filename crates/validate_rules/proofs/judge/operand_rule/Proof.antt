@@ -4,7 +4,7 @@ use mathlib.Core.Path.{ap, ◌∙◌}
 use mir.Syntax.{w32}
 use mir.Val.{SFits}
 use mir.Facts.{to_z-of_z}
-use Rattle.validate_rules.specs.Rules.{jumpRule}
+use Rattle.validate_rules.specs.Rules.{jump_rule}
 use Rattle.validate_rules.proofs.judge.operand_rule.Statement.{statement}
 use Rattle.validate_rules.proofs.judge.operand_rule.Tie as tie
 
@@ -15,7 +15,7 @@ jumps : tie.Need-returns-7
 jumps c =
     let s = c.before.before.before.before in
     rw c.before.before.enum-told7.given.1
-    (c.jump-rule.ensures ∙ ap (λ z. jumpRule s.args.pc z s.args.bounds.instructions) (to_z-of_z {w = w32} (sj-fits s)))
+    (c.jump-rule.ensures ∙ ap (λ z. jump_rule s.args.pc z s.args.bounds.instructions) (to_z-of_z {w = w32} (sj-fits s)))
 
 pub operand-rule-spec : {M : Type 1} → statement M
 operand-rule-spec =

@@ -10,7 +10,7 @@ use Prim.Native.Nat.{◌-◌}
 use Rattle.validate_rules.specs.Rules.{instruction}
 use Rattle.validate_rules.specs.Inner.Judged.{group_of}
 use Rattle.validate_search.specs.Inner.Position.{code_at}
-use Rattle.validate_search.proofs.Laws.{Stands, word-there, passes, finds, ends}
+use Rattle.validate_search.proofs.Laws.{Stands, word_there, passes, finds, ends}
 use Rattle.validate_search.proofs.scan.scan.Statement.{statement}
 use Rattle.validate_search.proofs.scan.scan.Tie as tie
 
@@ -30,7 +30,7 @@ there : tie.Need-u32-at-requires invariant-loop decreases-loop
 there c κs =
     let l = c.before in
     let a = l.before.before.before.before.before.before.before.before.before.before.args in
-    word-there a.s.now a.c _ l.loop.at l.loop.pc l.loop.invariant c.loop-test.true
+    word_there a.s.now a.c _ l.loop.at l.loop.pc l.loop.invariant c.loop-test.true
 
 wrong : tie.Need-returns-2 invariant-loop decreases-loop
 wrong c =

@@ -2,13 +2,13 @@
 use native.Mathlib.Omega.{arith}
 use borrow.Author.Rules.{rules}
 use Rattle.validate_search.specs.Inner.Position.{out_of}
-use Rattle.validate_search.proofs.Laws.{limited-full}
+use Rattle.validate_search.proofs.Laws.{limited_full}
 use Rattle.validate_search.proofs.search.advance.Statement.{statement}
 use Rattle.validate_search.proofs.search.advance.Tie as tie
 
 returns : tie.Need-returns
 unfolding out_of
-returns c = let a = c.before.before.before.before.before.before.before.args in rw (c.before.before.before.before.enum_told.given.1, limited-full a.max a.p.found _ (omega (arith, c.before.before.if1.true)), c.done.ensures, c.before.stops.ensures)
+returns c = let a = c.before.before.before.before.before.before.before.args in rw (c.before.before.before.before.enum_told.given.1, limited_full a.max a.p.found _ (omega (arith, c.before.before.if1.true)), c.done.ensures, c.before.stops.ensures)
 
 search-requires : tie.Need-search-requires
 search-requires c κs = search rules

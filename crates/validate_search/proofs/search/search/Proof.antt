@@ -10,14 +10,14 @@ use lib.ListN.{length-set}
 use lib.ListN as lists
 use Rattle.read_next.specs.Inner.Rows.{LEVELS, rows_from}
 use Rattle.validate_rules.specs.Findings.{limited}
-use Rattle.validate_search.specs.Inner.Position.{codeLeft, rowGroups, goesOn, out_of}
-use Rattle.validate_search.proofs.Laws.{limited-found, limited-fine, limited-none, limited-enter}
+use Rattle.validate_search.specs.Inner.Position.{code_left, row_groups, goes_on, out_of}
+use Rattle.validate_search.proofs.Laws.{limited-found, limited_fine, limited-none, limited_enter}
 use Rattle.validate_search.proofs.search.search.Statement.{statement}
 use Rattle.validate_search.proofs.search.search.Tie as tie
 
 abbrev invariant-loop : tie.invariant-loop
 invariant-loop s limits max p left₀ depth₀ at₀ number₀ code₀ left depth at number code =
-    (lists.length left ≡ LEVELS + 1) × (goesOn limits s max p ≡ limited max p.found (codeLeft s code ++ rowGroups s number (rows_from limits s left depth at.at)))
+    (lists.length left ≡ LEVELS + 1) × (goes_on limits s max p ≡ limited max p.found (code_left s code ++ row_groups s number (rows_from limits s left depth at.at)))
 
 abbrev decreases-loop : tie.decreases-loop
 decreases-loop s limits max p left₀ depth₀ at₀ number₀ code₀ left depth at number code = lists.length (rows_from limits s left depth at.at)
@@ -30,13 +30,13 @@ returns c =
     let got = f.first.given.0 in
     rw (
       l.loop.invariant.1,
-      limited-found _ _ l.before.before.before.before.before.requires.0 _ _ (codeLeft _ got.1.1.0) got.0 got.1.0
+      limited-found _ _ l.before.before.before.before.before.requires.0 _ _ (code_left _ got.1.1.0) got.0 got.1.0
           (rw f.first.given.1 at f.before.before.scan.ensures),
       c.counted.ensures,
     )
 
 returns-2 : tie.Need-returns-2 invariant-loop decreases-loop
-unfolding rowGroups
+unfolding row_groups
 returns-2 c =
     let n = c.before.before.before in
     let e = n.before.before in
@@ -44,7 +44,7 @@ returns-2 c =
     let room = l.before.before.before.before.before.requires.0 in
     rw (
       l.loop.invariant.1,
-      limited-fine _ _ room _ _ (rw e.enum_told.given.1 at e.before.before.scan.ensures),
+      limited_fine _ _ room _ _ (rw e.enum_told.given.1 at e.before.before.scan.ensures),
       n.next-function.ensures.0,
       c.before.enum-told2.given.1,
       limited-none _ _ room,
@@ -73,10 +73,10 @@ loop-again c =
       rw (down.ensures, length-set, length-set) l.loop.invariant.0,
       rw (
         l.loop.invariant.1,
-        limited-fine _ _ room _ _ (rw e.enum_told.given.1 at e.before.before.scan.ensures),
+        limited_fine _ _ room _ _ (rw e.enum_told.given.1 at e.before.before.scan.ensures),
         n.next-function.ensures.0,
         r.row.given.1,
-        limited-enter _ _ room,
+        limited_enter _ _ room,
         c.next-number.ensures,
         c.before.enter.ensures,
         down.ensures,

@@ -7,9 +7,9 @@ use lib.Dec.{lit<}
 use mir.Facts.{Fits-mask}
 use borrow.Author.Rules.{rules}
 use Rattle.word_opcodes.specs.Lopcodes.{SIZE-OP, SIZE-A, SIZE-B, SIZE-C, SIZE-Bx, SIZE-Ax, SIZE-sJ, POS-A, POS-k, POS-B, POS-C, POS-Bx, POS-Ax, POS-sJ}
-use Rattle.word_opcodes.specs.Table.{opcodeAt}
+use Rattle.word_opcodes.specs.Table.{opcode_at}
 use Rattle.word_fields.specs.Word.{decoded}
-use Rattle.word_fields.proofs.Signs.{mask-signed, less-fits, less-is}
+use Rattle.word_fields.proofs.Signs.{mask_signed, less_fits, less_is}
 use Rattle.word_fields.proofs.instruction.RawInstruction54.decode.Statement.{statement}
 use Rattle.word_fields.proofs.instruction.RawInstruction54.decode.Tie as tie
 
@@ -20,17 +20,17 @@ returns c =
     let low = and_mask w SIZE-OP ∙ ap (λ x. x % 2 ^ SIZE-OP) (sym (div-one w)) in
     λ i. record {
       opcode_num = low i;
-      opcode = (c.from-u8.ensures ∙ ap opcodeAt low) i;
+      opcode = (c.from_u8.ensures ∙ ap opcode_at low) i;
       a = and_mask (w / 2 ^ POS-A) SIZE-A i;
       k = and_mask (w / 2 ^ POS-k) 1 i;
       b = and_mask (w / 2 ^ POS-B) SIZE-B i;
-      sb = less-is (w / 2 ^ POS-B) SIZE-B 126 tt (lit< tt) i;
+      sb = less_is (w / 2 ^ POS-B) SIZE-B 126 tt (lit< tt) i;
       c = and_mask (w / 2 ^ POS-C) SIZE-C i;
-      sc = less-is (w / 2 ^ POS-C) SIZE-C 126 tt (lit< tt) i;
+      sc = less_is (w / 2 ^ POS-C) SIZE-C 126 tt (lit< tt) i;
       bx = and_mask (w / 2 ^ POS-Bx) SIZE-Bx i;
-      sbx = less-is (w / 2 ^ POS-Bx) SIZE-Bx 65534 tt (lit< tt) i;
+      sbx = less_is (w / 2 ^ POS-Bx) SIZE-Bx 65534 tt (lit< tt) i;
       ax = and_mask (w / 2 ^ POS-Ax) SIZE-Ax i;
-      sj = less-is (w / 2 ^ POS-sJ) SIZE-sJ 16777214 tt (lit< tt) i;
+      sj = less_is (w / 2 ^ POS-sJ) SIZE-sJ 16777214 tt (lit< tt) i;
     }
 
 pub decode-spec : {M : Type 1} → statement M
@@ -42,13 +42,13 @@ decode-spec =
     (λ c. Fits-mask (c.before.args.word / 2 ^ POS-A) SIZE-A tt)
     (λ c. Fits-mask (c.before.args.word / 2 ^ POS-k) 1 tt)
     (λ c. Fits-mask (c.before.args.word / 2 ^ POS-B) SIZE-B tt)
-    (λ c. mask-signed (c.before.args.word / 2 ^ POS-B) SIZE-B tt)
-    (λ c. less-fits (c.before.args.word / 2 ^ POS-B) SIZE-B 126 tt (lit< tt))
+    (λ c. mask_signed (c.before.args.word / 2 ^ POS-B) SIZE-B tt)
+    (λ c. less_fits (c.before.args.word / 2 ^ POS-B) SIZE-B 126 tt (lit< tt))
     (λ c. Fits-mask (c.before.args.word / 2 ^ POS-C) SIZE-C tt)
-    (λ c. mask-signed (c.before.args.word / 2 ^ POS-C) SIZE-C tt)
-    (λ c. less-fits (c.before.args.word / 2 ^ POS-C) SIZE-C 126 tt (lit< tt))
-    (λ c. mask-signed (c.before.args.word / 2 ^ POS-Bx) SIZE-Bx tt)
-    (λ c. less-fits (c.before.args.word / 2 ^ POS-Bx) SIZE-Bx 65534 tt (lit< tt))
-    (λ c. mask-signed (c.before.args.word / 2 ^ POS-sJ) SIZE-sJ tt)
-    (λ c. less-fits (c.before.args.word / 2 ^ POS-sJ) SIZE-sJ 16777214 tt (lit< tt))
+    (λ c. mask_signed (c.before.args.word / 2 ^ POS-C) SIZE-C tt)
+    (λ c. less_fits (c.before.args.word / 2 ^ POS-C) SIZE-C 126 tt (lit< tt))
+    (λ c. mask_signed (c.before.args.word / 2 ^ POS-Bx) SIZE-Bx tt)
+    (λ c. less_fits (c.before.args.word / 2 ^ POS-Bx) SIZE-Bx 65534 tt (lit< tt))
+    (λ c. mask_signed (c.before.args.word / 2 ^ POS-sJ) SIZE-sJ tt)
+    (λ c. less_fits (c.before.args.word / 2 ^ POS-sJ) SIZE-sJ 16777214 tt (lit< tt))
     returns)

@@ -4,7 +4,7 @@ use mir.Syntax.{w32}
 use mir.Val.{SFits}
 use mir.Facts.{to_z-of_z}
 use borrow.Author.Rules.{rules}
-use Rattle.word_fields.specs.Word.{byOpcode, encodedIAsBx, encodedIsJ, encoded}
+use Rattle.word_fields.specs.Word.{by_opcode, encodedIAs_bx, encoded_isJ, encoded}
 use Rattle.word_fields.proofs.Words.{chosen}
 use Rattle.word_fields.proofs.instruction.RawInstruction54.encode.Statement.{statement}
 use Rattle.word_fields.proofs.instruction.RawInstruction54.encode.Tie as tie
@@ -17,7 +17,7 @@ sj-fits c = search rules
 
 refused : tie.Need-returns
 unfolding encoded
-refused c = ap (λ x. byOpcode x c.before.before.args.self) (sym c.enum_told.given.1)
+refused c = ap (λ x. by_opcode x c.before.before.args.self) (sym c.enum_told.given.1)
 
 abc : tie.Need-returns-2
 abc c =
@@ -25,7 +25,7 @@ abc c =
     let o = m.before.before in
     let s = o.before.before in
     chosen s.args.self o.opcode.given.1 m.mode.ensures c.before.enum-told2.given.1
-    c.encode-iabc.ensures
+    c.encode_iabc.ensures
 
 abx : tie.Need-returns-3
 abx c =
@@ -33,7 +33,7 @@ abx c =
     let o = m.before.before in
     let s = o.before.before in
     chosen s.args.self o.opcode.given.1 m.mode.ensures c.before.enum-told3.given.1
-    c.encode-iabx.ensures
+    c.encode_iabx.ensures
 
 asbx : tie.Need-returns-4
 asbx c =
@@ -41,7 +41,7 @@ asbx c =
     let o = m.before.before in
     let s = o.before.before in
     chosen s.args.self o.opcode.given.1 m.mode.ensures c.before.before.enum-told4.given.1
-    (c.encode-iasbx.ensures ∙ ap (encodedIAsBx o.opcode.given.0.0 s.args.self.a) (to_z-of_z {w = w32} (sbx-fits s)))
+    (c.encode_iasbx.ensures ∙ ap (encodedIAs_bx o.opcode.given.0.0 s.args.self.a) (to_z-of_z {w = w32} (sbx-fits s)))
 
 ax : tie.Need-returns-5
 ax c =
@@ -49,7 +49,7 @@ ax c =
     let o = m.before.before in
     let s = o.before.before in
     chosen s.args.self o.opcode.given.1 m.mode.ensures c.before.enum-told5.given.1
-    c.encode-iax.ensures
+    c.encode_iax.ensures
 
 sj : tie.Need-returns-6
 sj c =
@@ -57,7 +57,7 @@ sj c =
     let o = m.before.before in
     let s = o.before.before in
     chosen s.args.self o.opcode.given.1 m.mode.ensures c.before.before.enum-told6.given.1
-    (c.encode-isj.ensures ∙ ap (encodedIsJ o.opcode.given.0.0) (to_z-of_z {w = w32} (sj-fits s)))
+    (c.encode_isj.ensures ∙ ap (encoded_isJ o.opcode.given.0.0) (to_z-of_z {w = w32} (sj-fits s)))
 
 pub encode-spec : {M : Type 1} → statement M
 encode-spec =

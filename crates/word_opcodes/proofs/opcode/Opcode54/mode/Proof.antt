@@ -11,30 +11,30 @@ use denote.Enum.Declared.{tag_of}
 use Rattle.word_opcodes.specs.declared.opcode.Opcode54.{Opcode54}
 use Rattle.word_opcodes.specs.declared.opcode.OpMode54.{OpMode54}
 use Rattle.word_opcodes.specs.declared.opcode.OpMode54.TheVariants.{IABC, IABx, IAsBx, IAx, IsJ}
-use Rattle.word_opcodes.specs.Lopcodes.{iABC, luaP-opmodes}
-use Rattle.word_opcodes.specs.Table.{modes, modeNumber, mode_of}
+use Rattle.word_opcodes.specs.Lopcodes.{iABC, luaP_opmodes}
+use Rattle.word_opcodes.specs.Table.{modes, mode_number, mode_of}
 use Rattle.word_opcodes.specs.contracts.opcode.Opcode54.{the_type}
 use Rattle.word_opcodes.proofs.Tests.{each, keyed}
-use Rattle.word_opcodes.proofs.Opcodes.{tag-number}
+use Rattle.word_opcodes.proofs.Opcodes.{tag_number}
 use Rattle.word_opcodes.proofs.opcode.Opcode54.mode.Statement.{statement}
 use Rattle.word_opcodes.proofs.opcode.Opcode54.mode.Tie as tie
 
 -- the numbers from n on at which a list of modes' numbers has m's
 abbrev places : OpMode54 → ℕ → List ℕ → List ℕ
 places m n [] = []
-places m n (x ∷ xs) = let more = places m (suc n) xs in cond (eqb (modeNumber m) x) (n ∷ more) more
+places m n (x ∷ xs) = let more = places m (suc n) xs in cond (eqb (mode_number m) x) (n ∷ more) more
 
 abbrev is : OpMode54 → ℕ → Bool
-is m n = eqb (modeNumber m) (get_or luaP-opmodes n iABC)
+is m n = eqb (mode_number m) (get_or luaP_opmodes n iABC)
 
-arm : (m : OpMode54) → get_or modes (modeNumber m) IABC ≡ m → T (each (places m 0 luaP-opmodes) (is m)) → (o : Opcode54)
-    → OneOf (places m 0 luaP-opmodes) (tag_of the_type o) → m ≡ mode_of o
+arm : (m : OpMode54) → get_or modes (mode_number m) IABC ≡ m → T (each (places m 0 luaP_opmodes) (is m)) → (o : Opcode54)
+    → OneOf (places m 0 luaP_opmodes) (tag_of the_type o) → m ≡ mode_of o
 arm m e t o k =
     let n = tag_of the_type o in
-    let has : modeNumber m ≡ get_or luaP-opmodes n iABC = eqb→eq _ _ (keyed (places m 0 luaP-opmodes) (is m) t n k) in
+    let has : mode_number m ≡ get_or luaP_opmodes n iABC = eqb→eq _ _ (keyed (places m 0 luaP_opmodes) (is m) t n k) in
     sym e
     ∙ ap (λ x. get_or modes x IABC) has
-    ∙ ap (λ n. get_or modes (get_or luaP-opmodes n iABC) IABC) (tag-number o)
+    ∙ ap (λ n. get_or modes (get_or luaP_opmodes n iABC) IABC) (tag_number o)
 
 pub mode-spec : {M : Type 1} → statement M
 mode-spec =

@@ -34,7 +34,7 @@ use denote.Triple.Table.{entered}
 use denote.Triple.Walked.{says, Stays, stay_none, walk_of, Goes-none, Walks, ends_at, walked, walk_Meets}
 use denote.Exit.{yes}
 use Rattle.word_opcodes.specs.declared.opcode.Opcode54.{Opcode54}
-use Rattle.word_opcodes.proofs.Opcodes.{tag-number, number_lt}
+use Rattle.word_opcodes.proofs.Opcodes.{tag_number, number_lt}
 use Rattle.word_opcodes.specs.contracts.opcode.Opcode54 as T
 use Rattle.word_opcodes.proofs.opcode.Opcode54.TheLaws as T'
 use Rattle.word_opcodes.specs.contracts.opcode.Opcode54.number.Key.{name as #number}
@@ -43,7 +43,7 @@ use Rattle.word_opcodes.proofs.opcode.Opcode54.number.Statement as stated
 use Rattle.word_opcodes.proofs.opcode.Opcode54.number.Code as code
 
 tag-lt : (o : Opcode54) → tag_of T.the_type o < 2 ^ 8
-tag-lt o = omega (arith, tag-number o, number_lt o)
+tag-lt o = omega (arith, tag_number o, number_lt o)
 
 abbrev stayed : Stays (number.ended).signature.params (number.ended).kept
 stayed = (stay_none (λ _. T.the_row) yes, tt)
@@ -60,7 +60,7 @@ module _ {M : Type 1} {𝓤 : Ura M} (𝓛 : Logic 𝓤) (mem : Memory → SProp
   exits : ent 𝓤 (sem 𝓛 ((T.the_row).own_val o (mach ∷ []))) (Post (vint w8 (tag_of T.the_type o)))
   exits =
       qed 𝓛 (‵ ((T.the_row).own_val o (mach ∷ [])) ∷ []) ∵
-      suffices ! _ (ends_at 𝓛 number.ended stayed (number.clauses 𝓛 mem run) ((tt, tt, tt, (o, tt), (mach ∷ [], tt)), tt) (vint w8 (tag_of T.the_type o)) (tag_of T.the_type o) (tt, tt) (tt, tt)) $ says ! (tag-number o) $
+      suffices ! _ (ends_at 𝓛 number.ended stayed (number.clauses 𝓛 mem run) ((tt, tt, tt, (o, tt), (mach ∷ [], tt)), tt) (vint w8 (tag_of T.the_type o)) (tag_of T.the_type o) (tt, tt) (tt, tt)) $ says ! (tag_number o) $
       nothing ! $ move ! (1 ∷ 0 ∷ []) $ fjoin ! $ owned ! u8 (Is u8) (uint_Makes 𝓛 w8) (tag_of T.the_type o) _ (refl, tag-lt o) $ move ! (1 ∷ 0 ∷ []) $ nothing ! $ done !
 
   module _ (C : Calls 𝓤 H) (Λ : Loops 𝓤 H) where
