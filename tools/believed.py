@@ -23,20 +23,20 @@ import sys
 ROOT = os.path.join(os.path.dirname(os.path.abspath(__file__)), '..')
 # demand -> its promises: the public theorems of crates/CRATE/proofs/FILE.antt, or those that are named behind a colon
 PROMISES = {
-    'demand 1': ['demands/Demand1', 'demands/Order', 'demands/AtOneByte', 'demands/CutShort', 'demands/Continued:continues endless-lacks not-endless', 'demands/ByLimits:by-the-limits by-the-file not-vague',
-                 'demands/Blame:blames', 'demands/Fault:limits-only', 'demands/Mends:mends', 'demands/Blamed:read-named', 'demands/HeaderPlaces:header-places', 'demands/Ample:unlimited', 'demands/Exactly', 'demands/Accepted',
+    'demand 1': ['demands/Demand1', 'demands/Order', 'demands/AtOneByte', 'demands/CutShort', 'demands/Continued:continues endless_lacks not_endless', 'demands/ByLimits:by_the_limits by_the_file not_vague',
+                 'demands/Blame:blames', 'demands/Fault:limits_only', 'demands/Mends:mends', 'demands/Blamed:read_named', 'demands/HeaderPlaces:header-places', 'demands/Ample:unlimited', 'demands/Exactly', 'demands/Accepted',
                  'demands/ByC', 'demands/RefusedAt', 'demands/PartsInOrder', 'demands/Printed', 'format/RefusalNumbers', 'c_boundary/Numbers'],
-    'demand 2': ['demands/Demand2', 'demands/More', 'demands/Demand2C', 'demands/Promise', 'demands/Request07:strict-as-lua strict-then-read only-besides', 'format_lua/LdumpWhole:copy-as-dumped copy-as-stripped',
-                 'word_fields/Macros', 'word_fields/Created', 'word_fields/RoundTrip:same-word', 'word_opcodes/Opcodes', 'line_lookup/Ldebug:same-line'],
-    'demand 3': ['demands/Demand3', 'demands/ShownAt:shown-at', 'demands/Same:header-fixed same-exactly', 'demands/Complete'],
+    'demand 2': ['demands/Demand2', 'demands/More', 'demands/Demand2C', 'demands/Promise', 'demands/Request07:strict_as_lua strict_then_read only_besides', 'format_lua/LdumpWhole:copy_as_dumped copy_as_stripped',
+                 'word_fields/Macros', 'word_fields/Created', 'word_fields/RoundTrip:same_word', 'word_opcodes/Opcodes', 'line_lookup/Ldebug:same_line'],
+    'demand 3': ['demands/Demand3', 'demands/ShownAt:shown-at', 'demands/Same:header_fixed same_exactly', 'demands/Complete'],
     'demand 3 by the calls': ['demands/ByCalls'],
     'request 1': ['demands/Request01'],
     'request 2': ['demands/Request02', 'demands/AfterCounts'],
     'request 3': ['demands/Request03'],
     'request 4': ['demands/Request04'],
     'request 5': ['demands/Request05'],
-    'request 6': ['demands/Request06', 'demands/SameInFull:same-in-full', 'format_lua/LdumpFull:full-as-dumped short-object no-object one-object'],
-    'request 7': ['demands/Request07', 'demands/StrictOrder', 'demands/StrictBlame:strict-blames', 'demands/StrictFault:strict-limits-only', 'demands/StrictMends:strict-mends', 'demands/Blamed:strict-named', 'demands/HeaderPlaces:strict-header-places', 'demands/Ample:strict-unlimited', 'format_strict/StrictAgrees:strict-agrees besides', 'format_lua/StrictLoaded:strict-as-loaded'],
+    'request 6': ['demands/Request06', 'demands/SameInFull:same_in_full', 'format_lua/LdumpFull:full_as_dumped short-object no_object one-object'],
+    'request 7': ['demands/Request07', 'demands/StrictOrder', 'demands/StrictBlame:strict_blames', 'demands/StrictFault:strict_limits_only', 'demands/StrictMends:strict_mends', 'demands/Blamed:strict_named', 'demands/HeaderPlaces:strict_header-places', 'demands/Ample:strict_unlimited', 'format_strict/StrictAgrees:strict_agrees besides', 'format_lua/StrictLoaded:strict_as_loaded'],
 }
 # the table of docs/PROOF.md: what a group of files says, and the files; what is reached and named nowhere here comes last
 GROUPS = [
@@ -51,7 +51,7 @@ GROUPS = [
     ('the findings of an instruction and of a chunk, the stop, the verdict; the same as loops, as the Rust has them', 'validate_rules/specs: Rules Findings Rust; format/specs: Any; validate_verdict/specs: Answers; validate_plan/specs: Validated; validate_findings/specs: Blank'),
     ('instruction words; lopcodes.h', 'word_opcodes/specs: Table Lopcodes; word_fields/specs: Word; word_fields/proofs: Ranges Words Macros Created'),
     ('for who links from C: limits, refusals and answers as numbers; parts at a place, with the readers of a function in two parts', 'c_boundary/specs: Status; c_boundary/proofs: Numbers; c_words/specs: Words; c_entries/specs: EntryNumbers; c_numbers/specs: Numbers; c_finding/specs: FindingNumbers; c_findings/specs: FindingNumbers; lafzimdo/specs: Answers Version; c_parts/specs: PartNumbers; c_entries_at/specs: EntryNumbers; read_prototype/specs: Front Parts PartsShown; read_entry/specs: Readers'),
-    ('what `chunklist` prints', 'chunklist_listing/specs: Listing; chunklist_lines/specs: Lines; format/specs: Ascii; text_print/specs: Output'),
+    ('what `chunklist` prints', 'chunklist_listing/specs: Listing; chunklist_lines/specs: Lines; format/specs: Ascii; text_print/specs: Output Digits'),
     ("Lua's own loader, dumper and line lookup, close to the C", 'format_lua/specs: Lundump LundumpFunctions LundumpWithin Ldump LdumpFunctions; line_lookup/specs: Ldebug; format_lua/proofs: LdumpChunk LdumpWhole LdumpFull; line_lookup/proofs: Ldebug Rising'),
     ("words of demand 1's statements: a call's conditions in order; what a refusal is about", 'demands/proofs: Refused Causes InOrder Early Order AtOneByte CutShort Continued ByLimits Blame Fault Mends Blamed HeaderPlaces Ample Exactly Accepted ByC RefusedAt PartsInOrder Printed Demand1; format/proofs: RefusalNumbers'),
     ("words of demand 2's statements: a whole contract", 'demands/proofs: Promise Demand2 Demand2C'),
@@ -140,7 +140,7 @@ class File:
             for depth, telescope in around:
                 words |= telescope
             if 'do' in words:
-                words.update(('_>>=_', '_>>_'))
+                words.update(('◌>>=◌', '◌>>◌'))
             self.items.setdefault(name, (lines, words, whole))
             if record == 'data ':
                 for j in body[1:]:
@@ -166,7 +166,7 @@ def resolve(f, word):
         path = f.aliases.get(first)
     if path is None:
         return None
-    m = re.match(r'Rattle·([a-z_0-9]+?)(?:·(?:specs|proofs))?\.(specs|proofs)\.(.+)$', path)
+    m = re.match(r'Rattle\.(\w+)\.(specs|proofs)\.(.+)$', path)
     g = m and FILES.get((m.group(1), m.group(2), m.group(3)))
     return (g, name) if g and name in g.items else None
 
@@ -179,7 +179,8 @@ def reached(roots):
             continue
         seen.add((f.key, name))
         for w in f.items[name][1]:
-            for v in {w, w.lstrip('.'), '_' + w + '_'}:
+            # (`x.f` is a field of x, but where x names a module)
+            for v in {w, '◌' + w + '◌', *([] if w.split('.')[0] in f.aliases else w.split('.'))}:
                 r = resolve(f, v)
                 if r:
                     todo.append(r)
@@ -193,8 +194,9 @@ def types_of(seen):
         f = FILES[key]
         for w in f.items[name][1]:
             for v in {w, w.split('.')[0]}:
-                m = re.match(r'Rattle·(\w+?)(?:·(?:specs|proofs))?\.specs\.declared\.([\w.]*?)(\w+)(?:\.the-variants)?$', f.names.get(v) or f.aliases.get(v) or '')
-                if m:
+                m = re.match(r'Rattle\.(\w+)\.specs\.declared\.([\w.]*?)(\w+)(?:\.TheVariants)?$', f.names.get(v) or f.aliases.get(v) or '')
+                # (the kit's own types, as std's, are not counted)
+                if m and os.path.isdir(os.path.join(ROOT, 'crates', m.group(1))):
                     named.add((m.group(1), m.group(2).rstrip('.').replace('.', '/') or 'lib', m.group(3)))
     for crate, module, name in named:
         text = open(os.path.join(ROOT, 'crates', crate, 'src', module + '.rt'), encoding='utf-8').read()
@@ -265,7 +267,7 @@ def cited(text):
                 f = FILES.get((crate, kind, m.group(3))) or FILES.get(('demands', 'proofs', m.group(3)))
                 if not f:
                     bad.append(f'no file {m.group(3)}.antt in crates/{folder}')
-            elif m.group(4) and f and re.fullmatch(r'[a-z0-9]+(-[a-z0-9]+)+', m.group(4)) and m.group(4) not in f.items:
+            elif m.group(4) and f and re.fullmatch(r'[a-z0-9]+([-_][a-z0-9]+)+', m.group(4)) and m.group(4) not in f.items and m.group(4) not in f.names:
                 bad.append(f'{m.group(4)} is not in {os.path.relpath(f.path, ROOT)}')
     return bad
 
@@ -278,23 +280,34 @@ def methods(crate, path):
     return [f'{path}::{m}' for body in found for m in re.findall(r'^    pub fn (\w+)', body, re.M)]
 
 
+def handed_on(text):
+    """What the `pub use` lines of that text hand on, each by its whole path."""
+    found = []
+    for start, group, last in re.findall(r'^pub use ([\w:]+?)(?:::\{([^}]*)\}|::(\w+));', text, re.M):
+        found += [f'{start}::{name.strip()}' for name in (group or last).split(',') if name.strip()]
+    return found
+
+
 def facade():
     """Calls of Demand2.antt (but for the inner part of a program) that crate lua54 lacks, and functions that it hands on and no promise speaks of."""
-    names = open(os.path.join(ROOT, 'crates/lua54/src/lib.rt'), encoding='utf-8').read()
+    handed = handed_on(open(os.path.join(ROOT, 'crates/lua54/src/lib.rt'), encoding='utf-8').read())
     text = '\n'.join(FILES[('demands', 'proofs', 'Demand2')].lines)
     bad = []
-    for m in re.finditer(r'^use Rattle·(\w+)\.proofs\.([\w.]+) as (\S+)-call$', text, re.M):
+    for m in re.finditer(r'^use Rattle\.(\w+)\.proofs\.([\w.]+) as (\S+)-[cC]all$', text, re.M):
         path = m.group(1) + '::' + m.group(2).replace('.', '::')
-        if f': PromiseWhere {m.group(3)}-call' not in text and f'pub use {path};' not in names and f'pub use {path.rpartition("::")[0]};' not in names:
+        if not re.search(r' Promise(?:Where|Given) \(?' + re.escape(m.group(3)) + r'-contract\.ended ', text) and path not in handed and path.rpartition('::')[0] not in handed:
             bad.append(f'crates/lua54 has no {path}')
     promised = set()
     for f in FILES.values():
         if f.key[:2] == ('demands', 'proofs'):
             text = '\n'.join(f.lines)
-            promised |= {name for name, call in re.findall(r'^use Rattle·(\w+\.proofs\.[\w.]+) as (\S+-call)$', text, re.M) if re.search(r': Promise(Where)? ' + re.escape(call) + r'\.ended ', text)}
-    for crate, path in re.findall(r'^pub use (\w+)::([\w:]+);$', names, re.M):
+            for name, call in re.findall(r'^use Rattle\.(\w+\.specs\.contracts\.[\w.]+) as (\S+)-contract$', text, re.M):
+                if re.search(r': Promise(Where)? {0}-contract\.ended {0}-[cC]all\.Symbol\.code {0}-[cC]all\.Symbol\.name '.format(re.escape(call)), text):
+                    promised.add(name.replace('.specs.contracts.', '::').replace('.', '::'))
+    for whole in handed:
+        crate, _, path = whole.partition('::')
         for name in [path] if path.rpartition('::')[2][0].islower() else methods(crate, path):
-            if f'{crate}.proofs.{name.replace("::", ".")}' not in promised:
+            if f'{crate}::{name}' not in promised:
                 bad.append(f'no promise of {crate}::{name}, which crate lua54 hands on')
     return bad
 
