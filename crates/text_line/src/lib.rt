@@ -1,15 +1,17 @@
-// The lines of standard input, found in a buffer that is filled piece by piece.
+// The lines of an input, found in a buffer that is filled piece by piece.
+#![tactic(auto)]
+
 ghost use Rattle.std.specs.Prelude.{◌≡◌, ℕ, ◌+◌, ◌≤◌, ◌<◌, length, get_or};
 ghost use Rattle.text_line.specs.Inner.Lines.{Held, Within};
 
-use libc::STDIN_FILENO;
+use std::io::Read;
 
 // The longest request, without its newline.
 pub const LONGEST: usize = 1048576;
 
 // How far the input is read: bytes start to end of the buffer wait for their answer, and those
 // from start to seen have no newline.
-#[derive(Drop)]
+#[derive(Clone, Copy)]
 pub struct Lines {
     pub start: usize,
     pub seen: usize,
@@ -20,7 +22,7 @@ pub struct Lines {
     pub done: bool,
 }
 
-#[derive(Drop)]
+#[derive(Clone, Copy)]
 pub enum Found {
     // A line, or so much of one that it is no request, however it goes on.
     Line,
@@ -31,7 +33,7 @@ pub enum Found {
 }
 
 // What was found, the line's bytes where there is one, and what is left.
-#[derive(Drop)]
+#[derive(Clone, Copy)]
 pub struct Step {
     pub found: Found,
     pub from: usize,
@@ -56,7 +58,7 @@ impl Lines {
 
 // One step: the next line, or one more read. A byte is looked at once. What waits is moved only
 // where the buffer is full, and is then at most half of it, so that a byte is moved once or less.
-pub fn next(buf: &mut [u8], l: Lines) -> Step
+pub fn next<R: Read>(input: &mut R, buf: &mut [u8], l: Lines) -> Step
     requires { Held l (length buf.old) }
     ensures { Within result (length buf.new) }
 {
@@ -71,7 +73,7 @@ pub fn next(buf: &mut [u8], l: Lines) -> Step
         return passed(l);
     }
     let l = room(buf, l);
-    let rest = filled(buf, l);
+    let rest = filled(input, buf, l);
     Step {
         found: Found::Nothing,
         from: 0,
@@ -195,12 +197,12 @@ fn shift(buf: &mut [u8], from: usize, to: usize)
 }
 
 // One read behind what waits, in which no newline was found.
-fn filled(buf: &mut [u8], l: Lines) -> Lines
+fn filled<R: Read>(input: &mut R, buf: &mut [u8], l: Lines) -> Lines
     requires { Held l (length buf.old) }
     ensures { Held result (length buf.new) }
 {
     let end = l.end;
-    let n = read(&mut buf[end..]);
+    let n = read(input, &mut buf[end..]);
     Lines {
         start: l.start,
         seen: end,
@@ -211,9 +213,11 @@ fn filled(buf: &mut [u8], l: Lines) -> Lines
 }
 
 // Reads once. A read that fails counts as the end of the input.
-fn read(buf: &mut [u8]) -> usize
+fn read<R: Read>(input: &mut R, buf: &mut [u8]) -> usize
     ensures { result ≤ length buf.new }
 {
-    let got = libc::read(STDIN_FILENO, buf);
-    io::count(got, buf)
+    match input.read(buf) {
+        Ok(n) => n,
+        Err(_) => 0,
+    }
 }
