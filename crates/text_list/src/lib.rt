@@ -1,5 +1,6 @@
 // Lists of numbers, put together from numbers and from parts of memory. A list that is full takes no more, and nothing is asked of a caller.
 // Memory is lent with 165 in every place, so that it shows what a call wrote.
+#![tactic(auto)]
 
 ghost use Rattle.std.specs.Prelude.{◌≡◌, ◌+◌, ◌≤◌, ◌<◌, set};
 
