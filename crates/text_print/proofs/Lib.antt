@@ -1,1 +1,3 @@
+mod Powers
 pub mod OutputLaws
+pub mod GivenLaws

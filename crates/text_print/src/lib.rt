@@ -1,9 +1,15 @@
-// Text for standard output, gathered in a buffer. `used` bytes of it wait, and there is always room
-// for one more. Each function answers how many wait then.
-ghost use Rattle.std.specs.Prelude.{◌≡◌, [], ◌≤◌, length};
-ghost use Rattle.text_print.specs.Output.{Fits, waiting, put_of, puts, Digits};
+// Text for a writer, gathered in a buffer. `used` bytes of it wait, and there is always room for one
+// more. Each function answers how many wait then. Where the writer fails, so does the function.
+#![tactic(auto)]
 
-use libc::STDOUT_FILENO;
+mod digits;
+
+ghost use Rattle.std.specs.Prelude.{◌≡◌, ℕ, [], ◌∷◌, ◌++◌, ◌≤◌, length, take, IfOk};
+ghost use Rattle.text_print.specs.Digits.{last_digits, IsDigitCount};
+ghost use Rattle.text_print.specs.Output.{Fits, waiting, put_of, puts, Digits, Written, Printed};
+
+use std::io;
+use std::io::{ErrorKind, Write};
 
 // The buffer.
 pub const ROOM: usize = 65536;
@@ -11,57 +17,87 @@ pub const ROOM: usize = 65536;
 pub type Out = [u8; ROOM];
 
 // One byte. A buffer that is full is written out.
-fn put(out: &mut Out, used: usize, byte: u8) -> usize
+fn put<W: Write>(to: &mut W, out: &mut Out, used: usize, byte: u8) -> io::Result<usize>
     requires { Fits used }
-    ensures fits { Fits result }
-    ensures result_after { waiting out.new result ≡ put_of byte (waiting out.old used) }
+    ensures fits { IfOk result (λ after. Fits after) }
+    ensures result_after { IfOk result (λ after. waiting out.new after ≡ put_of byte (waiting out.old used)) }
+    ensures given { Printed (W.contents to.old) (W.contents to.new) (take used out.old ++ byte ∷ []) out.new result }
 {
     out[used] = byte;
     if used + 1 < ROOM {
-        return used + 1;
+        return Ok(used + 1);
     }
-    io::write_all(STDOUT_FILENO, out);
-    0
+    write_out(to, out)?;
+    Ok(0)
+}
+
+// Writes bytes out, up to a write that takes nothing or fails.
+fn write_out<W: Write>(to: &mut W, bytes: &[u8]) -> io::Result<()>
+    ensures { Written (W.contents to.old) (W.contents to.new) bytes.now result }
+{
+    let mut done = 0;
+    while done < bytes.len() {
+        let n = to.write(&bytes[done..])?;
+        if n == 0 {
+            return Err(io::Error::from(ErrorKind::WriteZero));
+        }
+        done += n;
+    }
+    Ok(())
 }
 
 // Writes out what waits.
-pub fn flush(out: &[u8], used: usize)
+pub fn flush<W: Write>(to: &mut W, out: &[u8], used: usize) -> io::Result<()>
     requires { used ≤ length out.now }
+    ensures { Written (W.contents to.old) (W.contents to.new) (take used out.now) result }
 {
-    io::write_all(STDOUT_FILENO, &out[..used]);
+    write_out(to, &out[..used])
 }
 
 // Puts bytes behind what waits.
-pub fn text(out: &mut Out, used: usize, s: &[u8]) -> usize
+pub fn text<W: Write>(to: &mut W, out: &mut Out, used: usize, s: &[u8]) -> io::Result<usize>
     requires { Fits used }
-    ensures fits { Fits result }
-    ensures result_after { waiting out.new result ≡ puts s.now (waiting out.old used) }
+    ensures fits { IfOk result (λ after. Fits after) }
+    ensures result_after { IfOk result (λ after. waiting out.new after ≡ puts s.now (waiting out.old used)) }
+    ensures given { Printed (W.contents to.old) (W.contents to.new) (take used out.old ++ s.now) out.new result }
 {
     let mut at = used;
     let mut i = 0;
     while i < s.len() {
-        at = put(out, at, s[i]);
+        at = put(to, out, at, s[i])?;
         i += 1;
     }
-    at
+    Ok(at)
 }
 
 // Puts a number, in decimal, behind what waits.
-pub fn decimal(out: &mut Out, used: usize, n: u64) -> usize
+pub fn decimal<W: Write>(to: &mut W, out: &mut Out, used: usize, n: u64) -> io::Result<usize>
     requires { Fits used }
-    ensures fits { Fits result }
-    ensures digits { Digits 10 1 [] n (waiting out.old used) (waiting out.new result) }
+    ensures fits { IfOk result (λ after. Fits after) }
+    ensures digits { IfOk result (λ after. Digits 10 1 [] n (waiting out.old used) (waiting out.new after)) }
+    ensures given { (places : ℕ) × IsDigitCount 10 1 n places
+        × Printed (W.contents to.old) (W.contents to.new)
+        (take used out.old ++ last_digits 10 places n) out.new result }
 {
     let mut digits = [0u8; 20];
-    let k = io::decimal(n, &mut digits);
-    text(out, used, &digits[..k])
+    let k = digits::decimal(n, &mut digits);
+    text(to, out, used, &digits[..k])
 }
 
 // A number behind its label.
-pub fn field(out: &mut Out, used: usize, label: &[u8], n: u64) -> usize
+pub fn field<W: Write>(
+    to: &mut W,
+    out: &mut Out,
+    used: usize,
+    label: &[u8],
+    n: u64,
+) -> io::Result<usize>
     requires { Fits used }
-    ensures { Fits result }
+    ensures fits { IfOk result (λ after. Fits after) }
+    ensures given { (places : ℕ) × IsDigitCount 10 1 n places
+        × Printed (W.contents to.old) (W.contents to.new) (take used out.old ++ (label.now ++ last_digits 10 places n))
+        out.new result }
 {
-    let used = text(out, used, label);
-    decimal(out, used, n)
+    let used = text(to, out, used, label)?;
+    decimal(to, out, used, n)
 }
