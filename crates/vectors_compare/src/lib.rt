@@ -1,4 +1,6 @@
 // Lists of numbers held against each other: whether they are the same, where they first differ, and how often they did.
+#![tactic(auto)]
+
 ghost use Rattle.std.specs.Prelude.{◌≡◌, true, ℕ, ◌+◌, ◌≤◌, ◌<◌, length, get_or};
 ghost use Rattle.vectors_compare.specs.Inner.Parts.{Alike, Fitting};
 
@@ -56,7 +58,7 @@ pub fn agrees(want: &[u64], from: usize, to: usize, got: &[u64], n: usize) -> bo
 }
 
 // How many answers agreed, and how many differed.
-#[derive(Drop)]
+#[derive(Clone, Copy)]
 pub struct Tally {
     pub agree: u64,
     pub differ: u64,
