@@ -5,7 +5,7 @@ ghost use Rattle.text_read.specs.Inner.Hex.{Fitting};
 use crate::number::pair;
 
 // How many bytes were read, or none: the word spells no bytes, or more than there is room for.
-#[derive(Drop)]
+#[derive(Clone, Copy)]
 pub enum Length {
     Value(usize),
     None,

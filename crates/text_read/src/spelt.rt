@@ -5,7 +5,7 @@ use crate::token::NumberAt;
 use text_list::Numbers;
 
 // How far the line is read, how many numbers stand before the `=`, and how many there are in all. Where there is no `=`, or a word spells none, `from` is more than any list has.
-#[derive(Drop)]
+#[derive(Clone, Copy)]
 pub struct Spelt {
     pub at: usize,
     pub from: usize,

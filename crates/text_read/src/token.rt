@@ -7,14 +7,14 @@ use crate::number::Number;
 
 // Where a word of a line begins and ends, or none: the line has ended before it. The next word
 // begins behind the space, one further than the end.
-#[derive(Drop)]
+#[derive(Clone, Copy)]
 pub enum Token {
     Word(usize, usize),
     None,
 }
 
 // A number and the place where the next word begins.
-#[derive(Drop)]
+#[derive(Clone, Copy)]
 pub enum NumberAt {
     Value(u64, usize),
     None,
