@@ -2,7 +2,7 @@
 -- holds the result, and beyond it what it held.
 --     Accepted L s Shown       the chunk s is read under the limits L, and `Shown` holds of its reading
 --     Present o Shown          o is there, and `Shown` holds of it
--- One theorem for each call, under its name in Demand1.antt (but `verdict-of`, `encoded-word`), whose theorems say the other half: the answer holds a refusal where a condition holds.
+-- One theorem for each call, under its name in Demand1.antt (but `verdict-of`, `encoded_word`), whose theorems say the other half: the answer holds a refusal where a condition holds.
 -- (`decode` refuses no word; `string_bytes` shows bytes of any place.)
 -- Refused by these: a call that answers nothing but refusals, one that refuses what it could show, one that answers Ok of another function or entry, one that answers Ok and writes nothing.
 -- Assumes nothing.
@@ -119,8 +119,8 @@ module _ (L : ResourceLimits) (s : Bytes) where
     pub count : Accepted L s (λ r. shownCount (read L s) ≡ count-answer.Ok (length (chunk_findings r).findings))
     count = whole shownCount
 
-    pub copy-length : Accepted L s (λ r. shown_length (read L s) ≡ copy-answer.Ok (length (copy r)))
-    copy-length = whole shown_length
+    pub copy_length : Accepted L s (λ r. shown_length (read L s) ≡ copy-answer.Ok (length (copy r)))
+    copy_length = whole shown_length
 
     pub full_length : Accepted L s (λ r. shown_full_length (read L s) ≡ copy-answer.Ok (length (full_copy r)))
     full_length = whole shown_full_length
@@ -254,9 +254,9 @@ module _ (L : ResourceLimits) (s : Bytes) where
           → Accepted L s (λ r. Present (get_elem? r.functions f) (λ p. Present (get_elem? p.abs_line_info i) (λ a. shown_anchor (entry_of (λ p. p.abs_line_info) f i (read L s)) ≡ anchor-answer.Ok a)))
       anchor = entry (λ p. p.abs_line_info) shown_anchor
 
-      pub upvalue-name : first (for_entry L s (λ p. p.upvalue_names_lem) f i) ≡ none
+      pub upvalue_name : first (for_entry L s (λ p. p.upvalue_names_lem) f i) ≡ none
           → Accepted L s (λ r. Present (get_elem? r.functions f) (λ p. Present (get_elem? p.upvalue_names_lem i) (λ t. shown_name (entry_of (λ p. p.upvalue_names_lem) f i (read L s)) ≡ name-answer.Ok (option_string t))))
-      upvalue-name = entry (λ p. p.upvalue_names_lem) shown_name
+      upvalue_name = entry (λ p. p.upvalue_names_lem) shown_name
 
       pub local : (old : Bytes) → first (for_local L s f i (length old)) ≡ none
           → Accepted L s (λ r. Present (get_elem? r.functions f) (λ p. Present (get_elem? p.loc_vars i) (λ l.

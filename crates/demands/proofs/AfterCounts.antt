@@ -2,8 +2,7 @@
 --     AfterCounts L s p    behind the front of the function p the count of its words is read, and then the reader stands where they begin; behind the words the count of its constants, and it stands where these begin
 --     after-counts         so it is with every function of a chunk that is read
 -- Assumes nothing.
-use mathlib.Core.Path.{◌≡◌, sym, ◌∙◌, ap}
-use mathlib.Core.List.{List}
+use mathlib.Core.Path.{◌≡◌, ◌∙◌, ap}
 use mathlib.Core.Option.{some}
 use Prim.Native.Nat.{ℕ, ◌+◌}
 use lib.ListN.{length, drop, get_elem?}
@@ -14,7 +13,7 @@ use Rattle.format.specs.Form.{Bytes, Form}
 use Rattle.format.specs.Reading.{Reading, Prototype}
 use Rattle.format.specs.Read.{Reader, next, ◌>>◌, many}
 use Rattle.format.specs.ReadFields.{field, number}
-use Rattle.format.specs.ReadChunk.{counted_up_to, constant, upvalue, shown, read}
+use Rattle.format.specs.ReadChunk.{counted_up_to, shown, read}
 use Rattle.format.proofs.Exact.{Exact, exact_at_most, exact_many}
 use Rattle.format.proofs.ExactFields.{exact_field, exact_number}
 use Rattle.format.proofs.ExactChunk.{exact_counted_up_to, exact_constant, exact_upvalue}
@@ -25,7 +24,7 @@ use Rattle.format.proofs.Located.{AtPlace, any, at_give, at_here, at_then}
 use Rattle.read_entry.specs.Readers.{code}
 use Rattle.read_list.proofs.Within.{exact_code, exact_protos_count}
 use Rattle.read_prototype.specs.Front.{front}
-use Rattle.read_prototype.specs.Parts.{HeadLists, head_lists, Head, head}
+use Rattle.read_prototype.specs.Parts.{head_lists, head}
 use Rattle.read_prototype.proofs.FrontAnswers.{exact_front}
 use Rattle.read_prototype.proofs.HeadAnswers.{exact_lists}
 use Rattle.demands.proofs.SpeltHere.{limit_stays}
@@ -86,5 +85,5 @@ module _ (s : Bytes) where
 pub after-counts : (L : ResourceLimits) (s : Bytes) (r : Reading) → read L s ≡ shown r → (f : ℕ) (p : Prototype) → get_elem? r.functions f ≡ some p → AfterCounts L s p
 after-counts L s r is f p there =
     let parted = all_parted L s r is f there in
-    let both = (at_head s L 0).holds parted.at-start.is in
+    let both = (at_head s L 0).holds parted.at_start.is in
     rw parted.is (record { words = both.0; constants = both.1 })

@@ -73,17 +73,17 @@ pub record AnswerAlike (L : ResourceLimits) (s : Bytes) (M : ResourceLimits) (t 
   pub summary : without_count (shown_summary (spelling L s) (read L s)) ≡ without_count (shown_summary (spelling M t) (read M t))
   pub trailing : trailing_of (read L s) ≡ trailing_of (read M t)
   pub fields : (f : ℕ) → shown_fields (function_of f (read L s)) ≡ shown_fields (function_of f (read M t))
-  pub source-bytes : (f : ℕ) → source_shown s (shown_fields (function_of f (read L s))) ≡ source_shown t (shown_fields (function_of f (read M t)))
+  pub source_bytes : (f : ℕ) → source_shown s (shown_fields (function_of f (read L s))) ≡ source_shown t (shown_fields (function_of f (read M t)))
   pub instruction : (f i : ℕ) → shown_word (entry_of (λ p. p.instructions) f i (read L s)) ≡ shown_word (entry_of (λ p. p.instructions) f i (read M t))
   pub constant : (f i : ℕ) → shown_constant (entry_of (λ p. p.constants) f i (read L s)) ≡ shown_constant (entry_of (λ p. p.constants) f i (read M t))
-  pub constant-bytes : (f i : ℕ) → constant_shown s (shown_constant (entry_of (λ p. p.constants) f i (read L s))) ≡ constant_shown t (shown_constant (entry_of (λ p. p.constants) f i (read M t)))
+  pub constant_bytes : (f i : ℕ) → constant_shown s (shown_constant (entry_of (λ p. p.constants) f i (read L s))) ≡ constant_shown t (shown_constant (entry_of (λ p. p.constants) f i (read M t)))
   pub upvalue : (f i : ℕ) → shown_upvalue (entry_of (λ p. p.upvalues) f i (read L s)) ≡ shown_upvalue (entry_of (λ p. p.upvalues) f i (read M t))
   pub delta : (f i : ℕ) → shown_delta (entry_of (λ p. p.line_info_lem) f i (read L s)) ≡ shown_delta (entry_of (λ p. p.line_info_lem) f i (read M t))
   pub anchor : (f i : ℕ) → shown_anchor (entry_of (λ p. p.abs_line_info) f i (read L s)) ≡ shown_anchor (entry_of (λ p. p.abs_line_info) f i (read M t))
-  pub upvalue-name : (f i : ℕ) → shown_name (entry_of (λ p. p.upvalue_names_lem) f i (read L s)) ≡ shown_name (entry_of (λ p. p.upvalue_names_lem) f i (read M t))
-  pub upvalue-name-bytes : (f i : ℕ) → name_shown s (shown_name (entry_of (λ p. p.upvalue_names_lem) f i (read L s))) ≡ name_shown t (shown_name (entry_of (λ p. p.upvalue_names_lem) f i (read M t)))
+  pub upvalue_name : (f i : ℕ) → shown_name (entry_of (λ p. p.upvalue_names_lem) f i (read L s)) ≡ shown_name (entry_of (λ p. p.upvalue_names_lem) f i (read M t))
+  pub upvalue_name_bytes : (f i : ℕ) → name_shown s (shown_name (entry_of (λ p. p.upvalue_names_lem) f i (read L s))) ≡ name_shown t (shown_name (entry_of (λ p. p.upvalue_names_lem) f i (read M t)))
   pub local : (f i : ℕ) (old : Bytes) → shown_local (length old) (entry_of (λ p. p.loc_vars) f i (read L s)) ≡ shown_local (length old) (entry_of (λ p. p.loc_vars) f i (read M t))
-  pub local-name : (f i : ℕ) (old : Bytes) → name_written old (entry_of (λ p. p.loc_vars) f i (read L s)) ≡ name_written old (entry_of (λ p. p.loc_vars) f i (read M t))
+  pub local_name : (f i : ℕ) (old : Bytes) → name_written old (entry_of (λ p. p.loc_vars) f i (read L s)) ≡ name_written old (entry_of (λ p. p.loc_vars) f i (read M t))
 
 -- ## The readings are equal but for what these calls do not show
 pub record EqualFunction (p q : Prototype) : Type 0 where
@@ -91,7 +91,7 @@ pub record EqualFunction (p q : Prototype) : Type 0 where
   pub parent : p.parent ≡ q.parent
   pub source_name : p.source_name ≡ q.source_name
   pub line_defined : p.line_defined ≡ q.line_defined
-  pub last-line_defined : p.last-line_defined ≡ q.last-line_defined
+  pub last_line_defined : p.last_line_defined ≡ q.last_line_defined
   pub numparams : p.numparams ≡ q.numparams
   pub is_vararg : p.is_vararg ≡ q.is_vararg
   pub maxstacksize : p.maxstacksize ≡ q.maxstacksize
@@ -115,8 +115,8 @@ pub record EqualAsShown (r q : Reading) : Type 0 where
 pub record SamePlaces (p q : Prototype) : Type 0 where
   pub start : p.start ≡ q.start
   pub end : p.end ≡ q.end
-  pub instructions-at : p.places.instructions ≡ q.places.instructions
-  pub constants-at : p.places.constants ≡ q.places.constants
+  pub instructions_at : p.places.instructions ≡ q.places.instructions
+  pub constants_at : p.places.constants ≡ q.places.constants
 
 pub record IndexAlike (L : ResourceLimits) (s : Bytes) (M : ResourceLimits) (t : Bytes) : Type 0 where
   pub answer : (old : List ℕ) → shown_index (length old) (read L s) ≡ shown_index (length old) (read M t)

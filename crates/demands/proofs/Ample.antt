@@ -3,8 +3,8 @@
 -- are, is ours (19 behind an unknown tag): Blame.antt and Fault.antt let it pass.
 --     Ample n L            limits that no file of n bytes can pass: a number is below 2^64, and a file has no more
 --                          functions, levels and instructions than bytes
---     unlimited            the reader of a chunk; strict-unlimited: the stricter one
---     not-behind_tag       a reader that names an unknown tag so is refused by this law; without-limits: and not by the
+--     unlimited            the reader of a chunk; strict_unlimited: the stricter one
+--     not-behind_tag       a reader that names an unknown tag so is refused by this law; without_limits: and not by the
 --                          other two
 -- By one law for each way to make a reader: `Free n P r Q`, that from a place of which P holds, in a file of n bytes, r
 -- is never refused so, and that Q holds of what it gives and of the place behind.
@@ -25,17 +25,17 @@ use Rattle.format.specs.declared.entry.AbsLineInfo.{AbsLineInfo}
 use Rattle.format.specs.Form.{Bytes, Form}
 use Rattle.format.specs.GrammarFields.{LuaString, little}
 use Rattle.format.specs.Reading.{ConstantValue, LocalVar, Prototype}
-use Rattle.format.specs.GrammarChunk.{Listed, inherit, instructions_of, Where, after, within, outermost, prototype, Loaded}
-use Rattle.format.specs.Read.{Read, ok, refused, Reader, next, ◌>>=◌, ◌>>◌, give, here, refuse, test, at_most, piece, run, many}
+use Rattle.format.specs.GrammarChunk.{Listed, inherit, instructions_of, Where, after, within, outermost}
+use Rattle.format.specs.Read.{Read, ok, refused, Reader, next, ◌>>=◌, give, here, refuse, test, at_most, piece, many}
 use Rattle.format.specs.ReadFields.{field, byte, number, content, string}
-use Rattle.format.specs.ReadChunk.{always, constant, upvalue, anchor, local, forest, body, function, main}
+use Rattle.format.specs.ReadChunk.{always, constant, anchor, local, forest, body, function, main}
 use Rattle.format_strict.specs.ReadStrict.{int, there, present, strict_constant, strict_anchor, strict_local, strict_body, strict_function, strict_header, strict_main}
 use Rattle.format.proofs.Exact.{Exact, exact_run, exact_many}
 use Rattle.format.proofs.ExactFields.{exact_field, exact_number}
 use Rattle.format.proofs.ExactHeader.{exact_header}
 use Rattle.format.proofs.ExactChunk.{exact_upvalue}
 use Rattle.format_strict.proofs.ExactStrict.{exact_strict_header}
-use Rattle.demands.proofs.Early.{never, no, was}
+use Rattle.demands.proofs.Early.{never, no}
 use Rattle.demands.proofs.AtOneByte.{enter}
 use Rattle.demands.proofs.Blame.{Stays, same}
 use Rattle.demands.proofs.Fault.{limited, Mild, Cures, late, clash, few_is, Plain, plain_give, plain_then, plain_run, plain_field, plain_number, plain_many, plain_expect, plain_before, plain_behind, plain_header, plain_upvalue}
@@ -45,7 +45,7 @@ use Rattle.demands.proofs.Bodies.{body_by}
 pub record Ample (n : ℕ) (L : ResourceLimits) : Type 0 where
   pub strings : 2 ^ 64 ≤ L.max_string_bytes
   pub instructions : 2 ^ 64 ≤ L.max_instructions_per_proto
-  pub all-instructions : 2 ^ 64 + n ≤ L.max_total_instructions
+  pub all_instructions : 2 ^ 64 + n ≤ L.max_total_instructions
   pub constants : 2 ^ 64 ≤ L.max_constants_per_proto
   pub upvalues : 2 ^ 64 ≤ L.max_upvalues_per_proto
   pub functions : 2 ^ 64 + n ≤ L.max_total_prototypes
@@ -328,15 +328,15 @@ module _ (n : ℕ) where
           free_here λ start.
           free_then (free_string limit ample.strings (begins w left) (begun_up w left)) λ spelt.
           then_num counts (on_up (begun_up w left)) λ line_defined _.
-          then_num counts (on_up (begun_up w left)) λ last-line_defined _.
+          then_num counts (on_up (begun_up w left)) λ last_line_defined _.
           free_then (free_byte (begun_up w left)) λ numparams.
           free_then (free_byte (begun_up w left)) λ is_vararg.
           free_then (free_byte (begun_up w left)) λ maxstacksize.
           free_here λ first.
           then_num counts (on_up (begun_up w left)) λ size fits.
           free_then (free_test (leb size L.max_instructions_per_proto) (q.Instructions first) λ at k h. le-leb size L.max_instructions_per_proto (below size (2 ^ 64) L.max_instructions_per_proto fits ample.instructions)) λ _.
-          free_then (free_test (leb (w.instructions + size) L.max_total_instructions) (q.TotalInstructions first) λ at k h. le-leb (w.instructions + size) L.max_total_instructions (sum_below w.instructions size (2 ^ 64) L.max_total_instructions n at h.1 k fits ample.all-instructions)) λ _.
-          free_here λ instructions-at.
+          free_then (free_test (leb (w.instructions + size) L.max_total_instructions) (q.TotalInstructions first) λ at k h. le-leb (w.instructions + size) L.max_total_instructions (sum_below w.instructions size (2 ^ 64) L.max_total_instructions n at h.1 k fits ample.all_instructions)) λ _.
+          free_here λ instructions_at.
           free_then (free_words w left size) λ instructions.
           let up = start_up (within w (inherit spelt w.source) (length instructions)) left in
           free_then (free_listed_up_to up num counts L.max_constants_per_proto q.Constants ample.constants (free-con _ up)) λ constants.

@@ -3,7 +3,7 @@
 --     two_then_one             where bytes are wanted; `one-byte-more` where a number goes on
 --     fourteen_first, fifteen_next     at the count of a function's instructions: 14 where it is above its own limit; 15 where it is not, and the sum is above its limit
 --     not_fourteen             of a whole chunk: a count that is refused with 15 is not above its own limit
---     nineteen_then_twenty     where a nested function begins, whatever stands there: also where the file ends. (`function-enters`: that is where they are tested.)
+--     nineteen_then_twenty     where a nested function begins, whatever stands there: also where the file ends. (`function_enters`: that is where they are tested.)
 --     nineteen_at_once, twenty_at_once     of a whole chunk: the file that ends at the place of 19 or 20 is refused so, and so it is with any bytes behind
 -- (1 to 20 at one byte meet nowhere else: 4 to 12 want their bytes first, 13 to 18 their number, and a missing byte is 1.)
 -- Assumes nothing.
@@ -24,7 +24,7 @@ use Rattle.format.specs.Refusals.{placed, bare, reported}
 use Rattle.format.specs.Form.{Bytes}
 use Rattle.format.specs.Reading.{Prototype}
 use Rattle.format.specs.GrammarChunk.{Where}
-use Rattle.format.specs.Read.{ok, refused, Reader, next, ◌>>=◌, ◌>>◌, here, refuse, test, at_most, piece, run}
+use Rattle.format.specs.Read.{ok, refused, Reader, ◌>>=◌, ◌>>◌, here, refuse, test, at_most, piece, run}
 use Rattle.format.specs.ReadFields.{groups, number}
 use Rattle.format.specs.ReadChunk.{body, function, main}
 use Rattle.read_prototype.specs.Front.{Front, front}

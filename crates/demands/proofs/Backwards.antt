@@ -7,14 +7,14 @@
 use mathlib.Core.Path.{◌≡◌, refl, ap}
 use mathlib.Core.Bool.{cond}
 use mathlib.Core.List.{List, [], ◌∷◌, ◌++◌}
-use Prim.Native.Nat.{ℕ, ◌+◌, ◌<◌}
+use Prim.Native.Nat.{ℕ, ◌<◌}
 use native.Mathlib.Omega.{arith}
 use lib.Dec.{leb}
 use lib.ListN.{length}
 use Rattle.format.specs.declared.limits.ResourceLimits.{ResourceLimits}
 use Rattle.format.specs.declared.refusal.Refusal.TheVariants.{Truncated, Constants, Upvalues}
 use Rattle.format.specs.Form.{Bytes}
-use Rattle.format.specs.Read.{Read, ok, refused, Reader, next, ◌>>=◌, ◌>>◌, give, here, at_most, many}
+use Rattle.format.specs.Read.{Read, ok, refused, Reader, ◌>>=◌, ◌>>◌, give, here, at_most, many}
 use Rattle.format.specs.ReadFields.{number, byte}
 use Rattle.demands.proofs.Causes.{LastNumber}
 use Rattle.demands.proofs.Order.{InByteOrder}

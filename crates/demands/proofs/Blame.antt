@@ -24,7 +24,7 @@ use Rattle.format.specs.Form.{Bytes}
 use Rattle.format.specs.Refusals.{reported}
 use Rattle.format.specs.Reading.{Prototype}
 use Rattle.format.specs.GrammarChunk.{inherit, Where, after, within}
-use Rattle.format.specs.Read.{Read, ok, refused, Reader, next, ◌>>=◌, ◌>>◌, give, here, refuse, test, at_most, run, many}
+use Rattle.format.specs.Read.{Read, ok, refused, Reader, next, ◌>>=◌, give, here, refuse, test, at_most, run, many}
 use Rattle.format.specs.ReadFields.{field, number, content, string}
 use Rattle.format.specs.ReadHeader.{header}
 use Rattle.format.specs.ReadChunk.{counted, counted_up_to, always, constant, upvalue, anchor, local, forest, body, function, main}
@@ -46,7 +46,7 @@ named_limit n L =
 pub record Raised (L M : ResourceLimits) : Type 0 where
   pub strings : L.max_string_bytes ≤ M.max_string_bytes
   pub instructions : L.max_instructions_per_proto ≤ M.max_instructions_per_proto
-  pub all-instructions : L.max_total_instructions ≤ M.max_total_instructions
+  pub all_instructions : L.max_total_instructions ≤ M.max_total_instructions
   pub constants : L.max_constants_per_proto ≤ M.max_constants_per_proto
   pub upvalues : L.max_upvalues_per_proto ≤ M.max_upvalues_per_proto
   pub functions : L.max_total_prototypes ≤ M.max_total_prototypes
@@ -163,15 +163,15 @@ module _ (L M : ResourceLimits) where
         stays_here λ start.
         stays_then stays_string λ spelt.
         stays_then (same number) λ line_defined.
-        stays_then (same number) λ last-line_defined.
+        stays_then (same number) λ last_line_defined.
         stays_then (same (field 1)) λ numparams.
         stays_then (same (field 1)) λ is_vararg.
         stays_then (same (field 1)) λ maxstacksize.
         stays_here λ first.
         stays_then (same number) λ size.
         stays_then (stays_at_most size L.max_instructions_per_proto M.max_instructions_per_proto (q.Instructions first) wide.instructions (λ k. k (omega arith) (omega arith))) λ _.
-        stays_then (stays_at_most (w.instructions + size) L.max_total_instructions M.max_total_instructions (q.TotalInstructions first) wide.all-instructions (λ k. k (omega arith) (omega arith))) λ _.
-        stays_here λ instructions-at.
+        stays_then (stays_at_most (w.instructions + size) L.max_total_instructions M.max_total_instructions (q.TotalInstructions first) wide.all_instructions (λ k. k (omega arith) (omega arith))) λ _.
+        stays_here λ instructions_at.
         stays_then (same (many size (field 4))) λ instructions.
         stays_then (stays_counted_up_to L.max_constants_per_proto M.max_constants_per_proto q.Constants wide.constants (λ first k. k (omega arith) (omega arith)) stays_constant) λ constants.
         stays_then (stays_counted_up_to L.max_upvalues_per_proto M.max_upvalues_per_proto q.Upvalues wide.upvalues (λ first k. k (omega arith) (omega arith)) (same upvalue)) λ upvalues.

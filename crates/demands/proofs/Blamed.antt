@@ -1,5 +1,5 @@
 -- What a refusal names, of what every call on a chunk begins with: `read` (Demand1.antt: each call's refusals below
--- 21 are its), and `strictRead`. The laws of the readers: Blame.antt, Fault.antt, Mends.antt, and for the
+-- 21 are its), and `strict_read`. The laws of the readers: Blame.antt, Fault.antt, Mends.antt, and for the
 -- stricter reading StrictBlame.antt, StrictFault.antt, StrictMends.antt.
 --     MildOutcome o    read with no trailing bytes, or refused for no fault of the file (Fault.antt, `NoFault`)
 --     Named reads      the three laws of a reading that is begun with limits and bytes:
@@ -13,10 +13,10 @@
 -- Limits are here within their ceilings; the laws of the readers have no ceilings, and so say more of counts that are
 -- above these. What all of them leave open is told in docs/PROOF.md, 'Outside the proof'.
 -- Assumes nothing.
-use mathlib.Core.Path.{◌≡◌, refl, sym, ◌∙◌, ap, subst}
+use mathlib.Core.Path.{◌≡◌, sym, ◌∙◌, ap, subst}
 use mathlib.Core.Bool.{true}
 use mathlib.Core.List.{[], ◌++◌}
-use Prim.Native.Nat.{ℕ, ◌≤◌}
+use Prim.Native.Nat.{◌≤◌}
 use native.Mathlib.Omega.{arith}
 use native.Mathlib.Nat.{zero-add}
 use lib.ListN.{length, length-append}

@@ -7,8 +7,8 @@
 -- Assumes nothing.
 use mathlib.Core.Path.{◌≡◌, refl, sym, ◌∙◌, ap, subst}
 use mathlib.Core.Bool.{Bool, true, false, cond}
-use mathlib.Core.List.{List, [], ◌∷◌, ◌++◌}
-use Prim.Native.Nat.{ℕ, ◌+◌, ◌-◌, ◌*◌, ◌%◌, ◌^◌, ◌≤◌, ◌<◌}
+use mathlib.Core.List.{[], ◌∷◌, ◌++◌}
+use Prim.Native.Nat.{ℕ, ◌+◌, ◌%◌, ◌<◌}
 use native.Mathlib.Omega.{arith}
 use native.Mathlib.Nat.{add-zero}
 use lib.Dec.{leb, ltb, eqb}
@@ -20,8 +20,8 @@ use Rattle.format.specs.declared.refusal.Refusal.TheVariants as q
 use Rattle.format.specs.Form.{Bytes}
 use Rattle.format.specs.Refusals.{reported}
 use Rattle.format.specs.GrammarFields.{Field}
-use Rattle.format.specs.Read.{Read, ok, refused, Reader, next, ◌>>=◌, give, here, refuse}
-use Rattle.format.specs.ReadFields.{field, byte}
+use Rattle.format.specs.Read.{refused, Reader, ◌>>=◌, give, here, refuse}
+use Rattle.format.specs.ReadFields.{byte}
 use Rattle.format.proofs.ExactFields.{exact_field}
 use Rattle.demands.proofs.Causes.{ordinary, cause_by, Ends}
 use Rattle.demands.proofs.InOrder.{Steady, Tested, tested, own, steady_give, steady_here, steady_then, steady_pick, steady_refuse, steady_field}

@@ -21,7 +21,7 @@ body_by num con anc loc L r w = do
   start ← here
   spelt ← string L.max_string_bytes
   line_defined ← num
-  last-line_defined ← num
+  last_line_defined ← num
   numparams ← byte
   is_vararg ← byte
   maxstacksize ← byte
@@ -29,7 +29,7 @@ body_by num con anc loc L r w = do
   size ← num
   at_most size L.max_instructions_per_proto (q.Instructions first)
   at_most (w.instructions + size) L.max_total_instructions (q.TotalInstructions first)
-  instructions-at ← here
+  instructions_at ← here
   instructions ← many size (field 4)
   constants ← here >>= λ first. num >>= λ k. at_most k L.max_constants_per_proto (q.Constants first) >>= λ _. here >>= λ place. many k con >>= λ items. give {A = Listed ConstantValue} (record { place = place; items = items })
   upvalues ← here >>= λ first. num >>= λ k. at_most k L.max_upvalues_per_proto (q.Upvalues first) >>= λ _. here >>= λ place. many k upvalue >>= λ items. give {A = Listed _} (record { place = place; items = items })
@@ -45,4 +45,4 @@ body_by num con anc loc L r w = do
   loc_vars ← num >>= λ k. here >>= λ place. many k loc >>= λ items. give {A = Listed LocalVar} (record { place = place; items = items })
   upvalue_names_lem ← num >>= λ k. here >>= λ place. many k (string L.max_string_bytes) >>= λ items. give {A = Listed (Option LuaString)} (record { place = place; items = items })
   end ← here
-  give (prototype w start spelt line_defined last-line_defined numparams is_vararg maxstacksize (record { place = instructions-at; items = instructions }) constants upvalues protos-at protos (record { place = line-info-at; items = line_info_lem }) abs_line_info loc_vars upvalue_names_lem end ∷ nested)
+  give (prototype w start spelt line_defined last_line_defined numparams is_vararg maxstacksize (record { place = instructions_at; items = instructions }) constants upvalues protos-at protos (record { place = line-info-at; items = line_info_lem }) abs_line_info loc_vars upvalue_names_lem end ∷ nested)

@@ -2,7 +2,7 @@
 -- where none holds it returns 0, and the array holds the answer. One law, and a line for each call.
 --     InC a qs             so it is of a call whose answer is a and whose conditions are qs, in 01's order
 --     law                  it is enough that the refusal in the answer is the first of the conditions
---     findings-kept        a call that refuses leaves its list as it was. (Rows, copies and name: Demand1.antt, `index_kept`, `copy-kept`, `full-kept`, `local-kept`, of the same definitions.)
+--     findings-kept        a call that refuses leaves its list as it was. (Rows, copies and name: Demand1.antt, `index_kept`, `copy-kept`, `full_kept`, `local-kept`, of the same definitions.)
 --     coded_chunk          what stands for a refusal of a chunk is its number and 256 times the place and one, which below 2^32 is never left out (Demand1.antt, `places`)
 -- (crates/c_boundary/proofs/Numbers.antt: 0 is returned nowhere else, and number and place can be got back.)
 -- Assumes nothing.
@@ -177,7 +177,7 @@ module _ (limits : List ℕ) (s : Bytes) where
   lafzimdo_summary = law _ _ (of_summary (shown_summary (spelling L s) (read L s)) ∙ calls.summary L s)
 
   pub lafzimdo_copy-length : InC (ofCopy (shown_length (read L s))) (for_chunk L s)
-  lafzimdo_copy-length = law _ _ (of-copy (shown_length (read L s)) ∙ calls.copy-length L s)
+  lafzimdo_copy-length = law _ _ (of-copy (shown_length (read L s)) ∙ calls.copy_length L s)
 
   pub lafzimdo_full_copy-length : InC (ofCopy (shown_full_length (read L s))) (for_chunk L s)
   lafzimdo_full_copy-length = law _ _ (of-copy (shown_full_length (read L s)) ∙ calls.full_length L s)
@@ -224,7 +224,7 @@ module _ (limits : List ℕ) (s : Bytes) where
     lafzimdo_anchor = law _ _ (of-anchor (shown_anchor (entry_of (λ p. p.abs_line_info) f i (read L s))) ∙ calls.anchor L s f i)
 
     pub lafzimdo_upvalue-name : InC (ofName (shown_name (entry_of (λ p. p.upvalue_names_lem) f i (read L s)))) (for_entry L s (λ p. p.upvalue_names_lem) f i)
-    lafzimdo_upvalue-name = law _ _ (of-name (shown_name (entry_of (λ p. p.upvalue_names_lem) f i (read L s))) ∙ calls.upvalue-name L s f i)
+    lafzimdo_upvalue-name = law _ _ (of-name (shown_name (entry_of (λ p. p.upvalue_names_lem) f i (read L s))) ∙ calls.upvalue_name L s f i)
 
     pub lafzimdo_local : (space : ℕ) → InC (of_local (shown_local space (entry_of (λ p. p.loc_vars) f i (read L s)))) (for_local L s f i space)
     lafzimdo_local space = law _ _ (of-local (shown_local space (entry_of (λ p. p.loc_vars) f i (read L s))) ∙ calls.local L s f i space)

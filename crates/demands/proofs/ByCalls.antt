@@ -1,4 +1,4 @@
--- DEMAND 3 of the calls themselves: each theorem is a promise of the routine that a call's source is compiled to
+-- DEMAND 3 of the calls themselves: each theorem is a promise of the call, as its source is compiled
 -- (Promise.antt), and no reader stands in it: who believes it has read the grammar, the reading, what is shown of it,
 -- and what is set aside (Same.antt), and need not read the reader.
 --     reads_exactly        "A script is read exactly when its bytes belong, under the limits, to the chunk grammar":
@@ -16,7 +16,7 @@
 use mathlib.Core.Path.{◌≡◌, refl, sym, ◌∙◌, ap, subst}
 use mathlib.Core.Logic.{◌↔◌}
 use mathlib.Core.List.{List, [], ◌∷◌, ◌++◌}
-use mathlib.Core.Option.{Option, none, some}
+use mathlib.Core.Option.{none, some}
 use Prim.Native.Nat.{ℕ, ◌≤◌, ◌<◌}
 use lib.ListN.{length, take, drop, get_elem?}
 use mir.Syntax.{w8}
@@ -27,12 +27,11 @@ use Rattle.format.specs.declared.refusal.Refusal.{Refusal}
 use Rattle.format.specs.declared.refusal.Refusal.TheVariants.{NoFunction, NoEntry, LentSpace}
 use Rattle.format.specs.Form.{Bytes}
 use Rattle.format.specs.GrammarFields.{LuaString}
-use Rattle.format.specs.Reading.{Reading, Prototype, ConstantValue, short-string, long-string, LocalVar}
+use Rattle.format.specs.Reading.{Reading, Prototype, short_string, long_string, LocalVar}
 use Rattle.format.specs.ReadChunk.{Outcome, shown, refusal, read}
 use Rattle.format.specs.Copy.{copy}
 use Rattle.format.proofs.ReadChunkLaws.{read_complete}
 use Rattle.format.proofs.Located.{Stands, StandsIf}
-use Rattle.read_nth.proofs.Strings.{ConstantStands}
 use Rattle.show_row.specs.Asked.{Asked, found, refused, or_refuse, function_of, entry_in, entry_of}
 use Rattle.show_chunk.specs.declared.summary.ChunkSummary.{ChunkSummary}
 use Rattle.show_chunk.specs.declared.summary.SummaryAnswer.{SummaryAnswer}
@@ -54,17 +53,29 @@ use Rattle.read_chunk.specs.Decoded.{summary_of}
 use Rattle.show_chunk.specs.Fields.{fields_of}
 use Rattle.copy.specs.declared.whole.CopyAnswer.{CopyAnswer}
 use Rattle.copy.specs.declared.whole.CopyAnswer.TheVariants as copy-answer
+use Rattle.show_chunk.specs.contracts.summary.chunk_summary as summary-contract
 use Rattle.show_chunk.proofs.summary.chunk_summary as summary-call
+use Rattle.show_chunk.specs.contracts.fields.function_fields as fields-contract
 use Rattle.show_chunk.proofs.fields.function_fields as fields-call
+use Rattle.show_chunk.specs.contracts.bytes.trailing_bytes as trailing-contract
 use Rattle.show_chunk.proofs.bytes.trailing_bytes as trailing-call
+use Rattle.show_chunk.specs.contracts.bytes.string_bytes as string-contract
 use Rattle.show_chunk.proofs.bytes.string_bytes as string-call
+use Rattle.show_local.specs.contracts.local as local-contract
 use Rattle.show_local.proofs.local as local-call
+use Rattle.show_entry.specs.contracts.instruction as instruction-contract
 use Rattle.show_entry.proofs.instruction as instruction-call
+use Rattle.show_entry.specs.contracts.constant as constant-contract
 use Rattle.show_entry.proofs.constant as constant-call
+use Rattle.show_entry.specs.contracts.upvalue as upvalue-contract
 use Rattle.show_entry.proofs.upvalue as upvalue-call
+use Rattle.show_entry.specs.contracts.delta as delta-contract
 use Rattle.show_entry.proofs.delta as delta-call
+use Rattle.show_entry.specs.contracts.anchor as anchor-contract
 use Rattle.show_entry.proofs.anchor as anchor-call
+use Rattle.show_entry.specs.contracts.upvalue_name as upvalue-name-contract
 use Rattle.show_entry.proofs.upvalue_name as upvalue-name-call
+use Rattle.copy.specs.contracts.encode_chunk_lua54 as copy-contract
 use Rattle.copy.proofs.encode_chunk_lua54 as copy-call
 use Rattle.demands.proofs.Promise.{Promise}
 use Rattle.demands.proofs.Slices.{bytes_known}
@@ -122,15 +133,15 @@ pub record StringShown (chunk : Bytes) (place len : ℕ) (bytes : Bytes) : Type 
   pub source : (L : ResourceLimits) (b : Belongs L chunk) (f : ℕ) (p : Prototype)
       → get_elem? b.reading.functions f ≡ some p → (t : LuaString) → p.source_name ≡ some t
       → place ≡ t.place → len ≡ length t.bytes → bytes ≡ t.bytes
-  pub short-constant : (L : ResourceLimits) (b : Belongs L chunk) (f : ℕ) (p : Prototype)
+  pub short_constant : (L : ResourceLimits) (b : Belongs L chunk) (f : ℕ) (p : Prototype)
       → get_elem? b.reading.functions f ≡ some p → (i : ℕ) (t : LuaString)
-      → get_elem? p.constants i ≡ some (short-string t)
+      → get_elem? p.constants i ≡ some (short_string t)
       → place ≡ t.place → len ≡ length t.bytes → bytes ≡ t.bytes
-  pub long-constant : (L : ResourceLimits) (b : Belongs L chunk) (f : ℕ) (p : Prototype)
+  pub long_constant : (L : ResourceLimits) (b : Belongs L chunk) (f : ℕ) (p : Prototype)
       → get_elem? b.reading.functions f ≡ some p → (i : ℕ) (t : LuaString)
-      → get_elem? p.constants i ≡ some (long-string t)
+      → get_elem? p.constants i ≡ some (long_string t)
       → place ≡ t.place → len ≡ length t.bytes → bytes ≡ t.bytes
-  pub upvalue-name : (L : ResourceLimits) (b : Belongs L chunk) (f : ℕ) (p : Prototype)
+  pub upvalue_name : (L : ResourceLimits) (b : Belongs L chunk) (f : ℕ) (p : Prototype)
       → get_elem? b.reading.functions f ≡ some p → (i : ℕ) (t : LuaString)
       → get_elem? p.upvalue_names_lem i ≡ some (some t)
       → place ≡ t.place → len ≡ length t.bytes → bytes ≡ t.bytes
@@ -185,123 +196,123 @@ string_told : (chunk : Bytes) (place len : ℕ) (bytes : Bytes) → bytes ≡ ta
     → StringShown chunk place len bytes
 string_told chunk place len bytes is = record {
   source =
-      λ L b f p there t here. strung chunk place len bytes is t (subst (StandsIf chunk) here ((shows L chunk b).function f p there).source-bytes);
-  short-constant =
-      λ L b f p there i t here. strung chunk place len bytes is t (((shows L chunk b).function f p there).constant-bytes i (short-string t) here);
-  long-constant =
-      λ L b f p there i t here. strung chunk place len bytes is t (((shows L chunk b).function f p there).constant-bytes i (long-string t) here);
-  upvalue-name =
-      λ L b f p there i t here. strung chunk place len bytes is t (((shows L chunk b).function f p there).upvalue-name-bytes i (some t) here);
+      λ L b f p there t here. strung chunk place len bytes is t (subst (StandsIf chunk) here ((shows L chunk b).function f p there).source_bytes);
+  short_constant =
+      λ L b f p there i t here. strung chunk place len bytes is t (((shows L chunk b).function f p there).constant_bytes i (short_string t) here);
+  long_constant =
+      λ L b f p there i t here. strung chunk place len bytes is t (((shows L chunk b).function f p there).constant_bytes i (long_string t) here);
+  upvalue_name =
+      λ L b f p there i t here. strung chunk place len bytes is t (((shows L chunk b).function f p there).upvalue_name_bytes i (some t) here);
 }
 
 -- ## Read exactly when it belongs
-pub reads_exactly : Promise summary-call.ended summary-call.Symbol.routine (λ _ chunk limits r.
+pub reads_exactly : Promise summary-contract.ended summary-call.Symbol.code summary-call.Symbol.name (λ _ chunk limits r.
     (Answers r ↔ Belongs limits chunk.now)
     ∷ [])
-reads_exactly M 𝓤 𝓛 𝓜 𝓡 =
-    bytes_known 𝓛 𝓜 𝓡 summary-call.Symbol.routine 0 [] _ _ (summary-call.ended).kept (summary-call.clauses 𝓛 𝓜.mem 𝓡.run) (λ κs a _ r _. fact 𝓤 (Answers r ↔ Belongs a.1.0 a.0.now))
+reads_exactly M 𝓤 𝓛 𝓜 𝓡 wired =
+    bytes_known 𝓛 𝓜 𝓡 (𝓡.env summary-call.Symbol.name) 0 [] _ _ (summary-contract.ended).kept (summary-contract.clauses 𝓛 𝓜.mem 𝓡.returns) (λ κs a _ r _. fact 𝓤 (Answers r ↔ Belongs a.1.0 a.0.now))
     (λ κs a _ r _ below. fact_mono 𝓤 _ _ (λ answers. (
       λ g. (summary_exactly a.1.0 a.0.now).0 (record { summary = g.0; answers = sym answers ∙ g.1 }),
       λ b. (let g = (summary_exactly a.1.0 a.0.now).1 b in (g.summary, answers ∙ g.answers)),
-    ))) (summary-call.Met.met 𝓤 𝓛 𝓜 𝓡)
+    ))) (summary-call.Met.met 𝓤 𝓛 𝓜 𝓡 wired)
 
 -- ## What is shown is its reading
-pub summary_shown_lem : Promise summary-call.ended summary-call.Symbol.routine (λ _ chunk limits r.
+pub summary_shown_lem : Promise summary-contract.ended summary-call.Symbol.code summary-call.Symbol.name (λ _ chunk limits r.
     SummaryShown limits chunk.now r
     ∷ [])
-summary_shown_lem M 𝓤 𝓛 𝓜 𝓡 =
-    bytes_known 𝓛 𝓜 𝓡 summary-call.Symbol.routine 0 [] _ _ (summary-call.ended).kept (summary-call.clauses 𝓛 𝓜.mem 𝓡.run)
+summary_shown_lem M 𝓤 𝓛 𝓜 𝓡 wired =
+    bytes_known 𝓛 𝓜 𝓡 (𝓡.env summary-call.Symbol.name) 0 [] _ _ (summary-contract.ended).kept (summary-contract.clauses 𝓛 𝓜.mem 𝓡.returns)
     (λ κs a _ r _. fact 𝓤 (SummaryShown a.1.0 a.0.now r))
     (λ κs a _ r _ below. fact_mono 𝓤 _ _ (λ is. record {
       given = λ b. (_, is ∙ (shows a.1.0 a.0.now b).summary);
       else = λ out. (_, is ∙ (refusing a.1.0 a.0.now out).summary);
-    })) (summary-call.Met.met 𝓤 𝓛 𝓜 𝓡)
+    })) (summary-call.Met.met 𝓤 𝓛 𝓜 𝓡 wired)
 
-pub trailing-shown : Promise trailing-call.ended trailing-call.Symbol.routine (λ _ chunk limits r.
+pub trailing-shown : Promise trailing-contract.ended trailing-call.Symbol.code trailing-call.Symbol.name (λ _ chunk limits r.
     TrailingShown limits chunk.now r.now
     ∷ [])
-trailing-shown M 𝓤 𝓛 𝓜 𝓡 =
-    bytes_known 𝓛 𝓜 𝓡 trailing-call.Symbol.routine 0 [] _ _ (trailing-call.ended).kept (trailing-call.clauses 𝓛 𝓜.mem 𝓡.run)
+trailing-shown M 𝓤 𝓛 𝓜 𝓡 wired =
+    bytes_known 𝓛 𝓜 𝓡 (𝓡.env trailing-call.Symbol.name) 0 [] _ _ (trailing-contract.ended).kept (trailing-contract.clauses 𝓛 𝓜.mem 𝓡.returns)
     (λ κs a _ r _. fact 𝓤 (TrailingShown a.1.0 a.0.now r.now))
     (λ κs a _ r _ below. fact_mono 𝓤 _ _ (λ is. record {
       given = λ b. is ∙ (shows a.1.0 a.0.now b).trailing;
       else = λ out. is ∙ (refusing a.1.0 a.0.now out).trailing;
-    })) (trailing-call.Met.met 𝓤 𝓛 𝓜 𝓡)
+    })) (trailing-call.Met.met 𝓤 𝓛 𝓜 𝓡 wired)
 
-pub string-shown : Promise string-call.ended string-call.Symbol.routine (λ _ chunk place len r.
+pub string-shown : Promise string-contract.ended string-call.Symbol.code string-call.Symbol.name (λ _ chunk place len r.
     StringShown chunk.now place len r.now
     ∷ [])
-string-shown M 𝓤 𝓛 𝓜 𝓡 =
-    bytes_known 𝓛 𝓜 𝓡 string-call.Symbol.routine 0 [] _ _ (string-call.ended).kept (string-call.clauses 𝓛 𝓜.mem 𝓡.run)
+string-shown M 𝓤 𝓛 𝓜 𝓡 wired =
+    bytes_known 𝓛 𝓜 𝓡 (𝓡.env string-call.Symbol.name) 0 [] _ _ (string-contract.ended).kept (string-contract.clauses 𝓛 𝓜.mem 𝓡.returns)
     (λ κs a _ r _. fact 𝓤 (StringShown a.0.now a.1.0 a.1.1.0 r.now))
-    (λ κs a _ r _ below. fact_mono 𝓤 _ _ (string_told a.0.now a.1.0 a.1.1.0 r.now)) (string-call.Met.met 𝓤 𝓛 𝓜 𝓡)
+    (λ κs a _ r _ below. fact_mono 𝓤 _ _ (string_told a.0.now a.1.0 a.1.1.0 r.now)) (string-call.Met.met 𝓤 𝓛 𝓜 𝓡 wired)
 
-pub fields_shown_lem : Promise fields-call.ended fields-call.Symbol.routine (λ _ chunk limits function r.
+pub fields_shown_lem : Promise fields-contract.ended fields-call.Symbol.code fields-call.Symbol.name (λ _ chunk limits function r.
     FieldsShown limits chunk.now function r
     ∷ [])
-fields_shown_lem M 𝓤 𝓛 𝓜 𝓡 =
-    bytes_known 𝓛 𝓜 𝓡 fields-call.Symbol.routine 0 [] _ _ (fields-call.ended).kept (fields-call.clauses 𝓛 𝓜.mem 𝓡.run)
+fields_shown_lem M 𝓤 𝓛 𝓜 𝓡 wired =
+    bytes_known 𝓛 𝓜 𝓡 (𝓡.env fields-call.Symbol.name) 0 [] _ _ (fields-contract.ended).kept (fields-contract.clauses 𝓛 𝓜.mem 𝓡.returns)
     (λ κs a _ r _. fact 𝓤 (FieldsShown a.1.0 a.0.now a.1.1.0 r))
     (λ κs a _ r _ below. fact_mono 𝓤 _ _ (λ is. record {
       given = λ b p there. is ∙ ((shows a.1.0 a.0.now b).function a.1.1.0 p there).fields;
       no_function_lem = λ b lacks. is ∙ ((shows a.1.0 a.0.now b).no_function_lem a.1.1.0 lacks).fields;
       else = λ out. (_, is ∙ ((refusing a.1.0 a.0.now out).function a.1.1.0).fields);
-    })) (fields-call.Met.met 𝓤 𝓛 𝓜 𝓡)
+    })) (fields-call.Met.met 𝓤 𝓛 𝓜 𝓡 wired)
 
-pub instruction-shown : Promise instruction-call.ended instruction-call.Symbol.routine (λ _ chunk limits function entry r.
+pub instruction-shown : Promise instruction-contract.ended instruction-call.Symbol.code instruction-call.Symbol.name (λ _ chunk limits function entry r.
     EntryShown (λ p. p.instructions) word-answer.Ok word-answer.Err limits chunk.now function entry r
     ∷ [])
-instruction-shown M 𝓤 𝓛 𝓜 𝓡 =
-    bytes_known 𝓛 𝓜 𝓡 instruction-call.Symbol.routine 0 [] _ _ (instruction-call.ended).kept (instruction-call.clauses 𝓛 𝓜.mem 𝓡.run)
+instruction-shown M 𝓤 𝓛 𝓜 𝓡 wired =
+    bytes_known 𝓛 𝓜 𝓡 (𝓡.env instruction-call.Symbol.name) 0 [] _ _ (instruction-contract.ended).kept (instruction-contract.clauses 𝓛 𝓜.mem 𝓡.returns)
     (λ κs a _ r _. fact 𝓤 (EntryShown (λ p. p.instructions) word-answer.Ok word-answer.Err a.1.0 a.0.now a.1.1.0 a.1.1.1.0 r))
-    (λ κs a _ r _ below. fact_mono 𝓤 _ _ (entry_shown a.1.0 a.0.now (λ p. p.instructions) word-answer.Ok word-answer.Err shown_word (λ x. refl) (λ q. refl) a.1.1.0 a.1.1.1.0 r)) (instruction-call.Met.met 𝓤 𝓛 𝓜 𝓡)
+    (λ κs a _ r _ below. fact_mono 𝓤 _ _ (entry_shown a.1.0 a.0.now (λ p. p.instructions) word-answer.Ok word-answer.Err shown_word (λ x. refl) (λ q. refl) a.1.1.0 a.1.1.1.0 r)) (instruction-call.Met.met 𝓤 𝓛 𝓜 𝓡 wired)
 
-pub constant-shown : Promise constant-call.ended constant-call.Symbol.routine (λ _ chunk limits function entry r.
+pub constant-shown : Promise constant-contract.ended constant-call.Symbol.code constant-call.Symbol.name (λ _ chunk limits function entry r.
     EntryShown (λ p. p.constants) (λ k. constant-answer.Ok (constant_value k)) constant-answer.Err limits chunk.now function entry r
     ∷ [])
-constant-shown M 𝓤 𝓛 𝓜 𝓡 =
-    bytes_known 𝓛 𝓜 𝓡 constant-call.Symbol.routine 0 [] _ _ (constant-call.ended).kept (constant-call.clauses 𝓛 𝓜.mem 𝓡.run)
+constant-shown M 𝓤 𝓛 𝓜 𝓡 wired =
+    bytes_known 𝓛 𝓜 𝓡 (𝓡.env constant-call.Symbol.name) 0 [] _ _ (constant-contract.ended).kept (constant-contract.clauses 𝓛 𝓜.mem 𝓡.returns)
     (λ κs a _ r _. fact 𝓤 (EntryShown (λ p. p.constants) (λ k. constant-answer.Ok (constant_value k)) constant-answer.Err a.1.0 a.0.now a.1.1.0 a.1.1.1.0 r))
-    (λ κs a _ r _ below. fact_mono 𝓤 _ _ (entry_shown a.1.0 a.0.now (λ p. p.constants) (λ k. constant-answer.Ok (constant_value k)) constant-answer.Err shown_constant (λ x. refl) (λ q. refl) a.1.1.0 a.1.1.1.0 r)) (constant-call.Met.met 𝓤 𝓛 𝓜 𝓡)
+    (λ κs a _ r _ below. fact_mono 𝓤 _ _ (entry_shown a.1.0 a.0.now (λ p. p.constants) (λ k. constant-answer.Ok (constant_value k)) constant-answer.Err shown_constant (λ x. refl) (λ q. refl) a.1.1.0 a.1.1.1.0 r)) (constant-call.Met.met 𝓤 𝓛 𝓜 𝓡 wired)
 
-pub upvalue-shown : Promise upvalue-call.ended upvalue-call.Symbol.routine (λ _ chunk limits function entry r.
+pub upvalue-shown : Promise upvalue-contract.ended upvalue-call.Symbol.code upvalue-call.Symbol.name (λ _ chunk limits function entry r.
     EntryShown (λ p. p.upvalues) upvalue-answer.Ok upvalue-answer.Err limits chunk.now function entry r
     ∷ [])
-upvalue-shown M 𝓤 𝓛 𝓜 𝓡 =
-    bytes_known 𝓛 𝓜 𝓡 upvalue-call.Symbol.routine 0 [] _ _ (upvalue-call.ended).kept (upvalue-call.clauses 𝓛 𝓜.mem 𝓡.run)
+upvalue-shown M 𝓤 𝓛 𝓜 𝓡 wired =
+    bytes_known 𝓛 𝓜 𝓡 (𝓡.env upvalue-call.Symbol.name) 0 [] _ _ (upvalue-contract.ended).kept (upvalue-contract.clauses 𝓛 𝓜.mem 𝓡.returns)
     (λ κs a _ r _. fact 𝓤 (EntryShown (λ p. p.upvalues) upvalue-answer.Ok upvalue-answer.Err a.1.0 a.0.now a.1.1.0 a.1.1.1.0 r))
-    (λ κs a _ r _ below. fact_mono 𝓤 _ _ (entry_shown a.1.0 a.0.now (λ p. p.upvalues) upvalue-answer.Ok upvalue-answer.Err shown_upvalue (λ x. refl) (λ q. refl) a.1.1.0 a.1.1.1.0 r)) (upvalue-call.Met.met 𝓤 𝓛 𝓜 𝓡)
+    (λ κs a _ r _ below. fact_mono 𝓤 _ _ (entry_shown a.1.0 a.0.now (λ p. p.upvalues) upvalue-answer.Ok upvalue-answer.Err shown_upvalue (λ x. refl) (λ q. refl) a.1.1.0 a.1.1.1.0 r)) (upvalue-call.Met.met 𝓤 𝓛 𝓜 𝓡 wired)
 
 -- a byte as a signed number
-pub delta_shown : Promise delta-call.ended delta-call.Symbol.routine (λ _ chunk limits function entry r.
+pub delta_shown : Promise delta-contract.ended delta-call.Symbol.code delta-call.Symbol.name (λ _ chunk limits function entry r.
     EntryShown (λ p. p.line_info_lem) (λ x. delta-answer.Ok (to_z w8 x)) delta-answer.Err limits chunk.now function entry r
     ∷ [])
-delta_shown M 𝓤 𝓛 𝓜 𝓡 =
-    bytes_known 𝓛 𝓜 𝓡 delta-call.Symbol.routine 0 [] _ _ (delta-call.ended).kept (delta-call.clauses 𝓛 𝓜.mem 𝓡.run)
+delta_shown M 𝓤 𝓛 𝓜 𝓡 wired =
+    bytes_known 𝓛 𝓜 𝓡 (𝓡.env delta-call.Symbol.name) 0 [] _ _ (delta-contract.ended).kept (delta-contract.clauses 𝓛 𝓜.mem 𝓡.returns)
     (λ κs a _ r _. fact 𝓤 (EntryShown (λ p. p.line_info_lem) (λ x. delta-answer.Ok (to_z w8 x)) delta-answer.Err a.1.0 a.0.now a.1.1.0 a.1.1.1.0 r))
-    (λ κs a _ r _ below. fact_mono 𝓤 _ _ (entry_shown a.1.0 a.0.now (λ p. p.line_info_lem) (λ x. delta-answer.Ok (to_z w8 x)) delta-answer.Err shown_delta (λ x. refl) (λ q. refl) a.1.1.0 a.1.1.1.0 r)) (delta-call.Met.met 𝓤 𝓛 𝓜 𝓡)
+    (λ κs a _ r _ below. fact_mono 𝓤 _ _ (entry_shown a.1.0 a.0.now (λ p. p.line_info_lem) (λ x. delta-answer.Ok (to_z w8 x)) delta-answer.Err shown_delta (λ x. refl) (λ q. refl) a.1.1.0 a.1.1.1.0 r)) (delta-call.Met.met 𝓤 𝓛 𝓜 𝓡 wired)
 
-pub anchor-shown : Promise anchor-call.ended anchor-call.Symbol.routine (λ _ chunk limits function entry r.
+pub anchor-shown : Promise anchor-contract.ended anchor-call.Symbol.code anchor-call.Symbol.name (λ _ chunk limits function entry r.
     EntryShown (λ p. p.abs_line_info) anchor-answer.Ok anchor-answer.Err limits chunk.now function entry r
     ∷ [])
-anchor-shown M 𝓤 𝓛 𝓜 𝓡 =
-    bytes_known 𝓛 𝓜 𝓡 anchor-call.Symbol.routine 0 [] _ _ (anchor-call.ended).kept (anchor-call.clauses 𝓛 𝓜.mem 𝓡.run)
+anchor-shown M 𝓤 𝓛 𝓜 𝓡 wired =
+    bytes_known 𝓛 𝓜 𝓡 (𝓡.env anchor-call.Symbol.name) 0 [] _ _ (anchor-contract.ended).kept (anchor-contract.clauses 𝓛 𝓜.mem 𝓡.returns)
     (λ κs a _ r _. fact 𝓤 (EntryShown (λ p. p.abs_line_info) anchor-answer.Ok anchor-answer.Err a.1.0 a.0.now a.1.1.0 a.1.1.1.0 r))
-    (λ κs a _ r _ below. fact_mono 𝓤 _ _ (entry_shown a.1.0 a.0.now (λ p. p.abs_line_info) anchor-answer.Ok anchor-answer.Err shown_anchor (λ x. refl) (λ q. refl) a.1.1.0 a.1.1.1.0 r)) (anchor-call.Met.met 𝓤 𝓛 𝓜 𝓡)
+    (λ κs a _ r _ below. fact_mono 𝓤 _ _ (entry_shown a.1.0 a.0.now (λ p. p.abs_line_info) anchor-answer.Ok anchor-answer.Err shown_anchor (λ x. refl) (λ q. refl) a.1.1.0 a.1.1.1.0 r)) (anchor-call.Met.met 𝓤 𝓛 𝓜 𝓡 wired)
 
-pub upvalue-name-shown : Promise upvalue-name-call.ended upvalue-name-call.Symbol.routine (λ _ chunk limits function entry r.
+pub upvalue-name-shown : Promise upvalue-name-contract.ended upvalue-name-call.Symbol.code upvalue-name-call.Symbol.name (λ _ chunk limits function entry r.
     EntryShown (λ p. p.upvalue_names_lem) (λ t. name-answer.Ok (option_string t)) name-answer.Err limits chunk.now function entry r
     ∷ [])
-upvalue-name-shown M 𝓤 𝓛 𝓜 𝓡 =
-    bytes_known 𝓛 𝓜 𝓡 upvalue-name-call.Symbol.routine 0 [] _ _ (upvalue-name-call.ended).kept (upvalue-name-call.clauses 𝓛 𝓜.mem 𝓡.run)
+upvalue-name-shown M 𝓤 𝓛 𝓜 𝓡 wired =
+    bytes_known 𝓛 𝓜 𝓡 (𝓡.env upvalue-name-call.Symbol.name) 0 [] _ _ (upvalue-name-contract.ended).kept (upvalue-name-contract.clauses 𝓛 𝓜.mem 𝓡.returns)
     (λ κs a _ r _. fact 𝓤 (EntryShown (λ p. p.upvalue_names_lem) (λ t. name-answer.Ok (option_string t)) name-answer.Err a.1.0 a.0.now a.1.1.0 a.1.1.1.0 r))
-    (λ κs a _ r _ below. fact_mono 𝓤 _ _ (entry_shown a.1.0 a.0.now (λ p. p.upvalue_names_lem) (λ t. name-answer.Ok (option_string t)) name-answer.Err shown_name (λ x. refl) (λ q. refl) a.1.1.0 a.1.1.1.0 r)) (upvalue-name-call.Met.met 𝓤 𝓛 𝓜 𝓡)
+    (λ κs a _ r _ below. fact_mono 𝓤 _ _ (entry_shown a.1.0 a.0.now (λ p. p.upvalue_names_lem) (λ t. name-answer.Ok (option_string t)) name-answer.Err shown_name (λ x. refl) (λ q. refl) a.1.1.0 a.1.1.1.0 r)) (upvalue-name-call.Met.met 𝓤 𝓛 𝓜 𝓡 wired)
 
-pub local-shown : Promise local-call.ended local-call.Symbol.routine (λ _ chunk limits function entry name name' r.
+pub local-shown : Promise local-contract.ended local-call.Symbol.code local-call.Symbol.name (λ _ chunk limits function entry name name' r.
     LocalShown limits chunk.now function entry name.now name'.now r
     ∷ [])
-local-shown M 𝓤 𝓛 𝓜 𝓡 =
-    bytes_known 𝓛 𝓜 𝓡 local-call.Symbol.routine 1 [] _ _ (local-call.ended).kept (local-call.clauses 𝓛 𝓜.mem 𝓡.run)
+local-shown M 𝓤 𝓛 𝓜 𝓡 wired =
+    bytes_known 𝓛 𝓜 𝓡 (𝓡.env local-call.Symbol.name) 1 [] _ _ (local-contract.ended).kept (local-contract.clauses 𝓛 𝓜.mem 𝓡.returns)
     (λ κs a _ r end. fact 𝓤 (LocalShown a.1.0 a.0.now a.1.1.0 a.1.1.1.0 a.1.1.1.1.0.now end.1.1.1.1.0.now r))
     (λ κs a _ r end below. both 𝓤 _ _ _ (λ is leaves.
     let old = a.1.1.1.1.0.now in
@@ -314,7 +325,7 @@ local-shown M 𝓤 𝓛 𝓜 𝓡 =
       else =
           λ out. (let x = ((refusing a.1.0 a.0.now out).function a.1.1.0).local a.1.1.1.0 old in (_, (is ∙ x.0, leaves ∙ x.1)));
     }))
-    (local-call.Met.met 𝓤 𝓛 𝓜 𝓡)
+    (local-call.Met.met 𝓤 𝓛 𝓜 𝓡 wired)
 
 -- ## The copy
 -- bytes that belong, with the same reading but for what the demand sets aside
@@ -323,21 +334,21 @@ pub record Again (L : ResourceLimits) (r : Reading) (bytes : Bytes) : Type 0 whe
   pub same : SameButFor belongs.reading r
 
 -- what stands at the front of the lent memory, as much as is answered; the premises are the demand's
-pub written_read : Promise copy-call.ended copy-call.Symbol.routine (λ _ chunk limits out out' r.
+pub written_read : Promise copy-contract.ended copy-call.Symbol.code copy-call.Symbol.name (λ _ chunk limits out out' r.
     ((b : Belongs limits chunk.now) (n : ℕ) → r ≡ copy-answer.Ok n → 1 ≤ limits.max_string_bytes → length (take n out'.now) ≤ limits.max_input_bytes → Again limits b.reading (take n out'.now))
     ∷ [])
-written_read M 𝓤 𝓛 𝓜 𝓡 =
-    bytes_known 𝓛 𝓜 𝓡 copy-call.Symbol.routine 1 [] _ _ (copy-call.ended).kept (copy-call.clauses 𝓛 𝓜.mem 𝓡.run)
+written_read M 𝓤 𝓛 𝓜 𝓡 wired =
+    bytes_known 𝓛 𝓜 𝓡 (𝓡.env copy-call.Symbol.name) 1 [] _ _ (copy-contract.ended).kept (copy-contract.clauses 𝓛 𝓜.mem 𝓡.returns)
     (λ κs a _ r end. fact 𝓤 ((b : Belongs a.1.0 a.0.now) (n : ℕ) → r ≡ copy-answer.Ok n → 1 ≤ a.1.0.max_string_bytes → length (take n end.1.1.0.now) ≤ a.1.0.max_input_bytes → Again a.1.0 b.reading (take n end.1.1.0.now)))
     (λ κs a _ r end below. both 𝓤 _ _ _ (λ answers leaves b n e string input.
     (let x = written-is-read a.1.0 a.0.now a.1.1.0.now (take n end.1.1.0.now) b (record { len = n; new = end.1.1.0.now; call = record { below = below; answers = sym e ∙ answers; leaves = leaves }; bytes = refl }) string input in record { belongs = x.belongs; same = x.same })))
-    (copy-call.Met.met 𝓤 𝓛 𝓜 𝓡)
+    (copy-call.Met.met 𝓤 𝓛 𝓜 𝓡 wired)
 
-pub written-copy : Promise copy-call.ended copy-call.Symbol.routine (λ _ chunk limits out out' r.
+pub written-copy : Promise copy-contract.ended copy-call.Symbol.code copy-call.Symbol.name (λ _ chunk limits out out' r.
     CopyShown limits chunk.now out.now out'.now r
     ∷ [])
-written-copy M 𝓤 𝓛 𝓜 𝓡 =
-    bytes_known 𝓛 𝓜 𝓡 copy-call.Symbol.routine 1 [] _ _ (copy-call.ended).kept (copy-call.clauses 𝓛 𝓜.mem 𝓡.run)
+written-copy M 𝓤 𝓛 𝓜 𝓡 wired =
+    bytes_known 𝓛 𝓜 𝓡 (𝓡.env copy-call.Symbol.name) 1 [] _ _ (copy-contract.ended).kept (copy-contract.clauses 𝓛 𝓜.mem 𝓡.returns)
     (λ κs a _ r end. fact 𝓤 (CopyShown a.1.0 a.0.now a.1.1.0.now end.1.1.0.now r))
     (λ κs a _ r end below. both 𝓤 _ _ _ (λ is leaves.
     let old = a.1.1.0.now in
@@ -347,4 +358,4 @@ written-copy M 𝓤 𝓛 𝓜 𝓡 =
           λ b short. (let x = (shows a.1.0 a.0.now b).copy_too_long old short in (is ∙ x.0, leaves ∙ x.1));
       else = λ out. (let x = (refusing a.1.0 a.0.now out).copied old in (_, (is ∙ x.0, leaves ∙ x.1)));
     }))
-    (copy-call.Met.met 𝓤 𝓛 𝓜 𝓡)
+    (copy-call.Met.met 𝓤 𝓛 𝓜 𝓡 wired)

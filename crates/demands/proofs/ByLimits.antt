@@ -126,7 +126,7 @@ module _ (L M : ResourceLimits) where
       limited-here λ start.
       limited_then (limited-string L.max_string_bytes M.max_string_bytes) λ spelt.
       limited_then (same number) λ line_defined.
-      limited_then (same number) λ last-line_defined.
+      limited_then (same number) λ last_line_defined.
       limited_then (same (field 1)) λ numparams.
       limited_then (same (field 1)) λ is_vararg.
       limited_then (same (field 1)) λ maxstacksize.
@@ -134,7 +134,7 @@ module _ (L M : ResourceLimits) where
       limited_then (same number) λ size.
       limited_then (limited-at_most size L.max_instructions_per_proto M.max_instructions_per_proto (q.Instructions first) (limit (q.Instructions first) refl refl)) λ _.
       limited_then (limited-at_most (w.instructions + size) L.max_total_instructions M.max_total_instructions (q.TotalInstructions first) (limit (q.TotalInstructions first) refl refl)) λ _.
-      limited-here λ instructions-at.
+      limited-here λ instructions_at.
       limited_then (same (many size (field 4))) λ instructions.
       limited_then (limited-counted_up_to L.max_constants_per_proto M.max_constants_per_proto q.Constants (λ first. limit (q.Constants first) refl refl) (limited-constant L.max_string_bytes M.max_string_bytes)) λ constants.
       limited_then (limited-counted_up_to L.max_upvalues_per_proto M.max_upvalues_per_proto q.Upvalues (λ first. limit (q.Upvalues first) refl refl) (same upvalue)) λ upvalues.

@@ -85,7 +85,7 @@ pub record ShowsFunction (L : ResourceLimits) (s : Bytes) (f : ℕ) (p : Prototy
   pub upvalue : (i : ℕ) → shown_upvalue (entry_of (λ p. p.upvalues) f i (read L s)) ≡ shown_upvalue (or_refuse NoEntry (get_elem? p.upvalues i))
   pub delta : (i : ℕ) → shown_delta (entry_of (λ p. p.line_info_lem) f i (read L s)) ≡ shown_delta (or_refuse NoEntry (get_elem? p.line_info_lem i))
   pub anchor : (i : ℕ) → shown_anchor (entry_of (λ p. p.abs_line_info) f i (read L s)) ≡ shown_anchor (or_refuse NoEntry (get_elem? p.abs_line_info i))
-  pub upvalue-name : (i : ℕ) → shown_name (entry_of (λ p. p.upvalue_names_lem) f i (read L s)) ≡ shown_name (or_refuse NoEntry (get_elem? p.upvalue_names_lem i))
+  pub upvalue_name : (i : ℕ) → shown_name (entry_of (λ p. p.upvalue_names_lem) f i (read L s)) ≡ shown_name (or_refuse NoEntry (get_elem? p.upvalue_names_lem i))
   -- a local variable's name is written into lent space that has room for it, and what stood behind it stays; else 26, and all that stood there stays
   pub local : (i : ℕ) (l : LocalVar) → get_elem? p.loc_vars i ≡ some l → (old : Bytes) → length l.name.bytes ≤ length old
       → (shown_local (length old) (entry_of (λ p. p.loc_vars) f i (read L s)) ≡ local-answer.Ok (length l.name.bytes) l.startpc l.endpc)
@@ -95,9 +95,9 @@ pub record ShowsFunction (L : ResourceLimits) (s : Bytes) (f : ℕ) (p : Prototy
   pub no_local : (i : ℕ) → get_elem? p.loc_vars i ≡ none → (old : Bytes)
       → (shown_local (length old) (entry_of (λ p. p.loc_vars) f i (read L s)) ≡ local-answer.Err NoEntry) × (name_written old (entry_of (λ p. p.loc_vars) f i (read L s)) ≡ old)
   -- strings: what `string_bytes` shows by the place and length that are shown are their bytes
-  pub source-bytes : StandsIf s p.source_name
-  pub constant-bytes : (i : ℕ) (k : ConstantValue) → get_elem? p.constants i ≡ some k → ConstantStands s k
-  pub upvalue-name-bytes : (i : ℕ) (t : Option LuaString) → get_elem? p.upvalue_names_lem i ≡ some t → StandsIf s t
+  pub source_bytes : StandsIf s p.source_name
+  pub constant_bytes : (i : ℕ) (k : ConstantValue) → get_elem? p.constants i ≡ some k → ConstantStands s k
+  pub upvalue_name_bytes : (i : ℕ) (t : Option LuaString) → get_elem? p.upvalue_names_lem i ≡ some t → StandsIf s t
   -- the line of any pc, by 01's rules
   pub line : (pc : ℕ) → shown_line pc (function_of f (read L s)) ≡ answer_of (length p.instructions) p.line_defined p.line_info_lem p.abs_line_info pc
   -- those of any list of pcs, in lent space
@@ -111,7 +111,7 @@ pub record RefusesFunction (L : ResourceLimits) (s : Bytes) (f : ℕ) (q : Refus
   pub upvalue : (i : ℕ) → shown_upvalue (entry_of (λ p. p.upvalues) f i (read L s)) ≡ upvalue-answer.Err q
   pub delta : (i : ℕ) → shown_delta (entry_of (λ p. p.line_info_lem) f i (read L s)) ≡ delta-answer.Err q
   pub anchor : (i : ℕ) → shown_anchor (entry_of (λ p. p.abs_line_info) f i (read L s)) ≡ anchor-answer.Err q
-  pub upvalue-name : (i : ℕ) → shown_name (entry_of (λ p. p.upvalue_names_lem) f i (read L s)) ≡ name-answer.Err q
+  pub upvalue_name : (i : ℕ) → shown_name (entry_of (λ p. p.upvalue_names_lem) f i (read L s)) ≡ name-answer.Err q
   pub local : (i : ℕ) (old : Bytes) → (shown_local (length old) (entry_of (λ p. p.loc_vars) f i (read L s)) ≡ local-answer.Err q) × (name_written old (entry_of (λ p. p.loc_vars) f i (read L s)) ≡ old)
   pub line : (pc : ℕ) → shown_line pc (function_of f (read L s)) ≡ line-answer.Err q
   pub lines : (old pcs : List ℕ) → (shown_lines (length old) pcs (function_of f (read L s)) ≡ lines-answer.Err q) × (lines_written old pcs (function_of f (read L s)) ≡ old)
@@ -124,7 +124,7 @@ refuses-function L s f q is = record {
   upvalue = λ i. ap (λ a. shown_upvalue (entry_in (λ p. p.upvalues) i a)) is;
   delta = λ i. ap (λ a. shown_delta (entry_in (λ p. p.line_info_lem) i a)) is;
   anchor = λ i. ap (λ a. shown_anchor (entry_in (λ p. p.abs_line_info) i a)) is;
-  upvalue-name = λ i. ap (λ a. shown_name (entry_in (λ p. p.upvalue_names_lem) i a)) is;
+  upvalue_name = λ i. ap (λ a. shown_name (entry_in (λ p. p.upvalue_names_lem) i a)) is;
   local = λ i old. (ap (λ a. shown_local (length old) (entry_in (λ p. p.loc_vars) i a)) is, ap (λ a. name_written old (entry_in (λ p. p.loc_vars) i a)) is);
   line = λ pc. ap (shown_line pc) is;
   lines = λ old pcs. (ap (shown_lines (length old) pcs) is, ap (lines_written old pcs) is);
@@ -151,7 +151,7 @@ pub record Shows (L : ResourceLimits) (s : Bytes) (r : Reading) : Type 0 where
   -- the array by value always has room
   pub finding_array : (shown_findings LONGEST (read L s) ≡ findings-answer.Ok (verdict (chunk_findings r)) (length (chunk_findings r).findings))
       × (findings_written blank_list (read L s) ≡ (chunk_findings r).findings ++ drop (length (chunk_findings r).findings) blank_list)
-  pub copy-length : shown_length (read L s) ≡ copy-answer.Ok (length (copy r))
+  pub copy_length : shown_length (read L s) ≡ copy-answer.Ok (length (copy r))
   -- the copy is written into lent space that has room for it, and what stood behind it stays; else 26, and all that stood there stays
   pub copied : (old : Bytes) → length (copy r) ≤ length old → (shown_copy (length old) (read L s) ≡ copy-answer.Ok (length (copy r))) × (copy_written old (read L s) ≡ copy r ++ drop (length (copy r)) old)
   pub copy_too_long : (old : Bytes) → length old < length (copy r) → (shown_copy (length old) (read L s) ≡ copy-answer.Err LentSpace) × (copy_written old (read L s) ≡ old)
@@ -191,13 +191,13 @@ module _ (L : ResourceLimits) (s : Bytes) (r : Reading) (is : read L s ≡ shown
       upvalue = λ i. ap shown_upvalue (entry_is (λ p. p.upvalues) i);
       delta = λ i. ap shown_delta (entry_is (λ p. p.line_info_lem) i);
       anchor = λ i. ap shown_anchor (entry_is (λ p. p.abs_line_info) i);
-      upvalue-name = λ i. ap shown_name (entry_is (λ p. p.upvalue_names_lem) i);
+      upvalue_name = λ i. ap shown_name (entry_is (λ p. p.upvalue_names_lem) i);
       local = λ i l e old room. name i l e old true (le-leb (length l.name.bytes) (length old) room);
       local_too_long = λ i l e old short. name i l e old false (lt-leb (length l.name.bytes) (length old) short);
       no_local = λ i e old. let one = entry_is (λ p. p.loc_vars) i ∙ ap (or_refuse NoEntry) e in (ap (shown_local (length old)) one, ap (name_written old) one);
-      source-bytes = located.source_name;
-      constant-bytes = λ i k e. constant_stands s L.max_string_bytes i (many_nth (constant L.max_string_bytes) (length p.constants) located.constants i e);
-      upvalue-name-bytes = λ i t e. name_stands s L.max_string_bytes i (many_nth (string L.max_string_bytes) (length p.upvalue_names_lem) located.upvalue_names_lem i e);
+      source_bytes = located.source_name;
+      constant_bytes = λ i k e. constant_stands s L.max_string_bytes i (many_nth (constant L.max_string_bytes) (length p.constants) located.constants i e);
+      upvalue_name_bytes = λ i t e. name_stands s L.max_string_bytes i (many_nth (string L.max_string_bytes) (length p.upvalue_names_lem) located.upvalue_names_lem i e);
       line = λ pc. ap (shown_line pc) function-is;
       lines = λ old pcs. (ap (shown_lines (length old) pcs) function-is, ap (lines_written old pcs) function-is);
     }
@@ -221,7 +221,7 @@ module _ (L : ResourceLimits) (s : Bytes) (r : Reading) (is : read L s ≡ shown
     findings = λ old room. listed (length old) old refl true (le-leb (length (chunk_findings r).findings) (length old) room);
     findings_too_many = λ old short. listed (length old) old refl false (lt-leb (length (chunk_findings r).findings) (length old) short);
     finding_array = listed LONGEST blank_list array_length true (le-leb (length (chunk_findings r).findings) LONGEST (findings_few r));
-    copy-length = ap shown_length is;
+    copy_length = ap shown_length is;
     copied = λ old room. let test = le-leb (length (copy r)) (length old) room in (ap (shown_copy (length old)) is ∙ rw test, ap (copy_written old) is ∙ rw test);
     copy_too_long = λ old short. let test = lt-leb (length (copy r)) (length old) short in (ap (shown_copy (length old)) is ∙ rw test, ap (copy_written old) is ∙ rw test);
     full_length = ap shown_full_length is;
@@ -239,7 +239,7 @@ pub record Refuses (L : ResourceLimits) (s : Bytes) (q : Refusal) : Type 0 where
   pub finding_count : shownCount (read L s) ≡ count-answer.Err q
   pub findings : (old : List Finding) → (shown_findings (length old) (read L s) ≡ findings-answer.Err q) × (findings_written old (read L s) ≡ old)
   pub finding_array : (shown_findings LONGEST (read L s) ≡ findings-answer.Err q) × (findings_written blank_list (read L s) ≡ blank_list)
-  pub copy-length : shown_length (read L s) ≡ copy-answer.Err q
+  pub copy_length : shown_length (read L s) ≡ copy-answer.Err q
   pub copied : (old : Bytes) → (shown_copy (length old) (read L s) ≡ copy-answer.Err q) × (copy_written old (read L s) ≡ old)
   pub full_length : shown_full_length (read L s) ≡ copy-answer.Err q
   pub full_copied : (old : Bytes) → (shown_full (length old) (read L s) ≡ copy-answer.Err q) × (full_written old (read L s) ≡ old)
@@ -254,7 +254,7 @@ refuses L s q is = record {
   finding_count = ap shownCount is;
   findings = λ old. (ap (shown_findings (length old)) is, ap (findings_written old) is);
   finding_array = (ap (shown_findings LONGEST) is, ap (findings_written blank_list) is);
-  copy-length = ap shown_length is;
+  copy_length = ap shown_length is;
   copied = λ old. (ap (shown_copy (length old)) is, ap (copy_written old) is);
   full_length = ap shown_full_length is;
   full_copied = λ old. (ap (shown_full (length old)) is, ap (full_written old) is);

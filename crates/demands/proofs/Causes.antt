@@ -45,7 +45,7 @@ abbrev pub too_many_lem : Which → ℕ → ℕ → Cause
 too_many_lem ordinary at limit = above at limit
 too_many_lem stricter at limit = between at limit (2 ^ 31 - 128)
 
--- by 01's number, at a place (01, 'Who can cause a refusal' and 'header.rs'; 31 to 33: 02, item 7). 13: a size is one more than the content's length. 15: the count itself is not above its own limit, or it were 14 (that the sum is above the other is not said here: AtOneByte.antt, `fifteen-next`)
+-- by 01's number, at a place (01, 'Who can cause a refusal' and 'header.rs'; 31 to 33: 02, item 7). 13: a size is one more than the content's length. 15: the count itself is not above its own limit, or it were 14 (that the sum is above the other is not said here: AtOneByte.antt, `fifteen_next`)
 abbrev pub by_number_lem : Which → ResourceLimits → ℕ → ℕ → Cause
 by_number_lem of L n at =
     cond (eqb n 3) too_large_lem

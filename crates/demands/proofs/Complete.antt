@@ -36,7 +36,7 @@ use Rattle.copy_full.specs.InFull.{shown_full_length, shown_full, full_written}
 use Rattle.show_local.specs.Locals.{shown_local, name_written}
 use Rattle.demands.proofs.Calls.{ShowsFunction, RefusesFunction, Shows, Refuses}
 use Rattle.demands.proofs.Alike.{without_count, source_shown, constant_shown, name_shown, AnswerAlike, IndexAlike}
-use Rattle.demands.proofs.ShownEqual.{option_shown_lem, value-shown, name-shown}
+use Rattle.demands.proofs.ShownEqual.{option_shown_lem, value-shown, name_shown_lem}
 
 pub record RestAlike (L : ResourceLimits) (s : Bytes) (M : ResourceLimits) (t : Bytes) : Type 0 where
   pub line : (f pc : ℕ) → shown_line pc (function_of f (read L s)) ≡ shown_line pc (function_of f (read M t))
@@ -46,7 +46,7 @@ pub record RestAlike (L : ResourceLimits) (s : Bytes) (M : ResourceLimits) (t : 
   pub finding_count : shownCount (read L s) ≡ shownCount (read M t)
   pub findings : (old : List Finding) → (shown_findings (length old) (read L s) ≡ shown_findings (length old) (read M t)) × (findings_written old (read L s) ≡ findings_written old (read M t))
   pub finding_array : (shown_findings LONGEST (read L s) ≡ shown_findings LONGEST (read M t)) × (findings_written blank_list (read L s) ≡ findings_written blank_list (read M t))
-  pub copy-length : shown_length (read L s) ≡ shown_length (read M t)
+  pub copy_length : shown_length (read L s) ≡ shown_length (read M t)
   pub copied : (old : Bytes) → (shown_copy (length old) (read L s) ≡ shown_copy (length old) (read M t)) × (copy_written old (read L s) ≡ copy_written old (read M t))
   pub full_length : shown_full_length (read L s) ≡ shown_full_length (read M t)
   pub full_copied : (old : Bytes) → (shown_full (length old) (read L s) ≡ shown_full (length old) (read M t)) × (full_written old (read L s) ≡ full_written old (read M t))
@@ -95,23 +95,23 @@ module _ (L M : ResourceLimits) (s t : Bytes) where
         summary = via (ap without_count x.summary) (ap without_count y.summary);
         trailing = via x.trailing y.trailing;
         fields = λ f. function f (λ p a b. via a.fields b.fields) (λ q a b. via a.fields b.fields);
-        source-bytes = λ f. function f
-            (λ p a b. via (ap (source_shown s) a.fields ∙ option_shown_lem s p.source_name a.source-bytes) (ap (source_shown t) b.fields ∙ option_shown_lem t p.source_name b.source-bytes))
+        source_bytes = λ f. function f
+            (λ p a b. via (ap (source_shown s) a.fields ∙ option_shown_lem s p.source_name a.source_bytes) (ap (source_shown t) b.fields ∙ option_shown_lem t p.source_name b.source_bytes))
             (λ q a b. via (ap (source_shown s) a.fields) (ap (source_shown t) b.fields));
         instruction = λ f i. function f (λ p a b. via (a.instruction i) (b.instruction i)) (λ q a b. via (a.instruction i) (b.instruction i));
         constant = λ f i. function f (λ p a b. via (a.constant i) (b.constant i)) (λ q a b. via (a.constant i) (b.constant i));
-        constant-bytes = λ f i. function f
-            (λ p a b. via (ap (constant_shown s) (a.constant i) ∙ value-shown s (get_elem? p.constants i) (a.constant-bytes i)) (ap (constant_shown t) (b.constant i) ∙ value-shown t (get_elem? p.constants i) (b.constant-bytes i)))
+        constant_bytes = λ f i. function f
+            (λ p a b. via (ap (constant_shown s) (a.constant i) ∙ value-shown s (get_elem? p.constants i) (a.constant_bytes i)) (ap (constant_shown t) (b.constant i) ∙ value-shown t (get_elem? p.constants i) (b.constant_bytes i)))
             (λ q a b. via (ap (constant_shown s) (a.constant i)) (ap (constant_shown t) (b.constant i)));
         upvalue = λ f i. function f (λ p a b. via (a.upvalue i) (b.upvalue i)) (λ q a b. via (a.upvalue i) (b.upvalue i));
         delta = λ f i. function f (λ p a b. via (a.delta i) (b.delta i)) (λ q a b. via (a.delta i) (b.delta i));
         anchor = λ f i. function f (λ p a b. via (a.anchor i) (b.anchor i)) (λ q a b. via (a.anchor i) (b.anchor i));
-        upvalue-name = λ f i. function f (λ p a b. via (a.upvalue-name i) (b.upvalue-name i)) (λ q a b. via (a.upvalue-name i) (b.upvalue-name i));
-        upvalue-name-bytes = λ f i. function f
-            (λ p a b. via (ap (name_shown s) (a.upvalue-name i) ∙ name-shown s (get_elem? p.upvalue_names_lem i) (a.upvalue-name-bytes i)) (ap (name_shown t) (b.upvalue-name i) ∙ name-shown t (get_elem? p.upvalue_names_lem i) (b.upvalue-name-bytes i)))
-            (λ q a b. via (ap (name_shown s) (a.upvalue-name i)) (ap (name_shown t) (b.upvalue-name i)));
+        upvalue_name = λ f i. function f (λ p a b. via (a.upvalue_name i) (b.upvalue_name i)) (λ q a b. via (a.upvalue_name i) (b.upvalue_name i));
+        upvalue_name_bytes = λ f i. function f
+            (λ p a b. via (ap (name_shown s) (a.upvalue_name i) ∙ name_shown_lem s (get_elem? p.upvalue_names_lem i) (a.upvalue_name_bytes i)) (ap (name_shown t) (b.upvalue_name i) ∙ name_shown_lem t (get_elem? p.upvalue_names_lem i) (b.upvalue_name_bytes i)))
+            (λ q a b. via (ap (name_shown s) (a.upvalue_name i)) (ap (name_shown t) (b.upvalue_name i)));
         local = λ f i old. function f (λ p a b. (local_alike f p a b i old).0) (λ q a b. (both (a.local i old) (b.local i old)).0);
-        local-name = λ f i old. function f (λ p a b. (local_alike f p a b i old).1) (λ q a b. (both (a.local i old) (b.local i old)).1);
+        local_name = λ f i old. function f (λ p a b. (local_alike f p a b i old).1) (λ q a b. (both (a.local i old) (b.local i old)).1);
       },
       record {
         line = λ f pc. function f (λ p a b. via (a.line pc) (b.line pc)) (λ q a b. via (a.line pc) (b.line pc));
@@ -121,7 +121,7 @@ module _ (L M : ResourceLimits) (s t : Bytes) where
         finding_count = via x.finding_count y.finding_count;
         findings = λ old. room (length (chunk_findings r).findings) (length old) (λ fits. both (x.findings old fits) (y.findings old fits)) (λ short. both (x.findings_too_many old short) (y.findings_too_many old short));
         finding_array = both x.finding_array y.finding_array;
-        copy-length = via x.copy-length y.copy-length;
+        copy_length = via x.copy_length y.copy_length;
         copied = λ old. room (length (copy r)) (length old) (λ fits. both (x.copied old fits) (y.copied old fits)) (λ short. both (x.copy_too_long old short) (y.copy_too_long old short));
         full_length = via x.full_length y.full_length;
         full_copied = λ old. room (length (full_copy r)) (length old) (λ fits. both (x.full_copied old fits) (y.full_copied old fits)) (λ short. both (x.full_too_long old short) (y.full_too_long old short));
@@ -136,17 +136,17 @@ module _ (L M : ResourceLimits) (s t : Bytes) where
         summary = via (ap without_count x.summary) (ap without_count y.summary);
         trailing = via x.trailing y.trailing;
         fields = λ f. via (x.function f).fields (y.function f).fields;
-        source-bytes = λ f. via (ap (source_shown s) (x.function f).fields) (ap (source_shown t) (y.function f).fields);
+        source_bytes = λ f. via (ap (source_shown s) (x.function f).fields) (ap (source_shown t) (y.function f).fields);
         instruction = λ f i. via ((x.function f).instruction i) ((y.function f).instruction i);
         constant = λ f i. via ((x.function f).constant i) ((y.function f).constant i);
-        constant-bytes = λ f i. via (ap (constant_shown s) ((x.function f).constant i)) (ap (constant_shown t) ((y.function f).constant i));
+        constant_bytes = λ f i. via (ap (constant_shown s) ((x.function f).constant i)) (ap (constant_shown t) ((y.function f).constant i));
         upvalue = λ f i. via ((x.function f).upvalue i) ((y.function f).upvalue i);
         delta = λ f i. via ((x.function f).delta i) ((y.function f).delta i);
         anchor = λ f i. via ((x.function f).anchor i) ((y.function f).anchor i);
-        upvalue-name = λ f i. via ((x.function f).upvalue-name i) ((y.function f).upvalue-name i);
-        upvalue-name-bytes = λ f i. via (ap (name_shown s) ((x.function f).upvalue-name i)) (ap (name_shown t) ((y.function f).upvalue-name i));
+        upvalue_name = λ f i. via ((x.function f).upvalue_name i) ((y.function f).upvalue_name i);
+        upvalue_name_bytes = λ f i. via (ap (name_shown s) ((x.function f).upvalue_name i)) (ap (name_shown t) ((y.function f).upvalue_name i));
         local = λ f i old. via ((x.function f).local i old).0 ((y.function f).local i old).0;
-        local-name = λ f i old. via ((x.function f).local i old).1 ((y.function f).local i old).1;
+        local_name = λ f i old. via ((x.function f).local i old).1 ((y.function f).local i old).1;
       },
       record {
         line = λ f pc. via ((x.function f).line pc) ((y.function f).line pc);
@@ -156,7 +156,7 @@ module _ (L M : ResourceLimits) (s t : Bytes) where
         finding_count = via x.finding_count y.finding_count;
         findings = λ old. both (x.findings old) (y.findings old);
         finding_array = both x.finding_array y.finding_array;
-        copy-length = via x.copy-length y.copy-length;
+        copy_length = via x.copy_length y.copy_length;
         copied = λ old. both (x.copied old) (y.copied old);
         full_length = via x.full_length y.full_length;
         full_copied = λ old. both (x.full_copied old) (y.full_copied old);

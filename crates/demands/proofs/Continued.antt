@@ -21,7 +21,7 @@ use Rattle.format.specs.Form.{Bytes, Form}
 use Rattle.format.specs.Reading.{Prototype}
 use Rattle.format.specs.GrammarHeader.{signature, luac_data, luac_int, luac_num}
 use Rattle.format.specs.GrammarChunk.{inherit, Where, after, within}
-use Rattle.format.specs.Read.{Read, ok, refused, Reader, next, ◌>>=◌, ◌>>◌, give, here, refuse, test, at_most, run, many}
+use Rattle.format.specs.Read.{Read, ok, refused, Reader, next, ◌>>=◌, give, here, refuse, test, at_most, run, many}
 use Rattle.format.specs.ReadFields.{field, groups, number, content, string}
 use Rattle.format.specs.ReadHeader.{same_bytes, expect, before_format, behind_format, header}
 use Rattle.format.specs.ReadChunk.{counted, counted_up_to, always, constant, upvalue, anchor, local, forest, body, function, main}
@@ -182,7 +182,7 @@ module _ (L : ResourceLimits) where
       on-here λ start.
       on_then (exact_string limit) (on-string limit) λ spelt.
       on_then exact_number on-number λ line_defined.
-      on_then exact_number on-number λ last-line_defined.
+      on_then exact_number on-number λ last_line_defined.
       on_then (exact_field 1) (on-field 1) λ numparams.
       on_then (exact_field 1) (on-field 1) λ is_vararg.
       on_then (exact_field 1) (on-field 1) λ maxstacksize.
@@ -190,7 +190,7 @@ module _ (L : ResourceLimits) where
       on_then exact_number on-number λ size.
       on_then (exact_at_most size L.max_instructions_per_proto (q.Instructions first)) (on-at_most size L.max_instructions_per_proto (q.Instructions first) (omega arith)) λ _.
       on_then (exact_at_most (w.instructions + size) L.max_total_instructions (q.TotalInstructions first)) (on-at_most (w.instructions + size) L.max_total_instructions (q.TotalInstructions first) (omega arith)) λ _.
-      on-here λ instructions-at.
+      on-here λ instructions_at.
       on_then (exact_many size (exact_field 4)) (on-many size (exact_field 4) (on-field 4)) λ instructions.
       on_then (exact_counted_up_to L.max_constants_per_proto q.Constants (exact_constant limit)) (on-counted_up_to L.max_constants_per_proto q.Constants (λ place. omega arith) (exact_constant limit) (on-constant limit)) λ constants.
       on_then (exact_counted_up_to L.max_upvalues_per_proto q.Upvalues exact_upvalue) (on-counted_up_to L.max_upvalues_per_proto q.Upvalues (λ place. omega arith) exact_upvalue on-upvalue) λ upvalues.

@@ -15,7 +15,7 @@ use Rattle.format.specs.declared.limits.ResourceLimits.{ResourceLimits}
 use Rattle.format.specs.declared.refusal.Refusal.TheVariants.{Truncated, Overflow}
 use Rattle.format.specs.Form.{Bytes}
 use Rattle.format.specs.Limits.{within_ceilings}
-use Rattle.format.specs.Read.{Read, ok, refused, Reader, next, ◌>>=◌, at_most}
+use Rattle.format.specs.Read.{Read, ok, refused, Reader, ◌>>=◌, at_most}
 use Rattle.format.specs.ReadFields.{number}
 use Rattle.format.specs.GrammarChunk.{Loaded}
 use Rattle.format.specs.ReadChunk.{Outcome, refusal, outcome, main, read}

@@ -1,7 +1,7 @@
 -- Demand 1. Only what 01 lists is refused, with its number, and of several conditions the first in 01's order is the one that is reported; lent memory is then as it was.
 -- One theorem for each call: number and place of the refusal in its answer are those of the first of its conditions that holds (Refused.antt), in the order 21, 22, 1 to 20, 23, 24, 25, 26, for words 28, 27;
 -- where none holds there is none. Each call's contract says that its answer is the definition that stands here on the left (Demand2.antt).
--- (That every call ends and that nothing wraps is proved with each function. `trailing_bytes` and `string_bytes` show bytes and hold no refusal: of a chunk that is refused there are no trailing bytes, `no-trailing`.
+-- (That every call ends and that nothing wraps is proved with each function. `trailing_bytes` and `string_bytes` show bytes and hold no refusal: of a chunk that is refused there are no trailing bytes, `no_trailing`.
 -- `validate_findings::array::chunk_findings` has `findings` with a space of 10,001, which is always enough: `all_fit`.)
 --     places           a refusal's place is one of the file, or the file's end
 --     summary ..       the order of a call's refusals
@@ -151,8 +151,8 @@ module _ (L : ResourceLimits) (s : Bytes) where
   pub count : in_count (shownCount (read L s)) ≡ first (for_chunk L s)
   count = whole_chunk shownCount in_count (λ r. refl) (λ q. refl)
 
-  pub copy-length : in_copy (shown_length (read L s)) ≡ first (for_chunk L s)
-  copy-length = whole_chunk shown_length in_copy (λ r. refl) (λ q. refl)
+  pub copy_length : in_copy (shown_length (read L s)) ≡ first (for_chunk L s)
+  copy_length = whole_chunk shown_length in_copy (λ r. refl) (λ q. refl)
 
   pub full_length : in_copy (shown_full_length (read L s)) ≡ first (for_chunk L s)
   full_length = whole_chunk shown_full_length in_copy (λ r. refl) (λ q. refl)
@@ -228,8 +228,8 @@ module _ (L : ResourceLimits) (s : Bytes) where
     pub anchor : in_anchor (shown_anchor (entry_of (λ p. p.abs_line_info) f i (read L s))) ≡ first (for_entry L s (λ p. p.abs_line_info) f i)
     anchor = entry (λ p. p.abs_line_info) shown_anchor in_anchor (λ x. refl) (λ q. refl) f i
 
-    pub upvalue-name : in_name (shown_name (entry_of (λ p. p.upvalue_names_lem) f i (read L s))) ≡ first (for_entry L s (λ p. p.upvalue_names_lem) f i)
-    upvalue-name = entry (λ p. p.upvalue_names_lem) shown_name in_name (λ x. refl) (λ q. refl) f i
+    pub upvalue_name : in_name (shown_name (entry_of (λ p. p.upvalue_names_lem) f i (read L s))) ≡ first (for_entry L s (λ p. p.upvalue_names_lem) f i)
+    upvalue_name = entry (λ p. p.upvalue_names_lem) shown_name in_name (λ x. refl) (λ q. refl) f i
 
     -- local: then 23, 24, 26
     pub local : (space : ℕ) → in_local (shown_local space (entry_of (λ p. p.loc_vars) f i (read L s))) ≡ first (for_local L s f i space)

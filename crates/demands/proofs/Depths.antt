@@ -13,7 +13,7 @@ use lib.ListN.{length}
 use Rattle.format.specs.declared.limits.ResourceLimits.{ResourceLimits}
 use Rattle.format.specs.Form.{Bytes, All, Form, Then, Given, Nothing}
 use Rattle.format.specs.Reading.{Prototype, Reading}
-use Rattle.format.specs.GrammarChunk.{Where, after, within, inherit, Forest, Body, Function, Loaded, outermost, Main, Chunk}
+use Rattle.format.specs.GrammarChunk.{Where, after, within, inherit, Forest, Body, Function, outermost, Main, Chunk}
 use Rattle.format.proofs.Every.{Every, any, every_then, every_is, every_nothing, all_append, all_split}
 use Rattle.format.proofs.Wider.{same_wider}
 use Rattle.format_lua.proofs.WiderIf.{WiderIf, ends, tested, untested, none_if, unasked, learnt, refuted}
@@ -46,14 +46,14 @@ module _ (L : ResourceLimits) (d : ℕ) where
       every_then any λ start _.
       every_then any λ spelt _.
       every_then any λ line_defined _.
-      every_then any λ last-line_defined _.
+      every_then any λ last_line_defined _.
       every_then any λ numparams _.
       every_then any λ is_vararg _.
       every_then any λ maxstacksize _.
       every_then any λ size _.
       every_then any λ _ _.
       every_then any λ _ _.
-      every_then any λ instructions-at _.
+      every_then any λ instructions_at _.
       every_then any λ instructions _.
       every_then any λ constants _.
       every_then any λ upvalues _.
@@ -98,14 +98,14 @@ module _ (L : ResourceLimits) (d : ℕ) where
       untested same_wider λ start.
       untested same_wider λ spelt.
       untested same_wider λ line_defined.
-      untested same_wider λ last-line_defined.
+      untested same_wider λ last_line_defined.
       untested same_wider λ numparams.
       untested same_wider λ is_vararg.
       untested same_wider λ maxstacksize.
       untested same_wider λ size.
       untested same_wider λ _.
       untested same_wider λ _.
-      untested same_wider λ instructions-at.
+      untested same_wider λ instructions_at.
       untested same_wider λ instructions.
       untested same_wider λ constants.
       untested same_wider λ upvalues.

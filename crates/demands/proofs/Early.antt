@@ -18,7 +18,7 @@ use Rattle.format.specs.GrammarFields.{base128, little, Number, Field}
 use Rattle.format.specs.Reading.{Prototype}
 use Rattle.format.specs.GrammarHeader.{signature, luac_data, luac_int, luac_num}
 use Rattle.format.specs.GrammarChunk.{Where, after}
-use Rattle.format.specs.Read.{Read, ok, refused, Reader, next, ◌>>=◌, ◌>>◌, give, here, refuse, test, at_most, piece, run, many}
+use Rattle.format.specs.Read.{Read, ok, refused, Reader, next, ◌>>=◌, give, here, refuse, test, at_most, piece, run, many}
 use Rattle.format.specs.ReadFields.{field, groups, number, content, string}
 use Rattle.format.specs.ReadHeader.{same_bytes, expect, before_format, behind_format, header}
 use Rattle.format.specs.ReadChunk.{counted, counted_up_to, always, tagged, constant, upvalue, anchor, local, forest, body, function, main}
@@ -447,14 +447,14 @@ module _ {L : ResourceLimits} where
       early_here λ start.
       early_then (exact_string L.max_string_bytes) early_string λ spelt.
       early_then exact_number early_number λ line_defined.
-      early_then exact_number early_number λ last-line_defined.
+      early_then exact_number early_number λ last_line_defined.
       early_then (exact_field 1) (early_field 1) λ numparams.
       early_then (exact_field 1) (early_field 1) λ is_vararg.
       early_then (exact_field 1) (early_field 1) λ maxstacksize.
       early_numbered _ λ first size bytes d.
       soon_counts _ first size w.instructions bytes d tt (
       soon_early (
-      early_here λ instructions-at.
+      early_here λ instructions_at.
       early_then (exact_many size (exact_field 4)) (early_many size (exact_field 4) (early_field 4)) λ instructions.
       early_then (exact_counted_up_to L.max_constants_per_proto q.Constants (exact_constant L.max_string_bytes))
       (early_counted_up_to L.max_constants_per_proto q.Constants (λ place. refl) (exact_constant L.max_string_bytes) early_constant) λ constants.

@@ -6,7 +6,7 @@
 use mathlib.Core.Path.{◌≡◌, refl, sym, ◌∙◌, ap}
 use mathlib.Core.Bool.{Bool, true, false, cond}
 use mathlib.Core.Logic.{◌↔◌}
-use mathlib.Core.Option.{Option, none, some}
+use mathlib.Core.Option.{some}
 use Prim.Native.Nat.{ℕ, ◌≤◌}
 use native.Mathlib.Omega.{arith}
 use lib.Dec.{leb}
@@ -26,7 +26,7 @@ use Rattle.format.specs.Form.{Bytes}
 use Rattle.format.specs.Limits.{within_ceilings}
 use Rattle.format.specs.GrammarChunk.{Loaded}
 use Rattle.format.specs.Read.{Read, ok, refused}
-use Rattle.format.specs.ReadChunk.{Outcome, shown, refusal, outcome, main, read}
+use Rattle.format.specs.ReadChunk.{Outcome, refusal, outcome, main, read}
 use Rattle.format.proofs.OrderCases.{refused_with}
 use Rattle.demands.proofs.Order.{in_byte_order}
 

@@ -13,7 +13,7 @@
 use mathlib.Core.Path.{◌≡◌, refl, sym, ◌∙◌, ap, subst}
 use mathlib.Core.Bool.{Bool, true, false, cond, ◌||◌, ◌&&◌}
 use mathlib.Core.List.{List, [], ◌∷◌, ◌++◌, append_assoc}
-use Prim.Native.Nat.{ℕ, zero, suc, ◌+◌, ◌-◌, ◌*◌, ◌%◌, ◌^◌, ◌≤◌, ◌<◌}
+use Prim.Native.Nat.{ℕ, zero, suc, ◌+◌, ◌-◌, ◌*◌, ◌%◌, ◌^◌, ◌≤◌}
 use native.Mathlib.Omega.{arith}
 use lib.Dec.{leb, ltb, eqb}
 use lib.ListN.{length}
@@ -26,7 +26,7 @@ use Rattle.format.specs.Refusals.{reported}
 use Rattle.format.specs.Reading.{Prototype}
 use Rattle.format.specs.GrammarHeader.{signature, luac_data, luac_int, luac_num}
 use Rattle.format.specs.GrammarChunk.{inherit, Where, after, within}
-use Rattle.format.specs.Read.{Read, ok, refused, Reader, next, ◌>>=◌, ◌>>◌, give, here, refuse, test, at_most, piece, run, many}
+use Rattle.format.specs.Read.{Read, ok, refused, Reader, next, ◌>>=◌, give, here, refuse, test, at_most, piece, run, many}
 use Rattle.format.specs.ReadFields.{field, byte, groups, number, content, string}
 use Rattle.format.specs.ReadHeader.{same_bytes, expect, before_format, behind_format, header}
 use Rattle.format.specs.ReadChunk.{counted, counted_up_to, always, constant, upvalue, anchor, local, forest, body, function, main}
@@ -438,15 +438,15 @@ module _ (L M : ResourceLimits) (wide : Raised L M) where
       cures_here λ start.
       cures_then (exact_string l) cures_string (λ spelt.
       cures_plainly exact_number plain_number λ line_defined.
-      cures_plainly exact_number plain_number λ last-line_defined.
+      cures_plainly exact_number plain_number λ last_line_defined.
       cures_plainly (exact_field 1) (plain_field 1) λ numparams.
       cures_plainly (exact_field 1) (plain_field 1) λ is_vararg.
       cures_plainly (exact_field 1) (plain_field 1) λ maxstacksize.
       cures_here λ first.
       cures_plainly exact_number plain_number λ size.
       cures_then (exact_at_most size L.max_instructions_per_proto (q.Instructions first)) (cures_at_most size L.max_instructions_per_proto M.max_instructions_per_proto (q.Instructions first) wide.instructions refl) (λ _.
-      cures_then (exact_at_most (w.instructions + size) L.max_total_instructions (q.TotalInstructions first)) (cures_at_most (w.instructions + size) L.max_total_instructions M.max_total_instructions (q.TotalInstructions first) wide.all-instructions refl) (λ _.
-      cures_here λ instructions-at.
+      cures_then (exact_at_most (w.instructions + size) L.max_total_instructions (q.TotalInstructions first)) (cures_at_most (w.instructions + size) L.max_total_instructions M.max_total_instructions (q.TotalInstructions first) wide.all_instructions refl) (λ _.
+      cures_here λ instructions_at.
       cures_plainly (exact_many size (exact_field 4)) (plain_many size (plain_field 4)) λ instructions.
       cures_then (exact_counted_up_to L.max_constants_per_proto q.Constants (exact_constant l)) (cures_counted_up_to L.max_constants_per_proto M.max_constants_per_proto q.Constants wide.constants (λ first. refl) (exact_constant l) cures_constant (lacking_constant m)) (λ constants.
       cures_then (exact_counted_up_to L.max_upvalues_per_proto q.Upvalues exact_upvalue) (cures_counted_up_to L.max_upvalues_per_proto M.max_upvalues_per_proto q.Upvalues wide.upvalues (λ first. refl) exact_upvalue (cures_plain plain_upvalue) (lacking_then lacking_byte _)) (λ upvalues.
@@ -469,8 +469,8 @@ module _ (L M : ResourceLimits) (wide : Raised L M) where
       (λ _. bare-here λ protos-at. bare_then (bare-forest protos (within w (inherit spelt w.source) (length instructions)) bare) λ nested. bare_stops (lacking_then lacking_number _)))
       (λ upvalues. bare-here λ first. bare_stops (lacking_then lacking_number _)))
       (λ constants. bare_stops (lacking_then (lacking_here λ first. lacking_then lacking_number _) _)))
-      (λ _. bare-here λ instructions-at. bare_then (bare-many size lacking_word) λ instructions. bare_stops (lacking_then (lacking_here λ first. lacking_then lacking_number _) _)))
-      (λ _. bare_then (bare-test (leb (w.instructions + size) M.max_total_instructions) (q.TotalInstructions first) refl) λ _. bare-here λ instructions-at. bare_then (bare-many size lacking_word) λ instructions. bare_stops (lacking_then (lacking_here λ first. lacking_then lacking_number _) _)))
+      (λ _. bare-here λ instructions_at. bare_then (bare-many size lacking_word) λ instructions. bare_stops (lacking_then (lacking_here λ first. lacking_then lacking_number _) _)))
+      (λ _. bare_then (bare-test (leb (w.instructions + size) M.max_total_instructions) (q.TotalInstructions first) refl) λ _. bare-here λ instructions_at. bare_then (bare-many size lacking_word) λ instructions. bare_stops (lacking_then (lacking_here λ first. lacking_then lacking_number _) _)))
       (λ spelt. bare_stops (lacking_then lacking_number _))
 
   -- where a nested function begins: none may, under the lower limit

@@ -16,7 +16,7 @@ use lib.Seq.{length-take-le}
 use Rattle.format.specs.declared.limits.ResourceLimits.{ResourceLimits}
 use Rattle.format.specs.Form.{Bytes, Below}
 use Rattle.format.specs.GrammarFields.{little}
-use Rattle.format.specs.Reading.{ConstantValue, nil, boolean, integer, float, short-string, long-string, Prototype}
+use Rattle.format.specs.Reading.{ConstantValue, nil, boolean, integer, float, short_string, long_string, Prototype}
 use Rattle.format.specs.Read.{Reader, run}
 use Rattle.format.specs.ReadFields.{field}
 use Rattle.format.specs.ReadChunk.{tagged, constant}
@@ -46,8 +46,8 @@ IntegerFits (integer n) = n < 2 ^ 64
 IntegerFits nil = Unit {0}
 IntegerFits (boolean b) = Unit {0}
 IntegerFits (float n) = Unit {0}
-IntegerFits (short-string t) = Unit {0}
-IntegerFits (long-string t) = Unit {0}
+IntegerFits (short_string t) = Unit {0}
+IntegerFits (long_string t) = Unit {0}
 
 module _ (s : Bytes) (below : Below 256 s) where
   below_part : (n at : ℕ) → Below 256 (take n (drop at s))

@@ -3,13 +3,13 @@
 --     field_place n     the place of the field that the number n names
 --     of_header p       4 to 11, or 31
 --     Right p          p has that place
---     header-places    of `read`, with which every call on a chunk begins; strict-header-places: of `strictRead`
+--     header-places    of `read`, with which every call on a chunk begins; strict_header-places: of `strict_read`
 -- By two laws for each way to make a reader: `Shuns r`, that it never refuses so, and `Placed start behind r`, that
 -- from the place `start` on it takes bytes up to the place `behind`, and refuses so rightly.
 -- Assumes nothing.
 use mathlib.Core.Path.{◌≡◌, refl, sym, ◌∙◌, ap, subst}
 use mathlib.Core.Bool.{Bool, true, false, cond, ◌&&◌, ◌||◌}
-use mathlib.Core.List.{List, [], ◌∷◌, ◌++◌}
+use mathlib.Core.List.{List, [], ◌∷◌}
 use mathlib.Core.Option.{Option, none, some}
 use Prim.Native.Nat.{ℕ, zero, suc, ◌+◌, ◌-◌, ◌*◌, ◌%◌, ◌^◌}
 use native.Mathlib.Omega.{arith}
@@ -30,7 +30,7 @@ use Rattle.format.specs.GrammarChunk.{Listed, inherit, Where, after, within, Loa
 use Rattle.format.specs.Read.{Read, ok, refused, Reader, next, ◌>>=◌, ◌>>◌, give, here, refuse, test, at_most, piece, run, many}
 use Rattle.format.specs.ReadFields.{field, byte, groups, number, content, string}
 use Rattle.format.specs.ReadHeader.{same_bytes, expect, before_format, behind_format, header}
-use Rattle.format.specs.ReadChunk.{always, constant, upvalue, anchor, local, forest, body, function, main, Outcome, refusal, outcome, read}
+use Rattle.format.specs.ReadChunk.{always, constant, upvalue, anchor, local, forest, body, function, main, refusal, outcome, read}
 use Rattle.format_strict.specs.ReadStrict.{int, there, present, strict_constant, strict_anchor, strict_local, strict_body, strict_function, strict_header, strict_main, strict_read}
 use Rattle.demands.proofs.Early.{never, no, was}
 use Rattle.demands.proofs.AtOneByte.{enter}
@@ -183,7 +183,7 @@ module _ (L : ResourceLimits) where
         shuns_here λ start.
         shuns_then (shuns_string limit) λ spelt.
         shuns_then one-num λ line_defined.
-        shuns_then one-num λ last-line_defined.
+        shuns_then one-num λ last_line_defined.
         shuns_then (shuns_field 1) λ numparams.
         shuns_then (shuns_field 1) λ is_vararg.
         shuns_then (shuns_field 1) λ maxstacksize.
@@ -191,7 +191,7 @@ module _ (L : ResourceLimits) where
         shuns_then one-num λ size.
         shuns_then (shuns_test (leb size L.max_instructions_per_proto) (q.Instructions first) refl) λ _.
         shuns_then (shuns_test (leb (w.instructions + size) L.max_total_instructions) (q.TotalInstructions first) refl) λ _.
-        shuns_here λ instructions-at.
+        shuns_here λ instructions_at.
         shuns_then (shuns_many size (shuns_field 4)) λ instructions.
         shuns_then (shuns_listed_up_to L.max_constants_per_proto q.Constants (λ first. refl) one-con) λ constants.
         shuns_then (shuns_listed_up_to L.max_upvalues_per_proto q.Upvalues (λ first. refl) shuns_upvalue) λ upvalues.

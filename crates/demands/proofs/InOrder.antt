@@ -44,7 +44,7 @@ use Rattle.format.specs.declared.refusal.Place.TheVariants.{At, None}
 use Rattle.format.specs.Reading.{Prototype}
 use Rattle.format.specs.GrammarHeader.{signature, luac_data, luac_int, luac_num}
 use Rattle.format.specs.GrammarChunk.{inherit, Where, after, within}
-use Rattle.format.specs.Read.{Read, ok, refused, Reader, next, ◌>>=◌, give, here, refuse, test, at_most, short, piece, run, many}
+use Rattle.format.specs.Read.{Read, ok, refused, Reader, next, ◌>>=◌, give, here, refuse, test, at_most, piece, run, many}
 use Rattle.format.specs.ReadFields.{field, groups, number, content, string}
 use Rattle.format.specs.ReadHeader.{same_bytes, expect, before_format, behind_format, header}
 use Rattle.format.specs.ReadChunk.{counted, counted_up_to, always, tagged, constant, upvalue, anchor, local, forest, body, function, main}
@@ -444,7 +444,7 @@ steady_body L one w =
     steady_here λ start.
     steady_then (steady_string L.max_string_bytes) λ spelt.
     steady_then steady_number λ line_defined.
-    steady_then steady_number λ last-line_defined.
+    steady_then steady_number λ last_line_defined.
     steady_then (steady_field 1 refl) λ numparams.
     steady_then (steady_field 1 refl) λ is_vararg.
     steady_then (steady_field 1 refl) λ maxstacksize.
@@ -452,7 +452,7 @@ steady_body L one w =
     steady_then steady_number λ size.
     steady_then (steady_at_most size L.max_instructions_per_proto (Instructions first) (tested (Instructions first) refl refl own)) λ _.
     steady_then (steady_at_most (w.instructions + size) L.max_total_instructions (TotalInstructions first) (tested (TotalInstructions first) refl refl own)) λ _.
-    steady_here λ instructions-at.
+    steady_here λ instructions_at.
     steady_then (steady_many size (steady_field 4 refl)) λ instructions.
     steady_then (steady_counted_up_to L.max_constants_per_proto Constants (λ first. tested (Constants first) refl refl own) (λ low. steady_constant L.max_string_bytes)) λ constants.
     steady_then (steady_counted_up_to L.max_upvalues_per_proto Upvalues (λ first. tested (Upvalues first) refl refl own) λ low. steady_upvalue) λ upvalues.

@@ -56,14 +56,14 @@ body-here L one w =
     every_then any λ start _.
     every_then any λ spelt _.
     every_then any λ line_defined _.
-    every_then any λ last-line_defined _.
+    every_then any λ last_line_defined _.
     every_then any λ numparams _.
     every_then any λ is_vararg _.
     every_then any λ maxstacksize _.
     every_then any λ size _.
     every_then any λ _ _.
     every_then any λ _ _.
-    every_then any λ instructions-at _.
+    every_then any λ instructions_at _.
     every_then any λ instructions _.
     every_then any λ constants _.
     every_then any λ upvalues _.

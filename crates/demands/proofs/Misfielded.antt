@@ -4,10 +4,10 @@
 -- Continued.antt; it knows no limits, so ByLimits.antt, Blame.antt and Fault.antt say nothing of it
 --     not_misfielded       and is refused by Mends.antt
 -- Assumes nothing.
-use mathlib.Core.Path.{◌≡◌, refl, sym, ◌∙◌, ap, subst}
+use mathlib.Core.Path.{◌≡◌, refl, sym}
 use mathlib.Core.Bool.{Bool, true, false, cond}
-use mathlib.Core.List.{List, [], ◌∷◌, ◌++◌}
-use Prim.Native.Nat.{ℕ, ◌+◌, ◌≤◌, ◌<◌}
+use mathlib.Core.List.{[], ◌∷◌, ◌++◌}
+use Prim.Native.Nat.{ℕ, ◌+◌, ◌<◌}
 use native.Mathlib.Nat.{add-zero}
 use native.Mathlib.Omega.{arith}
 use lib.Dec.{eqb}
@@ -19,15 +19,15 @@ use Rattle.format.specs.declared.refusal.Refusal.TheVariants as q
 use Rattle.format.specs.Form.{Bytes}
 use Rattle.format.specs.Refusals.{reported}
 use Rattle.format.specs.GrammarFields.{Field}
-use Rattle.format.specs.Read.{Read, ok, refused, Reader, next, ◌>>=◌, give, here, test}
+use Rattle.format.specs.Read.{Reader, ◌>>=◌, give, here, test}
 use Rattle.format.specs.ReadFields.{byte}
 use Rattle.format.proofs.ExactFields.{exact_field}
 use Rattle.demands.proofs.Causes.{ordinary, cause_by, Ends}
 use Rattle.demands.proofs.InOrder.{Steady, Tested, tested, own, steady_give, steady_here, steady_then, steady_test, steady_field}
-use Rattle.demands.proofs.Early.{Early, Soon, early_field, early_first, early_give, soon_early, soon_test, read_byte}
+use Rattle.demands.proofs.Early.{Early, early_field, early_first, early_give, soon_early, soon_test, read_byte}
 use Rattle.demands.proofs.Order.{decided, InByteOrder}
 use Rattle.demands.proofs.Continued.{Judged, Continues, on-here, on_then, on-field}
-use Rattle.demands.proofs.Fault.{Mild, NoFault}
+use Rattle.demands.proofs.Fault.{Mild}
 use Rattle.demands.proofs.Mends.{Mends, right}
 
 abbrev pub named : ℕ → ℕ → Refusal

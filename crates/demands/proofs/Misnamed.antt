@@ -2,28 +2,27 @@
 -- is refused, at its place, by the number of another limit that it happens to be above too (14 in
 -- place of 17).
 --     accepts_the_same     it accepts exactly what the right one accepts, so that demand 3 says nothing of it
---     misnamed_in_order    it is in byte order, each refusal for its cause (Order.antt); misnamed-steady: it lacks
+--     misnamed_in_order    it is in byte order, each refusal for its cause (Order.antt); misnamed_steady: it lacks
 --                          bytes where it says so (CutShort.antt)
---     misnamed_continues   it goes on (Continued.antt); misnamed-limited: the limits cause what they cause
+--     misnamed_continues   it goes on (Continued.antt); misnamed_limited: the limits cause what they cause
 --                          (ByLimits.antt)
 --     told_apart           and it is another reader: a count of 1, where both limits are 0
 -- Assumes nothing.
-use mathlib.Core.Path.{◌≡◌, refl, sym, ◌∙◌, ap}
+use mathlib.Core.Path.{◌≡◌, refl}
 use mathlib.Core.Bool.{Bool, true, false, cond}
-use mathlib.Core.List.{List, [], ◌∷◌, ◌++◌}
+use mathlib.Core.List.{[], ◌∷◌, ◌++◌}
 use mathlib.Core.Logic.{◌↔◌}
-use Prim.Native.Nat.{ℕ, ◌+◌, ◌≤◌, ◌<◌}
+use Prim.Native.Nat.{ℕ, ◌<◌}
 use native.Mathlib.Omega.{arith}
 use lib.Dec.{leb}
-use lib.ListN.{length}
-use borrow.Author.Tests.{leb-true, leb-false}
+use borrow.Author.Tests.{leb-false}
 use Rattle.format.specs.declared.limits.ResourceLimits.{ResourceLimits}
 use Rattle.format.specs.declared.refusal.Refusal.{Refusal}
 use Rattle.format.specs.declared.refusal.Refusal.TheVariants as q
 use Rattle.format.specs.Refusals.{reported}
 use Rattle.format.specs.Form.{Bytes}
 use Rattle.format.specs.GrammarFields.{Number}
-use Rattle.format.specs.Read.{Read, ok, refused, Reader, next, ◌>>=◌, ◌>>◌, give, here, test, at_most}
+use Rattle.format.specs.Read.{Read, ok, refused, Reader, next, ◌>>=◌, give, here, test, at_most}
 use Rattle.format.specs.ReadFields.{number}
 use Rattle.format.proofs.Exact.{exact_at_most}
 use Rattle.format.proofs.ExactFields.{exact_number}

@@ -50,7 +50,7 @@ pub record Parted (L : ResourceLimits) (s : Bytes) (before : List Prototype) (p 
   pub rest : Tail
   pub is : p ≡ prototype_of place p.start first rest p.end
   pub source : place.source ≡ source_of before p.parent
-  pub at-start : Found s (head L 0) p.start first
+  pub at_start : Found s (head L 0) p.start first
   pub trailing : Bytes
   pub behind_nested : tail L.max_string_bytes (last_end (length before) p.places.protos later) (drop (last_end (length before) p.places.protos later) s) ≡ ok rest p.end trailing
 
@@ -130,7 +130,7 @@ module _ (L : ResourceLimits) (s : Bytes) where
         rest = f.rest;
         is = f.is;
         source = f.source;
-        at-start = f.at-start;
+        at_start = f.at_start;
         trailing = f.trailing;
         behind_nested = ap (λ at. tail L.max_string_bytes at (drop at s)) same ∙ f.behind_nested;
       }
@@ -207,7 +207,7 @@ module _ (L : ResourceLimits) (s : Bytes) where
                 rest = t;
                 is = refl;
                 source = source;
-                at-start = record { to = first; rest = one.0.rest; is = ap (λ at. head L 0 at (drop at s)) from ∙ (fewer_head L w.instructions at (drop at s)).holds h first one.0.rest one.0.is };
+                at_start = record { to = first; rest = one.0.rest; is = ap (λ at. head L 0 at (drop at s)) from ∙ (fewer_head L w.instructions at (drop at s)).holds h first one.0.rest one.0.is };
                 trailing = two.rest;
                 behind_nested = ap (λ at. tail L.max_string_bytes at (drop at s)) place ∙ two.is ∙ ap (λ k. ok t k two.rest) (sym upto);
               },

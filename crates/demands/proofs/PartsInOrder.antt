@@ -9,7 +9,7 @@ use Rattle.format.specs.declared.limits.ResourceLimits.{ResourceLimits}
 use Rattle.format.specs.declared.refusal.Refusal.{Refusal}
 use Rattle.format.specs.declared.refusal.Refusal.TheVariants as q
 use Rattle.format.specs.Form.{Bytes, Form, Then, Is, Here}
-use Rattle.format.specs.Read.{refused, Reader, next, ◌>>=◌, give, here}
+use Rattle.format.specs.Read.{refused, Reader, ◌>>=◌, give, here}
 use Rattle.format.specs.ReadFields as fields
 use Rattle.format.specs.ReadChunk as chunk
 use Rattle.format.proofs.Exact.{Exact, exact_give, exact_here, exact_then, exact_at_most, exact_run, exact_many}

@@ -2,7 +2,7 @@
 --     by_entries, shown_list       lists are related, or equal, entry by entry
 --     option_same, value_same      a string and a constant, from what is shown of it and the bytes that stand where it is shown
 --     locals_same                  a local variable, from its answer and the name in lent space
---     warnings-same                warnings, of which a reading has at most two (`few-warnings`)
+--     warnings-same                warnings, of which a reading has at most two (`few_warnings`)
 -- Assumes nothing.
 use mathlib.Core.Path.{◌≡◌, refl, sym, ◌∙◌, ap, ap₂}
 use mathlib.Core.Bool.{Bool, true, false, cond}
@@ -43,7 +43,6 @@ use Rattle.read_nth.proofs.Strings.{ConstantStands}
 use Rattle.show_row.specs.Asked.{Asked, found, refused, or_refuse}
 use Rattle.show_local.specs.declared.LocalAnswer.TheVariants as local-answer
 use Rattle.show_local.specs.Locals.{shown_local, name_written}
-use Rattle.demands.proofs.Calls.{shows}
 use Rattle.demands.proofs.Same.{Pairwise, SameLocal}
 use Rattle.demands.proofs.Fits.{IntegerFits}
 use Rattle.demands.proofs.Alike.{option_shown, value_shown}
@@ -106,8 +105,8 @@ back_value b constant.Nil = reading.nil
 back_value b (constant.Boolean x) = reading.boolean x
 back_value b (constant.Integer z) = reading.integer (of_z w64 z)
 back_value b (constant.Float n) = reading.float n
-back_value b (constant.ShortString a) = reading.short-string (record { place = a.place; bytes = b })
-back_value b (constant.LongString a) = reading.long-string (record { place = a.place; bytes = b })
+back_value b (constant.ShortString a) = reading.short_string (record { place = a.place; bytes = b })
+back_value b (constant.LongString a) = reading.long_string (record { place = a.place; bytes = b })
 
 value-back : (s : Bytes) (k : reading.ConstantValue) → ConstantStands s k → IntegerFits k → back_value (value_shown s (constant_value k)) (constant_value k) ≡ k
 unfolding back_value
@@ -115,8 +114,8 @@ value-back s reading.nil h fits = refl
 value-back s (reading.boolean b) h fits = refl
 value-back s (reading.integer n) h fits = ap reading.integer (of_z-to_z {w = w64} {n = n} (record { fits = fits }))
 value-back s (reading.float n) h fits = refl
-value-back s (reading.short-string t) h fits = rw h.there
-value-back s (reading.long-string t) h fits = rw h.there
+value-back s (reading.short_string t) h fits = rw h.there
+value-back s (reading.long_string t) h fits = rw h.there
 
 pub value_same : (s t : Bytes) (a b : reading.ConstantValue) → ConstantStands s a → IntegerFits a → ConstantStands t b → IntegerFits b
     → constant_value a ≡ constant_value b → value_shown s (constant_value a) ≡ value_shown t (constant_value b) → a ≡ b

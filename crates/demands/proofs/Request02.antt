@@ -1,4 +1,4 @@
--- REQUEST 2 (02, item 2): two more columns in the index. Each sentence of it once, of what `function_index` answers and leaves in the numbers lent to it (`shownIndex`, `indexWritten`, crates/index/specs/Index.antt;
+-- REQUEST 2 (02, item 2): two more columns in the index. Each sentence of it once, of what `function_index` answers and leaves in the numbers lent to it (`shown_index`, `index_written`, crates/index/specs/Index.antt;
 -- that it does is Demand2.antt, `function-index`, and behind C Demand2C.antt, `index`).
 --     index_size          "An index for n functions now takes 14 times n numbers"
 --     row                 "Each index row grows from 12 to 14 numbers": from number 14 f on stand those of function f, the first twelve as they were, then the rows of the functions behind it
@@ -11,7 +11,7 @@
 --     too_short           "and refusal 26 is judged by that": where fewer are lent the answer is 26, and they are as they were
 --     judged_last         after every other refusal: a chunk that is refused is refused so, however few are lent, and they are as they were
 -- Assumes nothing.
-use mathlib.Core.Path.{◌≡◌, refl, sym, ◌∙◌, ap}
+use mathlib.Core.Path.{◌≡◌, refl, ◌∙◌, ap}
 use mathlib.Core.List.{List, [], ◌∷◌, ◌++◌}
 use mathlib.Core.Option.{Option, some}
 use Prim.Native.Nat.{ℕ, zero, suc, ◌+◌, ◌*◌, ◌≤◌, ◌<◌}

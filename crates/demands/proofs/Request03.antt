@@ -1,11 +1,11 @@
 -- REQUEST 3 (02, item 3): the lines of a list of pcs. Each sentence of it once, about what `get_lines_for_pcs` and `lafzimdo_lines` show.
---     get_lines_for_pcs    the whole contract, met by the code; lafzimdo-lines: the same behind C
+--     get_lines_for_pcs    the whole contract, met by the code; lafzimdo_lines: the same behind C
 --     each_line            "Each line equals the single lookup's"; behind: what is lent beyond the lines stays
 --     read_distinct        "how many line deltas were read, equal to the number of distinct deltas that the single lookups walk over", said with a list; the answer counts them by a test of each (specs/Batch.antt)
 --     read_most            "so never more than the function has"
---     not-read             what no lookup walks over does not matter to the lines; and each delta that a lookup walks over does matter to its line (`walked-matters`): so the numbers counted are those that the lines depend on, no more and no fewer
+--     not-read             what no lookup walks over does not matter to the lines; and each delta that a lookup walks over does matter to its line (`walked_matters`): so the numbers counted are those that the lines depend on, no more and no fewer
 --     empty_list           "An empty list that passes the checks answers with no lines and 0"
---     checks               "after 25 come 29 .. and 30 ..; 26 stays last": number and place of the refusal in the answer are those of the first of the conditions that holds (`forLines`, Refused.antt); checks-in-c: behind C
+--     checks               "after 25 come 29 .. and 30 ..; 26 stays last": number and place of the refusal in the answer are those of the first of the conditions that holds (`for_lines`, Refused.antt); checks_in_c: behind C
 --     accepted             and where none holds, the answer is Ok, with the function's lines
 --     lines-kept           a call that refuses leaves lent memory as it was
 -- Worked cases: crates/line_batch/proofs/Cases.antt. That two chunks with one reading answer alike: Complete.antt.
@@ -36,9 +36,10 @@ use Rattle.line_batch.specs.declared.list.LinesAnswer.TheVariants as lines
 use Rattle.line_batch.specs.Batch.{walked_by, has, walked_by_any, deltas_read, rises, never_falls, refusal_of, answered, over_if, shown_lines, lines_written}
 use Rattle.line_batch.proofs.Laws.{distinct, joined}
 use Rattle.line_batch.proofs.Laws as laws
+use Rattle.line_batch.specs.contracts.list.get_lines_for_pcs as get-lines-for-pcs-contract
 use Rattle.line_batch.proofs.list.get_lines_for_pcs as get-lines-for-pcs-call
-use Rattle.c_boundary.specs.Status.{limits_of}
 use Rattle.lafzimdo.specs.Answers.{ofLines}
+use Rattle.lafzimdo.specs.contracts.space.lafzimdo_lines as lines-contract
 use Rattle.lafzimdo.proofs.space.lafzimdo_lines as lines-call
 use Rattle.demands.proofs.Promise.{Promise}
 use Rattle.demands.proofs.Refused.{unless, missing, first, no_function, of_function_lem, large_line, anchor_order, pc_order, too_long_lem, for_lines, in_lines}
@@ -48,13 +49,13 @@ use Rattle.demands.proofs.Accepted.{Accepted, Present}
 use Rattle.demands.proofs.ByC.{in_answer, InC, law}
 
 -- ## The calls
-pub get_lines_for_pcs : Promise get-lines-for-pcs-call.ended get-lines-for-pcs-call.Symbol.routine (λ _ chunk limits function pcs lines lines' r.
+pub get_lines_for_pcs : Promise get-lines-for-pcs-contract.ended get-lines-for-pcs-call.Symbol.code get-lines-for-pcs-call.Symbol.name (λ _ chunk limits function pcs lines lines' r.
     (r ≡ shown_lines (length lines.now) pcs.now (function_of function (read limits chunk.now)))
     ∷ (lines'.now ≡ lines_written lines.now pcs.now (function_of function (read limits chunk.now)))
     ∷ [])
 get_lines_for_pcs _ = get-lines-for-pcs-call.Met.met
 
-pub lafzimdo_lines : Promise lines-call.ended lines-call.Symbol.routine (λ _ chunk limits function pcs lines lines' out out' r.
+pub lafzimdo_lines : Promise lines-contract.ended lines-call.Symbol.code lines-call.Symbol.name (λ _ chunk limits function pcs lines lines' out out' r.
     Answered r out out' (ofLines (shown_lines (length lines.now) pcs.now (function_of function (read_in limits chunk))))
     ++ (lines'.now ≡ lines_written lines.now pcs.now (function_of function (read_in limits chunk)))
     ∷ [])

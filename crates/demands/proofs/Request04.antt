@@ -18,6 +18,7 @@ use lib.ListN.{length, get_elem?}
 use Rattle.format.specs.Shortest.{shortest}
 use Rattle.copy_put.specs.Lengths.{lengths}
 use Rattle.copy_put.proofs.Table.{table_rule}
+use Rattle.copy_put.specs.contracts.shortest.varint_len as varint-len-contract
 use Rattle.copy_put.proofs.shortest.varint_len as varint-len-call
 use Rattle.demands.proofs.Promise.{Promise}
 
@@ -38,7 +39,7 @@ none_idle zeros h =
     (2 ^ bits - 1, omega (arith, one, most), sym (leading_unique 64 (2 ^ bits - 1) zeros bits (omega arith) (omega (arith, one)) (omega (arith, one))))
 
 -- ## The code
-pub varint_len : Promise varint-len-call.ended varint-len-call.Symbol.routine (λ _ v r.
+pub varint_len : Promise varint-len-contract.ended varint-len-call.Symbol.code varint-len-call.Symbol.name (λ _ v r.
     (r ≡ length (shortest v))
     ∷ [])
 varint_len _ = varint-len-call.Met.met

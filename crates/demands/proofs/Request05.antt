@@ -2,8 +2,8 @@
 --     ceiling              "The ceiling for nesting becomes 14": of the definitions, and so of `ResourceLimits::ceilings` and `within_ceilings`, whose promises (Demand2.antt) name them
 --     listed               "and `chunklist` uses 14"
 --     above_refused        "A limit of 15 is now refused with number 21": any above 14 is, whatever the chunk and the other limits
---     by_every_call        by every call of Rattle that goes by the reading, and lent memory stays as it was; strict_above, first-in-strict: by the stricter summary, in Rattle and behind C
---     first_in_c           by every call behind C: it is the first of their conditions, and each returns the first that holds (ByC.antt); first-at-places: so of the calls at a place (RefusedAt.antt)
+--     by_every_call        by every call of Rattle that goes by the reading, and lent memory stays as it was; strict_above, first_in_strict: by the stricter summary, in Rattle and behind C
+--     first_in_c           by every call behind C: it is the first of their conditions, and each returns the first that holds (ByC.antt); first_at-places: so of the calls at a place (RefusedAt.antt)
 --     still_read           "A chunk nested 14 deep is still read when its limit is 14": what belongs to the grammar under any nesting limit, and has no function deeper than 14, is read under 14, with the same reading
 --     none_deeper          and nothing that is read has a function deeper than 14
 --     as_before            and nothing else has changed: under a nesting limit of at most 14 the reader is what it was with any higher ceiling, 200 or another
@@ -15,7 +15,6 @@ use mathlib.Core.Bool.{Bool, true, false, cond, ◌&&◌}
 use mathlib.Core.List.{List}
 use mathlib.Core.Option.{Option, some}
 use Prim.Native.Nat.{ℕ, ◌≤◌, ◌<◌}
-use native.Mathlib.Omega.{arith}
 use borrow.Author.Tests.{le-leb, lt-leb}
 use lib.Dec.{leb}
 use lib.ListN.{length}

@@ -1,9 +1,9 @@
 -- REQUEST 6 (02, item 6): keep a nested function's own source. Each sentence of it once, about what the calls show and write.
 --     (Demand2.antt)       "A full copy is added beside the archive copy": the promises of `full_copy` and `full_copy_length`; Demand2C.antt: of the two behind C. (Demand1.antt: what they refuse, 26 by the full copy's length,
---                          `full-copied`, and that lent memory is then as it was, `full-kept`.)
+--                          `full_copied`, and that lent memory is then as it was, `full_kept`.)
 --     full_sources         "In it a nested source is absent exactly when its bytes equal the parent's as read, or both are missing, and is written otherwise": of the bytes that `full_copy` writes. None of the nested sources that
 --                          they spell is its parent's as read, and with those that they spell every function reads with the source that it had
---     absent_exactly, else_written     the same of the definition that the copy is made by (`nestedSource`), of every function that is read, by its parent's number
+--     absent_exactly, else_written     the same of the definition that the copy is made by (`nested_source`), of every function that is read, by its parent's number
 --     full_is-read         "For full copies the reading keeps every source name": under the premises the full copy is read again, with the same reading but for format byte, warnings and places (`SameInFull`)
 --     equal_full_copies    "and two scripts have equal full copies exactly when their readings agree on those as well", each read under limits of its own
 --                          "The premises on string and input limits stay": of full_is-read, full_sources and full_written-is-read (of none-repeated and full_unpadded that on strings); the others have none
@@ -14,14 +14,14 @@
 --     full_unpadded        none of its numbers is padded (02, item 1)
 --     none-repeated        none of the nested sources that it spells is its parent's
 --     as_lua_dumps_in_full     it is what Lua's own dumper writes, where four things do not part the two (crates/format_lua/proofs/LdumpFull.antt)
--- Refused by full-sources: a copy that writes every source (crates/format_spelling/proofs/SpellingCases.antt has such chunks, with a count of 1 and more), one that leaves out a source that differs.
+-- Refused by full_sources: a copy that writes every source (crates/format_spelling/proofs/SpellingCases.antt has such chunks, with a count of 1 and more), one that leaves out a source that differs.
 -- Of what `full_copy` writes (`FullWrites`, Written.antt): full_is-written, full_written-is-read, full_written_again, full_written_once_more, equal_full_written, archive_of_full_written.
 -- Assumes nothing.
-use mathlib.Core.Path.{◌≡◌, refl, sym, ◌∙◌, ap, subst}
+use mathlib.Core.Path.{◌≡◌, refl, sym, ◌∙◌, subst}
 use mathlib.Core.Logic.{◌↔◌}
 use mathlib.Core.Bool.{Bool, true, false, cond}
 use mathlib.Core.List.{List, [], ◌∷◌, ◌++◌}
-use mathlib.Core.Option.{Option, none, map}
+use mathlib.Core.Option.{Option, none}
 use Prim.Native.Nat.{ℕ, ◌≤◌}
 use lib.ListN.{length, take}
 use contract.Monad.{fact}
@@ -31,7 +31,7 @@ use Rattle.format.specs.GrammarFields.{LuaString}
 use Rattle.format.specs.Reading.{Prototype, Reading}
 use Rattle.format.specs.GrammarChunk.{Chunk}
 use Rattle.format.specs.ReadChunk.{shown, read}
-use Rattle.format.specs.Copy.{kept_string, copy}
+use Rattle.format.specs.Copy.{copy}
 use Rattle.format.specs.FullCopy.{equal_sources, nested_source, full_copy}
 use Rattle.format.proofs.FullSources as sources
 use Rattle.format.proofs.ReadChunkLaws.{read_sound, read_complete}
@@ -43,6 +43,7 @@ use Rattle.format_lua.proofs.LdumpWhole.{source_of}
 use Rattle.format_lua.proofs.LdumpFull.{AsLuaInFull, full_as_dumped}
 use Rattle.copy.specs.declared.whole.CopyAnswer.{CopyAnswer}
 use Rattle.copy.specs.declared.whole.CopyAnswer.TheVariants as copy-answer
+use Rattle.copy_full.specs.contracts.full_copy as full-copy-contract
 use Rattle.copy_full.proofs.full_copy as full-copy-call
 use Rattle.demands.proofs.Promise.{Promise}
 use Rattle.demands.proofs.Slices.{bytes_known}
@@ -74,7 +75,7 @@ absent_of outer p i =
     }
   where
     by : (own : Option LuaString) → ¬ SameOption own outer → (b : Bool) → equal_sources own outer ≡ b → cond b none own ≡ own
-    by own other true e = absurd (other (to_option own outer (sources.same_source own outer e)))
+    by own other true e = absurd (other (to_option own outer (sources.same_source_lem own outer e)))
     by own other false e = refl
 
 all_absent : (source : Prototype → Option LuaString) (ps : List Prototype) → All (λ p. Inherited (source p) p) ps → All (λ p. AbsentExactly (source p) p) ps
@@ -105,7 +106,7 @@ full_is-read L chunk b below string input =
 pub full_unpadded : (L : ResourceLimits) (chunk : Bytes) (b : Belongs L chunk) → Below 256 chunk → 1 ≤ L.max_string_bytes → (again : Belongs L (full_copy b.reading)) → padded_in again.is ≡ 0
 full_unpadded L chunk b below string again = (full_tidy L chunk b.reading b.is below string again.reading again.is).0
 
--- and of its nested sources none is spelt that is its parent's as read: with `full-is-read`, which has every other back, 02's sentence of the bytes themselves
+-- and of its nested sources none is spelt that is its parent's as read: with `full_is-read`, which has every other back, 02's sentence of the bytes themselves
 pub none-repeated : (L : ResourceLimits) (chunk : Bytes) (b : Belongs L chunk) → Below 256 chunk → 1 ≤ L.max_string_bytes → (again : Belongs L (full_copy b.reading)) → (spelling_of again.is).repeated ≡ 0
 none-repeated L chunk b below string again = (full_tidy L chunk b.reading b.is below string again.reading again.is).2
 
@@ -153,15 +154,15 @@ written_in_full L chunk old written b w string input =
     let whole : WrittenInFull L b.reading (full_copy b.reading) = record { belongs = again.belongs; same = again.same; unrepeated = none-repeated L chunk b w.call.below string again.belongs } in
     rw is whole
 
-pub full_sources : Promise full-copy-call.ended full-copy-call.Symbol.routine (λ _ chunk limits out out' r.
+pub full_sources : Promise full-copy-contract.ended full-copy-call.Symbol.code full-copy-call.Symbol.name (λ _ chunk limits out out' r.
     ((b : Belongs limits chunk.now) (n : ℕ) → r ≡ copy-answer.Ok n → 1 ≤ limits.max_string_bytes → length (take n out'.now) ≤ limits.max_input_bytes → WrittenInFull limits b.reading (take n out'.now))
     ∷ [])
-full_sources M 𝓤 𝓛 𝓜 𝓡 =
-    bytes_known 𝓛 𝓜 𝓡 full-copy-call.Symbol.routine 1 [] _ _ (full-copy-call.ended).kept (full-copy-call.clauses 𝓛 𝓜.mem 𝓡.run)
+full_sources M 𝓤 𝓛 𝓜 𝓡 wired =
+    bytes_known 𝓛 𝓜 𝓡 (𝓡.env full-copy-call.Symbol.name) 1 [] _ _ (full-copy-contract.ended).kept (full-copy-contract.clauses 𝓛 𝓜.mem 𝓡.returns)
     (λ κs a _ r end. fact 𝓤 ((b : Belongs a.1.0 a.0.now) (n : ℕ) → r ≡ copy-answer.Ok n → 1 ≤ a.1.0.max_string_bytes → length (take n end.1.1.0.now) ≤ a.1.0.max_input_bytes → WrittenInFull a.1.0 b.reading (take n end.1.1.0.now)))
     (λ κs a _ r end below. both 𝓤 _ _ _ (λ answers leaves b n e string input.
     written_in_full a.1.0 a.0.now a.1.1.0.now (take n end.1.1.0.now) b (record { len = n; new = end.1.1.0.now; call = record { below = below; answers = sym e ∙ answers; leaves = leaves }; bytes = refl }) string input))
-    (full-copy-call.Met.met 𝓤 𝓛 𝓜 𝓡)
+    (full-copy-call.Met.met 𝓤 𝓛 𝓜 𝓡 wired)
 
 -- bytes that are the full copy have themselves for their full copy, and for their archive copy that of the chunk
 module _ (L M : ResourceLimits) (chunk old written : Bytes) (w : FullWrites L chunk old written) (again : Belongs M written) where

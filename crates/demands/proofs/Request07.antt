@@ -1,19 +1,19 @@
--- REQUEST 7 (02, item 7): reading as the analyser will. Each sentence of it once, about the stricter reading `strictRead` (crates/format_strict/specs/ReadStrict.antt), and of the call.
---     (Demand2.antt)       "A further reading call": `strict_summary` answers by `strictRead` what `chunk_summary` answers by `read`; Demand2C.antt: behind C, with what it leaves of the lent array
+-- REQUEST 7 (02, item 7): reading as the analyser will. Each sentence of it once, about the stricter reading `strict_read` (crates/format_strict/specs/ReadStrict.antt), and of the call.
+--     (Demand2.antt)       "A further reading call": `strict_summary` answers by `strict_read` what `chunk_summary` answers by `read`; Demand2C.antt: behind C, with what it leaves of the lent array
 --     same_answer          "is stricter, with the same answer when it accepts"
---     strict_then_read     "Acceptance here implies acceptance by the ordinary reading, with an equal reading"; strict-shows: that reading every other call shows
+--     strict_then_read     "Acceptance here implies acceptance by the ordinary reading, with an equal reading"; strict_shows: that reading every other call shows
 --     only_besides         "is stricter": a chunk that is read, and not strictly, is refused by 31 to 33; strict_agrees (crates/format_strict/proofs/StrictAgrees.antt): else both refuse alike
 --     strict_exactly, call_exactly     "the chunks accepted are exactly those that belong under the limits to the stricter grammar, which is stated by itself" (crates/format_strict/specs/GrammarStrict.antt: no reader in it)
 --     strict_as_lua        "It limits every number that lundump.c reads as an int, which is all but string sizes": exactly what Lua's own loader takes, where it is within the limits (`LoadedWithin`, crates/format_lua/specs/LundumpWithin.antt)
---     checks, call_checks, lafzimdo_strict_summary     "Checks: 31 .. 32 .. 33 ..": number and place of the refusal are those of the first of 21, 22 and what the reader refuses; of the call; behind C. strict-coded: and
+--     checks, call_checks, lafzimdo_strict_summary     "Checks: 31 .. 32 .. 33 ..": number and place of the refusal are those of the first of 21, 22 and what the reader refuses; of the call; behind C. strict_coded: and
 --                                  what C gets has both
 -- And of these checks, in StrictOrder.antt:
 --     strict_decided_early, strict_in_byte_order   1 to 20 and 31 to 33 come in byte order, each for its cause
 --     thirty_one, format_first     "31, a format byte other than 0, right after that byte"
---     thirty-two, int_first        "32, such a number of 2^31 − 128 or more, when it is complete" (int-incomplete: not before), "before 2 and before its limit": before anything is made of it. fourteen, sixteen, seventeen,
+--     thirty_two, int_first        "32, such a number of 2^31 − 128 or more, when it is complete" (int_incomplete: not before), "before 2 and before its limit": before anything is made of it. fourteen, sixteen, seventeen,
 --                                  eighteen: so a count that is refused for its limit is below 2^31 − 128
 --     thirty_three, null_first     "33, a string constant of size 0, right after the size"
---                                  "The place is the first byte of the format, number or size refused": `begins` in each of the three causes. strict-places: it lies in the file
+--                                  "The place is the first byte of the format, number or size refused": `begins` in each of the three causes. strict_places: it lies in the file
 -- Worked cases: crates/format_strict/proofs/StrictCases.antt.
 -- Assumes nothing.
 use mathlib.Core.Path.{◌≡◌, refl, sym, ◌∙◌, ap}

@@ -18,7 +18,7 @@ use Rattle.format.specs.declared.header.Header as declared
 use Rattle.format.specs.Form.{Bytes}
 use Rattle.format.specs.GrammarFields.{LuaString}
 use Rattle.format.specs.GrammarHeader.{header_of, Header}
-use Rattle.format.specs.Reading.{ConstantValue, nil, boolean, integer, float, short-string, long-string, LocalVar, Prototype, Reading}
+use Rattle.format.specs.Reading.{ConstantValue, nil, boolean, integer, float, short_string, long_string, LocalVar, Prototype, Reading}
 use Rattle.format.specs.GrammarChunk.{Main, Chunk}
 use Rattle.format.specs.Copy.{kept_constant, kept_local, kept_function, kept_nested, kept_functions, kept, kept_string}
 use Rattle.format.proofs.Every.{Every, any, every_then, every_is}
@@ -45,8 +45,8 @@ SameConstant nil d = d ≡ nil
 SameConstant (boolean b) d = d ≡ boolean b
 SameConstant (integer n) d = d ≡ integer n
 SameConstant (float n) d = d ≡ float n
-SameConstant (short-string t) d = SameString (λ v. d ≡ short-string v) t
-SameConstant (long-string t) d = SameString (λ v. d ≡ long-string v) t
+SameConstant (short_string t) d = SameString (λ v. d ≡ short_string v) t
+SameConstant (long_string t) d = SameString (λ v. d ≡ long_string v) t
 
 pub record SameLocal (l m : LocalVar) : Type 0 where
   pub name : l.name.bytes ≡ m.name.bytes
@@ -58,7 +58,7 @@ pub record SameFunction (p q : Prototype) : Type 0 where
   pub depth : p.depth ≡ q.depth
   pub parent : p.parent ≡ q.parent
   pub line_defined : p.line_defined ≡ q.line_defined
-  pub last-line_defined : p.last-line_defined ≡ q.last-line_defined
+  pub last_line_defined : p.last_line_defined ≡ q.last_line_defined
   pub numparams : p.numparams ≡ q.numparams
   pub is_vararg : p.is_vararg ≡ q.is_vararg
   pub maxstacksize : p.maxstacksize ≡ q.maxstacksize
@@ -146,16 +146,16 @@ constant_self nil = refl
 constant_self (boolean b) = refl
 constant_self (integer n) = refl
 constant_self (float n) = refl
-constant_self (short-string t) = record { string = t; is = refl; bytes = refl }
-constant_self (long-string t) = record { string = t; is = refl; bytes = refl }
+constant_self (short_string t) = record { string = t; is = refl; bytes = refl }
+constant_self (long_string t) = record { string = t; is = refl; bytes = refl }
 
 constant_of : (c d : ConstantValue) → SameConstant (kept_constant c) d → SameConstant c d
 constant_of nil d h = h
 constant_of (boolean b) d h = h
 constant_of (integer n) d h = h
 constant_of (float n) d h = h
-constant_of (short-string t) d h = record { string = h.string; is = h.is; bytes = h.bytes }
-constant_of (long-string t) d h = record { string = h.string; is = h.is; bytes = h.bytes }
+constant_of (short_string t) d h = record { string = h.string; is = h.is; bytes = h.bytes }
+constant_of (long_string t) d h = record { string = h.string; is = h.is; bytes = h.bytes }
 
 to_constant : (c d : ConstantValue) → kept_constant c ≡ kept_constant d → SameConstant c d
 to_constant c d e = constant_of c d (rw e (constant_self d))
@@ -165,8 +165,8 @@ from-constant nil d h = rw h
 from-constant (boolean b) d h = rw h
 from-constant (integer n) d h = rw h
 from-constant (float n) d h = rw h
-from-constant (short-string t) d h = rw (h.is, h.bytes)
-from-constant (long-string t) d h = rw (h.is, h.bytes)
+from-constant (short_string t) d h = rw (h.is, h.bytes)
+from-constant (long_string t) d h = rw (h.is, h.bytes)
 
 -- a local variable
 to_local : (l m : LocalVar) → kept_local l ≡ kept_local m → SameLocal l m
@@ -181,7 +181,7 @@ to_function a b p q e = record {
   depth = ap (λ x. x.depth) e;
   parent = ap (λ x. x.parent) e;
   line_defined = ap (λ x. x.line_defined) e;
-  last-line_defined = ap (λ x. x.last-line_defined) e;
+  last_line_defined = ap (λ x. x.last_line_defined) e;
   numparams = ap (λ x. x.numparams) e;
   is_vararg = ap (λ x. x.is_vararg) e;
   maxstacksize = ap (λ x. x.maxstacksize) e;
@@ -207,7 +207,7 @@ from-function a b p q s h =
       end = 0;
       source_name = s i;
       line_defined = h.line_defined i;
-      last-line_defined = h.last-line_defined i;
+      last_line_defined = h.last_line_defined i;
       numparams = h.numparams i;
       is_vararg = h.is_vararg i;
       maxstacksize = h.maxstacksize i;

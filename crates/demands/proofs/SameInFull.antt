@@ -1,15 +1,13 @@
--- Two readings that are equal but for format byte, warnings and places: 02's 'agree on those as well' (item 6), said field by field and without `keptFull` (crates/format/specs/FullCopy.antt).
+-- Two readings that are equal but for format byte, warnings and places: 02's 'agree on those as well' (item 6), said field by field and without `kept_full` (crates/format/specs/FullCopy.antt).
 --     SameSource           two functions have the same source, as read, wherever it stands; or both have none
 --     SameInFull           of readings: the same but for what demand 3 sets aside (`SameButFor`, Same.antt), and every function has the same source
 --     same_in_full         of what belongs, readings are equal in what a full copy keeps exactly when they are so
--- Refused: a `keptFull` that drops a source, or keeps a place.
+-- Refused: a `kept_full` that drops a source, or keeps a place.
 -- Assumes nothing.
 use mathlib.Core.Path.{◌≡◌, refl, ap}
 use mathlib.Core.Logic.{◌↔◌}
 use mathlib.Core.List.{List, [], ◌∷◌, map}
 use mathlib.Core.Option
-use Prim.Native.Nat.{ℕ}
-use native.Mathlib.Omega.{arith}
 use Rattle.format.specs.declared.limits.ResourceLimits.{ResourceLimits}
 use Rattle.format.specs.Form.{Bytes}
 use Rattle.format.specs.Reading.{Prototype, Reading}

@@ -24,7 +24,7 @@ use Rattle.format.specs.Form.{Bytes}
 use Rattle.format.specs.Limits.{within_ceilings}
 use Rattle.format.specs.GrammarFields.{LuaString}
 use Rattle.format.specs.GrammarChunk.{inherit}
-use Rattle.format.specs.Reading.{ConstantValue, nil, boolean, integer, float, short-string, long-string, Reading, Prototype, LocalVar}
+use Rattle.format.specs.Reading.{ConstantValue, nil, boolean, integer, float, short_string, long_string, Reading, Prototype, LocalVar}
 use Rattle.format.specs.Read.{Read, ok, refused, next, give}
 use Rattle.format.specs.ReadFields.{field, byte, string}
 use Rattle.format.specs.ReadChunk.{constant, upvalue, anchor, local, main, outcome, shown, refusal, read}
@@ -62,8 +62,8 @@ constant_in_numbers nil = 0 ∷ 0 ∷ 0 ∷ []
 constant_in_numbers (boolean b) = cond b 17 1 ∷ 0 ∷ 0 ∷ []
 constant_in_numbers (integer n) = 3 ∷ complement (to_z w64 n) ∷ 0 ∷ []
 constant_in_numbers (float n) = 19 ∷ n ∷ 0 ∷ []
-constant_in_numbers (short-string t) = 4 ∷ t.place ∷ length t.bytes ∷ []
-constant_in_numbers (long-string t) = 20 ∷ t.place ∷ length t.bytes ∷ []
+constant_in_numbers (short_string t) = 4 ∷ t.place ∷ length t.bytes ∷ []
+constant_in_numbers (long_string t) = 20 ∷ t.place ∷ length t.bytes ∷ []
 
 pub bits : (n : ℕ) → n < 2 ^ 64 → complement (to_z w64 n) ≡ n
 bits n h = of_z-to_z {w = w64} (record { fits = h })
@@ -73,7 +73,7 @@ abbrev pub head_in_numbers : Option LuaString → Prototype → List ℕ
 head_in_numbers spelt p =
     string_in_numbers spelt
     ++ p.line_defined
-    ∷ p.last-line_defined
+    ∷ p.last_line_defined
     ∷ p.numparams
     ∷ p.is_vararg
     ∷ p.maxstacksize
@@ -108,8 +108,8 @@ Numbered numbers x a = a ≡ done (up_to (numbers x) (behind a))
 -- a local variable, with its name as it is spelt: an absent one reads as `?`, at the place behind it. (Whether a `?` was spelt is not said here; crates/c_entries_at/proofs/Cases.antt has one of each)
 pub record LocalNumbered (l : LocalVar) (a : Answer) : Type 0 where
   pub spelt : Option LuaString
-  pub after-name : ℕ
-  pub name : l.name ≡ get_or spelt (record { place = after-name; bytes = 63 ∷ [] })
+  pub after_name : ℕ
+  pub name : l.name ≡ get_or spelt (record { place = after_name; bytes = 63 ∷ [] })
   pub shows : a ≡ done (up_to (string_in_numbers spelt ++ (l.startpc ∷ l.endpc ∷ [])) (behind a))
 
 -- the entries of a list that begins at a place
@@ -162,8 +162,8 @@ constant_numbers_lem nil = refl
 constant_numbers_lem (boolean b) = refl
 constant_numbers_lem (integer n) = refl
 constant_numbers_lem (float n) = refl
-constant_numbers_lem (short-string t) = refl
-constant_numbers_lem (long-string t) = refl
+constant_numbers_lem (short_string t) = refl
+constant_numbers_lem (long_string t) = refl
 
 -- ## The theorem
 nth_before : {A : Type 0} (k : ℕ) (xs : List A) {x : A} → get_elem? xs k ≡ some x → length (take k xs) ≡ k
@@ -183,7 +183,7 @@ module _ (l : List ℕ) (s : Bytes) (r : Reading) (is : read (limits_of l) s ≡
   raw_local_lem : (at : ℕ) (raw : RawLocal) (to : ℕ) (rest : Bytes) → raw_local (limits_of l).max_string_bytes at (drop at s) ≡ ok raw to rest → LocalNumbered (named raw) (local_at l at s) × (behind (local_at l at s) ≡ to)
   raw_local_lem at raw to rest e =
       let shows = numbered (string_in_numbers raw.name ++ (raw.startpc ∷ raw.endpc ∷ [])) to _ (ap (λ o. of_local_at (local_result o)) e ∙ ap done (local_numbers_lem raw.name raw.startpc raw.endpc to)) in
-      (record { spelt = raw.name; after-name = raw.behind; name = refl; shows = shows.0 }, shows.1)
+      (record { spelt = raw.name; after_name = raw.behind; name = refl; shows = shows.0 }, shows.1)
 
   a_local : (at : ℕ) (v : LocalVar) (to : ℕ) (rest : Bytes) → local (limits_of l).max_string_bytes at (drop at s) ≡ ok v to rest → LocalNumbered v (local_at l at s) × (behind (local_at l at s) ≡ to)
   a_local at v to rest e = go (raw_local (limits_of l).max_string_bytes at (drop at s)) refl (sym (local-named (limits_of l).max_string_bytes at (drop at s)) ∙ e)
@@ -206,7 +206,7 @@ module _ (l : List ℕ) (s : Bytes) (r : Reading) (is : read (limits_of l) s ≡
     head-is : head_at l p.start s ≡ done (head_in_numbers parted.first.front.source p)
     head-is =
         admits (limits_of l) s r is (of_head (head_result (head (limits_of l) 0 p.start (drop p.start s))))
-        ∙ ap (λ o. of_head (head_result o)) parted.at-start.is
+        ∙ ap (λ o. of_head (head_result o)) parted.at_start.is
         ∙ ap done (string_numbers_lem parted.first.front.source _)
         ∙ ap (λ q. done (head_in_numbers parted.first.front.source q)) (sym parted.is)
 
@@ -221,7 +221,7 @@ module _ (l : List ℕ) (s : Bytes) (r : Reading) (is : read (limits_of l) s ≡
     shown-at = record {
       spelt = parted.first.front.source;
       source = ap (λ q. q.source_name) parted.is ∙ ap (inherit parted.first.front.source) parted.source;
-      own = (head-behind (limits_of l) 0).holds parted.at-start.is;
+      own = (head-behind (limits_of l) 0).holds parted.at_start.is;
       head = head-is;
       tail = tail-is;
       words = λ i x e. entries_shown s (field 4) (exact_field 4) (λ at. word_at l at s) (Numbered (λ w. w ∷ [])) (λ at x to rest e. numbered (x ∷ []) to _ (ap (λ o. of_word_at (u32_result o)) e)) (length p.instructions) located.instructions i e;

@@ -12,7 +12,6 @@ use Rattle.format.specs.Reading as reading
 use Rattle.format.specs.Reading.{Reading, Prototype, LocalVar}
 use Rattle.format.proofs.Located.{StandsIf}
 use Rattle.read_field.specs.Shown.{option_string}
-use Rattle.read_entry.specs.declared.constant.ConstantValue.{ConstantValue}
 use Rattle.read_entry.specs.Shown.{constant_value}
 use Rattle.read_nth.proofs.Strings.{ConstantStands}
 use Rattle.show_row.specs.Asked.{or_refuse}
@@ -41,7 +40,7 @@ fields_equal p q e =
       e.parent,
       e.source_name,
       e.line_defined,
-      e.last-line_defined,
+      e.last_line_defined,
       e.numparams,
       e.is_vararg,
       e.maxstacksize,
@@ -70,8 +69,8 @@ constant_of reading.nil = []
 constant_of (reading.boolean b) = []
 constant_of (reading.integer n) = []
 constant_of (reading.float n) = []
-constant_of (reading.short-string t) = t.bytes
-constant_of (reading.long-string t) = t.bytes
+constant_of (reading.short_string t) = t.bytes
+constant_of (reading.long_string t) = t.bytes
 
 constant-shown : (s : Bytes) (k : reading.ConstantValue) → ConstantStands s k → value_shown s (constant_value k) ≡ constant_of k
 unfolding constant_of
@@ -79,8 +78,8 @@ constant-shown s reading.nil h = refl
 constant-shown s (reading.boolean b) h = refl
 constant-shown s (reading.integer n) h = refl
 constant-shown s (reading.float n) h = refl
-constant-shown s (reading.short-string t) h = h.there
-constant-shown s (reading.long-string t) h = h.there
+constant-shown s (reading.short_string t) h = h.there
+constant-shown s (reading.long_string t) h = h.there
 
 pub value_of : Option reading.ConstantValue → Bytes
 value_of none = []
@@ -95,10 +94,10 @@ pub name_of : Option (Option LuaString) → Bytes
 name_of none = []
 name_of (some t) = option_of t
 
-pub name-shown : (s : Bytes) (a : Option (Option LuaString)) → ((t : Option LuaString) → a ≡ some t → StandsIf s t) → name_shown s (shown_name (or_refuse NoEntry a)) ≡ name_of a
+pub name_shown_lem : (s : Bytes) (a : Option (Option LuaString)) → ((t : Option LuaString) → a ≡ some t → StandsIf s t) → name_shown s (shown_name (or_refuse NoEntry a)) ≡ name_of a
 unfolding name_of
-name-shown s none h = refl
-name-shown s (some t) h = option_shown_lem s t (h t refl)
+name_shown_lem s none h = refl
+name_shown_lem s (some t) h = option_shown_lem s t (h t refl)
 
 pub locals_shown : (space : ℕ) (a b : Option LocalVar) → Related SameLocal a b → shown_local space (or_refuse NoEntry a) ≡ shown_local space (or_refuse NoEntry b)
 locals_shown space none none h = refl

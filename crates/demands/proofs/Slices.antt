@@ -46,7 +46,7 @@ module _ {M : Type 1} {𝓤 : Ura M} (𝓛 : Logic 𝓤) (κ : Lft) (q : Share) 
   Owned = (ShrSlice (named 0) κ builtin.u8).own_val x vs
 
   abbrev Inner : Fml
-  Inner = OwnH 𝓛 (f_int w8) κ q x.ref_ptr.0 x.ref_ptr.1 x.ghost_name x.now
+  Inner = OwnH 𝓛 (f_int w8) κ q x.ref_ptr.0 x.ref_ptr.1 x.now
 
   owned_known : ent 𝓤 (sep 𝓤 (sem 𝓛 Owned) (A.lft κ q)) (H.⇛ (guard 𝓤 (Below 256 x.now) (sep 𝓤 (sem 𝓛 Owned) (A.lft κ q))))
   owned_known =
@@ -54,7 +54,7 @@ module _ {M : Type 1} {𝓤 : Ura M} (𝓛 : Logic 𝓤) (κ : Lft) (q : Share) 
       updating ! $ fsplit ! $ fsplit ! $ feq_l ! (λ e.
       -- [room; what else is owned; the token]
       fjoin ! $
-      use2 𝓛 (later (given (AllWt (f_int w8) x.now) (‵ Inner ⊛ ‵ (flft κ q)))) (shs_known 𝓛 (f_int w8) κ q x.ref_ptr.0 x.ref_ptr.1 x.ghost_name x.now) $ await ! tt $ learn ! (λ a.
+      use2 𝓛 (later (given (AllWt (f_int w8) x.now) (‵ Inner ⊛ ‵ (flft κ q)))) (shs_known 𝓛 (f_int w8) κ q x.ref_ptr.0 x.ref_ptr.1 x.now) $ await ! tt $ learn ! (λ a.
       split ! $ fsplit ! $ feq_i ! (List Val) vs (shr_slice_vals x) e $ fjoin ! $ fjoin ! $ now ! $ check ! (all-below x.now a) $ done !)))
 
 module _ {M : Type 1} {𝓤 : Ura M} (𝓛 : Logic 𝓤) (𝓜 : Model 𝓤 𝓛.H) (𝓡 : Running 𝓤 𝓛.H 𝓜) (ρ : Routine)

@@ -4,7 +4,7 @@
 --     strict_blames    its reader of a chunk
 -- Assumes nothing.
 use mathlib.Core.Path.{◌≡◌, sym, subst}
-use mathlib.Core.List.{List, [], ◌∷◌, ◌++◌}
+use mathlib.Core.List.{List, [], ◌∷◌}
 use Prim.Native.Nat.{ℕ, zero, suc, ◌+◌, ◌≤◌}
 use native.Mathlib.Omega.{arith}
 use lib.Dec.{eqb}
@@ -79,15 +79,15 @@ module _ (L M : ResourceLimits) (wide : Raised L M) where
       at_place λ start.
       hence (blame.stays_string L M wide) λ spelt.
       hence (same int) λ line_defined.
-      hence (same int) λ last-line_defined.
+      hence (same int) λ last_line_defined.
       hence (same (field 1)) λ numparams.
       hence (same (field 1)) λ is_vararg.
       hence (same (field 1)) λ maxstacksize.
       at_place λ first.
       hence (same int) λ size.
       hence (blame.stays_at_most L M size L.max_instructions_per_proto M.max_instructions_per_proto (q.Instructions first) wide.instructions (λ k. k (omega arith) (omega arith))) λ _.
-      hence (blame.stays_at_most L M (w.instructions + size) L.max_total_instructions M.max_total_instructions (q.TotalInstructions first) wide.all-instructions (λ k. k (omega arith) (omega arith))) λ _.
-      at_place λ instructions-at.
+      hence (blame.stays_at_most L M (w.instructions + size) L.max_total_instructions M.max_total_instructions (q.TotalInstructions first) wide.all_instructions (λ k. k (omega arith) (omega arith))) λ _.
+      at_place λ instructions_at.
       hence (same (many size (field 4))) λ instructions.
       hence (stays_strict_counted_up_to L.max_constants_per_proto M.max_constants_per_proto q.Constants wide.constants (λ first k. k (omega arith) (omega arith)) stays_strict_constant) λ constants.
       hence (stays_strict_counted_up_to L.max_upvalues_per_proto M.max_upvalues_per_proto q.Upvalues wide.upvalues (λ first k. k (omega arith) (omega arith)) (same upvalue)) λ upvalues.

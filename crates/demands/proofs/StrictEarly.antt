@@ -118,14 +118,14 @@ module _ {L : ResourceLimits} where
       early_here λ start.
       early_then (exact_string L.max_string_bytes) early_string λ spelt.
       early_then exact_int early_int λ line_defined.
-      early_then exact_int early_int λ last-line_defined.
+      early_then exact_int early_int λ last_line_defined.
       early_then (exact_field 1) (early_field 1) λ numparams.
       early_then (exact_field 1) (early_field 1) λ is_vararg.
       early_then (exact_field 1) (early_field 1) λ maxstacksize.
       early_sized _ λ first size bytes d small.
       soon_counts _ first size w.instructions bytes d small (
       soon_early (
-      early_here λ instructions-at.
+      early_here λ instructions_at.
       early_then (exact_many size (exact_field 4)) (early_many size (exact_field 4) (early_field 4)) λ instructions.
       early_then (exact_strict_counted_up_to L.max_constants_per_proto q.Constants (exact_strict_constant L.max_string_bytes))
       (early_strict_counted_up_to L.max_constants_per_proto q.Constants (λ place. refl) (exact_strict_constant L.max_string_bytes) early_strict_constant) λ constants.

@@ -212,15 +212,15 @@ module _ (L M : ResourceLimits) (wide : Raised L M) where
       cures_here λ start.
       cures_then (exact_string l) (cures_string L M wide) (λ spelt.
       cures_plainly exact_int plain_int λ line_defined.
-      cures_plainly exact_int plain_int λ last-line_defined.
+      cures_plainly exact_int plain_int λ last_line_defined.
       cures_plainly (exact_field 1) (plain_field 1) λ numparams.
       cures_plainly (exact_field 1) (plain_field 1) λ is_vararg.
       cures_plainly (exact_field 1) (plain_field 1) λ maxstacksize.
       cures_here λ first.
       cures_plainly exact_int plain_int λ size.
       cures_then (exact_at_most size L.max_instructions_per_proto (q.Instructions first)) (cures_at_most size L.max_instructions_per_proto M.max_instructions_per_proto (q.Instructions first) wide.instructions refl) (λ _.
-      cures_then (exact_at_most (w.instructions + size) L.max_total_instructions (q.TotalInstructions first)) (cures_at_most (w.instructions + size) L.max_total_instructions M.max_total_instructions (q.TotalInstructions first) wide.all-instructions refl) (λ _.
-      cures_here λ instructions-at.
+      cures_then (exact_at_most (w.instructions + size) L.max_total_instructions (q.TotalInstructions first)) (cures_at_most (w.instructions + size) L.max_total_instructions M.max_total_instructions (q.TotalInstructions first) wide.all_instructions refl) (λ _.
+      cures_here λ instructions_at.
       cures_plainly (exact_many size (exact_field 4)) (plain_many size (plain_field 4)) λ instructions.
       cures_then (exact_strict_counted_up_to L.max_constants_per_proto q.Constants (exact_strict_constant l)) (cures_strict_counted_up_to L.max_constants_per_proto M.max_constants_per_proto q.Constants wide.constants (λ first. refl) (exact_strict_constant l) cures_strict_constant (lacking_strict_constant m)) (λ constants.
       cures_then (exact_strict_counted_up_to L.max_upvalues_per_proto q.Upvalues exact_upvalue) (cures_strict_counted_up_to L.max_upvalues_per_proto M.max_upvalues_per_proto q.Upvalues wide.upvalues (λ first. refl) exact_upvalue (cures_plain plain_upvalue) (lacking_then lacking_byte _)) (λ upvalues.
@@ -243,8 +243,8 @@ module _ (L M : ResourceLimits) (wide : Raised L M) where
       (λ _. bare-here λ protos-at. bare_then (bare-forest protos (within w (inherit spelt w.source) (length instructions)) bare) λ nested. bare_stops (lacking_then lacking_int _)))
       (λ upvalues. bare-here λ first. bare_stops (lacking_then lacking_int _)))
       (λ constants. bare_stops (lacking_then (lacking_here λ first. lacking_then lacking_int _) _)))
-      (λ _. bare-here λ instructions-at. bare_then (bare-many size lacking_word) λ instructions. bare_stops (lacking_then (lacking_here λ first. lacking_then lacking_int _) _)))
-      (λ _. bare_then (bare-test (leb (w.instructions + size) M.max_total_instructions) (q.TotalInstructions first) refl) λ _. bare-here λ instructions-at. bare_then (bare-many size lacking_word) λ instructions. bare_stops (lacking_then (lacking_here λ first. lacking_then lacking_int _) _)))
+      (λ _. bare-here λ instructions_at. bare_then (bare-many size lacking_word) λ instructions. bare_stops (lacking_then (lacking_here λ first. lacking_then lacking_int _) _)))
+      (λ _. bare_then (bare-test (leb (w.instructions + size) M.max_total_instructions) (q.TotalInstructions first) refl) λ _. bare-here λ instructions_at. bare_then (bare-many size lacking_word) λ instructions. bare_stops (lacking_then (lacking_here λ first. lacking_then lacking_int _) _)))
       (λ spelt. bare_stops (lacking_then lacking_int _))
 
   deepest : (left' : ℕ) (w : Where) → Cures (strict_enter L zero w) (strict_enter M left' w)

@@ -103,7 +103,7 @@ steady_strict_body L one w =
     steady_here λ start.
     steady_then (steady_string L.max_string_bytes) λ spelt.
     steady_then steady_int λ line_defined.
-    steady_then steady_int λ last-line_defined.
+    steady_then steady_int λ last_line_defined.
     steady_then (steady_field 1 refl) λ numparams.
     steady_then (steady_field 1 refl) λ is_vararg.
     steady_then (steady_field 1 refl) λ maxstacksize.
@@ -111,7 +111,7 @@ steady_strict_body L one w =
     steady_then steady_int λ size.
     steady_then (steady_at_most size L.max_instructions_per_proto (Instructions first) (tested (Instructions first) refl refl own)) λ _.
     steady_then (steady_at_most (w.instructions + size) L.max_total_instructions (TotalInstructions first) (tested (TotalInstructions first) refl refl own)) λ _.
-    steady_here λ instructions-at.
+    steady_here λ instructions_at.
     steady_then (steady_many size (steady_field 4 refl)) λ instructions.
     steady_then (steady_strict_counted_up_to L.max_constants_per_proto Constants (λ first. tested (Constants first) refl refl own) (λ low. steady_strict_constant L.max_string_bytes)) λ constants.
     steady_then (steady_strict_counted_up_to L.max_upvalues_per_proto Upvalues (λ first. tested (Upvalues first) refl refl own) λ low. steady_upvalue) λ upvalues.

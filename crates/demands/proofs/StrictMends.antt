@@ -3,8 +3,8 @@
 -- Assumes nothing.
 use mathlib.Core.Path.{◌≡◌, refl, sym, ◌∙◌, ap, subst}
 use mathlib.Core.Bool.{Bool, true, false}
-use mathlib.Core.List.{List, [], ◌∷◌, ◌++◌, append-nil}
-use mathlib.Core.Logic.{◌⊎◌, ⊎_elim}
+use mathlib.Core.List.{List, [], ◌∷◌, append-nil}
+use mathlib.Core.Logic.{⊎_elim}
 use Prim.Native.Nat.{ℕ, zero, suc, ◌+◌, ◌-◌, ◌^◌}
 use native.Mathlib.Nat.{add-zero}
 use native.Mathlib.Omega.{arith}
@@ -227,7 +227,7 @@ module _ (L : ResourceLimits) where
       mends_here λ start.
       mends_then (exact_string limit) (mends_string L) (λ spelt.
       mends_then exact_int mends_int (λ line_defined.
-      mends_then exact_int mends_int (λ last-line_defined.
+      mends_then exact_int mends_int (λ last_line_defined.
       mends_behind (exact_field 1) (outside-field 1) λ numparams.
       mends_behind (exact_field 1) (outside-field 1) λ is_vararg.
       mends_behind (exact_field 1) (outside-field 1) λ maxstacksize.
@@ -235,7 +235,7 @@ module _ (L : ResourceLimits) where
       mends_then exact_int mends_int (λ size.
       mends_behind (exact_at_most size L.max_instructions_per_proto (q.Instructions first)) (outside-test (leb size L.max_instructions_per_proto) (q.Instructions first) refl) λ _.
       mends_behind (exact_at_most (w.instructions + size) L.max_total_instructions (q.TotalInstructions first)) (outside-test (leb (w.instructions + size) L.max_total_instructions) (q.TotalInstructions first) refl) λ _.
-      mends_here λ instructions-at.
+      mends_here λ instructions_at.
       mends_behind (exact_many size (exact_field 4)) (outside-many size (outside-field 4)) λ instructions.
       mends_then (exact_strict_counted_up_to L.max_constants_per_proto q.Constants (exact_strict_constant limit)) (mends_strict_counted_up_to L.max_constants_per_proto q.Constants (λ first. refl) (exact_strict_constant limit) mends_strict_constant (lacking_strict_constant limit)) (λ constants.
       mends_then (exact_strict_counted_up_to L.max_upvalues_per_proto q.Upvalues exact_upvalue) (mends_strict_counted_up_to L.max_upvalues_per_proto q.Upvalues (λ first. refl) exact_upvalue (mends_outside outside-upvalue) (lacking_then lacking_byte _)) (λ upvalues.
@@ -260,8 +260,8 @@ module _ (L : ResourceLimits) where
       (λ protos. bare_then (bare-test (leb protos L.max_total_prototypes) (q.Prototypes first) refl) λ _. bare-here λ protos-at. bare_then (bare-forest protos (within w (inherit spelt w.source) (length instructions)) bare) λ nested. bare_stops (lacking_then lacking_int _)))
       (λ upvalues. bare-here λ first. bare_stops (lacking_then lacking_int _)))
       (λ constants. bare_stops (lacking_then (lacking_here λ first. lacking_then lacking_int _) _)))
-      (λ size. bare_then (bare-test (leb size L.max_instructions_per_proto) (q.Instructions first) refl) λ _. bare_then (bare-test (leb (w.instructions + size) L.max_total_instructions) (q.TotalInstructions first) refl) λ _. bare-here λ instructions-at. bare_then (bare-many size lacking_word) λ instructions. bare_stops (lacking_then (lacking_here λ first. lacking_then lacking_int _) _)))
-      (λ last-line_defined. bare_stops (lacking_then lacking_byte _)))
+      (λ size. bare_then (bare-test (leb size L.max_instructions_per_proto) (q.Instructions first) refl) λ _. bare_then (bare-test (leb (w.instructions + size) L.max_total_instructions) (q.TotalInstructions first) refl) λ _. bare-here λ instructions_at. bare_then (bare-many size lacking_word) λ instructions. bare_stops (lacking_then (lacking_here λ first. lacking_then lacking_int _) _)))
+      (λ last_line_defined. bare_stops (lacking_then lacking_byte _)))
       (λ line_defined. bare_stops (lacking_then lacking_int _)))
       (λ spelt. bare_stops (lacking_then lacking_int _))
 

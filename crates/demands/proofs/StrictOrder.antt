@@ -1,13 +1,13 @@
 -- 'In byte order' of the stricter reading (02, item 7), as Order.antt, CutShort.antt and Exactly.antt have it of the ordinary one.
 --     strict_in_byte_order     what its reader refuses (1 to 20, 31 to 33) is decided by the bytes up to the end of its cause (Causes.antt: 31 to 33 are there; and a count that is above its limit is an int, so that 32 comes first)
---     strict_decided_early     the same of `strictRead`: 21 and 22 first
---     strict_cut-short         1 lacks bytes; strict-continues: and some bytes behind end it
+--     strict_decided_early     the same of `strict_read`: 21 and 22 first
+--     strict_cut-short         1 lacks bytes; strict_continues: and some bytes behind end it
 --     strict_places            a place lies in the file, or is its end
 --     never_two                2 is none of its refusals: 32 comes first
---     strict_order             what `strictRead` refuses is the first of 21, 22, its reader's refusal
+--     strict_order             what `strict_read` refuses is the first of 21, 22, its reader's refusal
 --     strict_twenty_one, -two  21 and 22, exactly
 --     thirty_one, -two, -three the cause of each, said out; fourteen, sixteen, seventeen, eighteen: those of a count that is above its limit
---     format_first, int_first, null_first  31 is met right after the byte; 32 as soon as the int is complete (int-incomplete: not before), ahead of anything that is made of it, a limit, a run; 33 right after the size
+--     format_first, int_first, null_first  31 is met right after the byte; 32 as soon as the int is complete (int_incomplete: not before), ahead of anything that is made of it, a limit, a run; 33 right after the size
 -- Assumes nothing.
 use mathlib.Core.Path.{◌≡◌, refl, sym, ◌∙◌, ap}
 use mathlib.Core.Logic.{◌↔◌}

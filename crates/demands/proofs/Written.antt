@@ -21,6 +21,7 @@ use lib.Seq.{take-append_seam}
 use seplogic.Ra.Ura.{Ura}
 use base.Logic.{ent, sep, emp, fst∗, snd∗}
 use prog.Model.{Model}
+use prog.Wired.{Wired}
 use contract.Monad.{fact, fact_i, fact_use}
 use contract.Running.{Running}
 use denote.Triple.Spec.{Meets, exits}
@@ -60,27 +61,27 @@ both 𝓤 φ ψ χ k =
     fact_use 𝓤 φ (fst∗ 𝓤 (fact 𝓤 φ) (fact 𝓤 ψ)) (λ f.
     fact_use 𝓤 ψ (snd∗ 𝓤 (fact 𝓤 φ) (fact 𝓤 ψ)) (λ g. fact_i 𝓤 χ (sep 𝓤 (fact 𝓤 φ) (fact 𝓤 ψ)) (k f g)))
 
-pub copying_met : {M : Type 1} {𝓤 : Ura M} (𝓛 : Logic 𝓤) (𝓜 : Model 𝓤 𝓛.H) (𝓡 : Running 𝓤 𝓛.H 𝓜)
-    → Meets 𝓛 call.signature (𝓡.run symbol.routine) (λ κs a. record {
+pub copying_met : {M : Type 1} {𝓤 : Ura M} (𝓛 : Logic 𝓤) (𝓜 : Model 𝓤 𝓛.H) (𝓡 : Running 𝓤 𝓛.H 𝓜) → Wired 𝓡.env symbol.code
+    → Meets 𝓛 call.signature (𝓡.run (𝓡.env symbol.name)) (λ κs a. record {
       ghost = Unit {0};
       requires = λ _. emp 𝓤;
       ensures = λ _ r. exits 𝓛 call.signature (call.ended).kept κs a (λ end. fact 𝓤 (Copying a.1.0 a.0.now a.1.1.0.now r end.1.1.0.now));
     })
-copying_met {𝓤 = 𝓤} 𝓛 𝓜 𝓡 =
-    bytes_known 𝓛 𝓜 𝓡 symbol.routine 1 [] _ _ (call.ended).kept (call.clauses 𝓛 𝓜.mem 𝓡.run) (λ κs a _ r end. fact 𝓤 (Copying a.1.0 a.0.now a.1.1.0.now r end.1.1.0.now))
+copying_met {𝓤 = 𝓤} 𝓛 𝓜 𝓡 wired =
+    bytes_known 𝓛 𝓜 𝓡 (𝓡.env symbol.name) 1 [] _ _ (call.ended).kept (call.clauses 𝓛 𝓜.mem 𝓡.returns) (λ κs a _ r end. fact 𝓤 (Copying a.1.0 a.0.now a.1.1.0.now r end.1.1.0.now))
     (λ κs a _ r end below. both 𝓤 _ _ _ (λ answers leaves. record { below = below; answers = answers; leaves = leaves }))
-    (theorem.met 𝓤 𝓛 𝓜 𝓡)
+    (theorem.met 𝓤 𝓛 𝓜 𝓡 wired)
 
-pub full_copying_met : {M : Type 1} {𝓤 : Ura M} (𝓛 : Logic 𝓤) (𝓜 : Model 𝓤 𝓛.H) (𝓡 : Running 𝓤 𝓛.H 𝓜)
-    → Meets 𝓛 full-call.signature (𝓡.run full-symbol.routine) (λ κs a. record {
+pub full_copying_met : {M : Type 1} {𝓤 : Ura M} (𝓛 : Logic 𝓤) (𝓜 : Model 𝓤 𝓛.H) (𝓡 : Running 𝓤 𝓛.H 𝓜) → Wired 𝓡.env full-symbol.code
+    → Meets 𝓛 full-call.signature (𝓡.run (𝓡.env full-symbol.name)) (λ κs a. record {
       ghost = Unit {0};
       requires = λ _. emp 𝓤;
       ensures = λ _ r. exits 𝓛 full-call.signature (full-call.ended).kept κs a (λ end. fact 𝓤 (FullCopying a.1.0 a.0.now a.1.1.0.now r end.1.1.0.now));
     })
-full_copying_met {𝓤 = 𝓤} 𝓛 𝓜 𝓡 =
-    bytes_known 𝓛 𝓜 𝓡 full-symbol.routine 1 [] _ _ (full-call.ended).kept (full-call.clauses 𝓛 𝓜.mem 𝓡.run) (λ κs a _ r end. fact 𝓤 (FullCopying a.1.0 a.0.now a.1.1.0.now r end.1.1.0.now))
+full_copying_met {𝓤 = 𝓤} 𝓛 𝓜 𝓡 wired =
+    bytes_known 𝓛 𝓜 𝓡 (𝓡.env full-symbol.name) 1 [] _ _ (full-call.ended).kept (full-call.clauses 𝓛 𝓜.mem 𝓡.returns) (λ κs a _ r end. fact 𝓤 (FullCopying a.1.0 a.0.now a.1.1.0.now r end.1.1.0.now))
     (λ κs a _ r end below. both 𝓤 _ _ _ (λ answers leaves. record { below = below; answers = answers; leaves = leaves }))
-    (full-theorem.met 𝓤 𝓛 𝓜 𝓡)
+    (full-theorem.met 𝓤 𝓛 𝓜 𝓡 wired)
 
 -- ## The bytes at the front
 pub record WritesBy (copied : Reading → Bytes) (L : ResourceLimits) (chunk old written : Bytes) : Type 0 where
