@@ -1,4 +1,6 @@
 // The findings as records, in the list that `validate_findings::validate_chunk_lua54` fills: no call behind C, but the form that a caller in Rattle has.
+#![tactic(auto)]
+
 use c_boundary::signed::complement_of;
 use c_boundary::{limits_of, refused};
 use c_finding::verdict_number;
