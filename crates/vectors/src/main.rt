@@ -1,5 +1,7 @@
 // Asks the exported calls what the lines on standard input ask, and compares the answers with those that the lines give (docs/PROTOCOL.md). A line of output for each difference, and last how
 // many agree and how many differ.
+#![tactic(auto)]
+
 ghost use Rattle.std.specs.Prelude.{length};
 ghost use Rattle.text_line.specs.Inner.Lines.{Within};
 
@@ -8,6 +10,8 @@ mod entries;
 mod lent;
 mod words;
 
+use std::io;
+use std::io::{Read, Write};
 use text_line as input;
 use text_line::{Found, LONGEST, Lines, Step};
 use text_list::{Numbers, ROOM};
@@ -16,7 +20,8 @@ use vectors_request::line::{Chunk, Heard, LONGEST_CHUNK, hear};
 use vectors_request::state::{State, bad, judged};
 
 // Asks a call, and holds the answer against the numbers that are wanted.
-fn answer(
+fn answer<W: Write>(
+    output: &mut W,
     chunk: &[u8],
     limits: &[u64; 9],
     want: &Numbers,
@@ -25,16 +30,17 @@ fn answer(
     kind: u8,
     from: usize,
     to: usize,
-) -> State {
+) -> io::Result<State> {
     let len = s.len;
     if chunk.len() < len {
-        return bad(s);
+        return bad(output, s);
     }
     let n = calls::ask(kind, &chunk[..len], limits, want, got);
-    judged(want, from, to, got, n, s)
+    judged(output, want, from, to, got, n, s)
 }
 
-fn respond(
+fn respond<W: Write>(
+    output: &mut W,
     buf: &[u8],
     step: Step,
     chunk: &mut Chunk,
@@ -42,24 +48,28 @@ fn respond(
     want: &mut Numbers,
     got: &mut Numbers,
     s: State,
-) -> State
+) -> io::Result<State>
     requires { Within step (length buf.now) }
 {
-    let heard = hear(buf, step, chunk, limits, want, s);
+    let heard = hear(output, buf, step, chunk, limits, want, s)?;
     match heard {
-        Heard::Done(s) => s,
-        Heard::Call(s, kind, from, to) => answer(chunk, limits, want, got, s, kind, from, to),
+        Heard::Done(s) => Ok(s),
+        Heard::Call(s, kind, from, to) => {
+            answer(output, chunk, limits, want, got, s, kind, from, to)
+        }
     }
 }
 
 // Answers every line. Nothing says that the input ends, so the loop counts its turns down from a number that no run uses up.
-fn respond_all(
+fn respond_all<R: Read, W: Write>(
+    reader: &mut R,
+    output: &mut W,
     buf: &mut [u8],
     chunk: &mut Chunk,
     limits: &mut [u64; 9],
     want: &mut Numbers,
     got: &mut Numbers,
-) -> State {
+) -> io::Result<State> {
     let mut s = State {
         len: 0,
         lines: 0,
@@ -71,36 +81,46 @@ fn respond_all(
     let mut lines = Lines::new();
     let mut turns = u64::MAX;
     while turns > 0 {
-        let step = input::next(buf, lines);
+        let step = input::next(reader, buf, lines);
         let found = step.found;
         if let Found::End = found {
-            return s;
+            return Ok(s);
         }
-        s = respond(buf, step, chunk, limits, want, got, s);
+        s = respond(output, buf, step, chunk, limits, want, got, s)?;
         lines = step.rest;
         turns -= 1;
     }
-    s
+    Ok(s)
 }
 
-fn run(
+fn run<R: Read, W: Write>(
+    reader: &mut R,
+    output: &mut W,
     buf: &mut [u8],
     chunk: &mut Chunk,
     limits: &mut [u64; 9],
     want: &mut Numbers,
     got: &mut Numbers,
-) {
-    let s = respond_all(buf, chunk, limits, want, got);
+) -> io::Result<()> {
+    let s = respond_all(reader, output, buf, chunk, limits, want, got)?;
     let tally = s.tally;
-    vectors_report::totals(tally);
+    vectors_report::totals(output, tally)
 }
 
 // The buffer of the input has room for two of the longest requests (crate text_line says why).
-fn main() {
+fn main(rt: HostRuntime) -> io::Result<()> {
     let mut buf = [0u8; 2 * LONGEST];
     let mut chunk = [0u8; LONGEST_CHUNK];
     let mut limits = [0u64; 9];
     let mut want = [0u64; ROOM];
     let mut got = [0u64; ROOM];
-    run(&mut buf, &mut chunk, &mut limits, &mut want, &mut got);
+    run(
+        &mut rt.reader(),
+        &mut io::writer(&rt),
+        &mut buf,
+        &mut chunk,
+        &mut limits,
+        &mut want,
+        &mut got,
+    )
 }
