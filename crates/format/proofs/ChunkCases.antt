@@ -36,7 +36,7 @@ use Rattle.format.specs.Form.{Bytes}
 use Rattle.format.specs.GrammarFields.{LuaString}
 use Rattle.format.specs.GrammarHeader.{header_of}
 use Rattle.format.specs.Limits.{DEEPEST, ceilings}
-use Rattle.format.specs.Reading.{ConstantValue, integer, short-string, Places, Prototype, Reading}
+use Rattle.format.specs.Reading.{ConstantValue, integer, short_string, Places, Prototype, Reading}
 use Rattle.format.specs.ReadChunk.{body, function, Outcome, shown, refusal, read}
 use Rattle.format.specs.Copy.{list_bytes, behind_source, copy}
 use Rattle.format.specs.Shortest.{shortest}
@@ -68,7 +68,7 @@ small-reading = record {
     end = 46;
     source_name = none;
     line_defined = 0;
-    last-line_defined = 0;
+    last_line_defined = 0;
     numparams = 0;
     is_vararg = 0;
     maxstacksize = 2;
@@ -123,12 +123,12 @@ nested_functions =
       end = 120;
       source_name = ab;
       line_defined = 1;
-      last-line_defined = 9;
+      last_line_defined = 9;
       numparams = 0;
       is_vararg = 1;
       maxstacksize = 2;
       instructions = 0x7fffff38 ∷ [];
-      constants = short-string (record { place = 48; bytes = 0x78 ∷ [] }) ∷ integer 0xffffffffffffffff ∷ [];
+      constants = short_string (record { place = 48; bytes = 0x78 ∷ [] }) ∷ integer 0xffffffffffffffff ∷ [];
       upvalues = record { instack = 1; idx = 0; kind = 0 } ∷ [];
       protos = 2;
       line_info_lem = [];
@@ -144,7 +144,7 @@ nested_functions =
       end = 102;
       source_name = ab;
       line_defined = 2;
-      last-line_defined = 3;
+      last_line_defined = 3;
       numparams = 0;
       is_vararg = 0;
       maxstacksize = 2;
@@ -165,7 +165,7 @@ nested_functions =
       end = 88;
       source_name = some (record { place = 74; bytes = 0x67 ∷ [] });
       line_defined = 0;
-      last-line_defined = 0;
+      last_line_defined = 0;
       numparams = 0;
       is_vararg = 0;
       maxstacksize = 2;
@@ -186,7 +186,7 @@ nested_functions =
       end = 116;
       source_name = some (record { place = 103; bytes = [] });
       line_defined = 0;
-      last-line_defined = 0;
+      last_line_defined = 0;
       numparams = 0;
       is_vararg = 0;
       maxstacksize = 2;

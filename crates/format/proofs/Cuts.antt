@@ -13,7 +13,7 @@ use Rattle.format.specs.declared.refusal.Refusal.{Refusal}
 use Rattle.format.specs.declared.refusal.Refusal.TheVariants.{Truncated, StringBytes, Instructions, TotalInstructions, Constants, Upvalues, Prototypes}
 use Rattle.format.specs.Form.{Bytes}
 use Rattle.format.specs.Limits.{DEEPEST, ceilings}
-use Rattle.format.specs.Reading.{ConstantValue, short-string, long-string, Prototype}
+use Rattle.format.specs.Reading.{ConstantValue, short_string, long_string, Prototype}
 use Rattle.format.specs.ReadChunk.{body, function, refusal, read}
 use Rattle.format.proofs.Distinct.{header, distinct, functions_of}
 
@@ -38,12 +38,12 @@ cuts_hold = refl
 -- ## Leading zeros
 -- a limit of 0 for strings, for instructions of a function and in all, constants, upvalues and nested functions; the other limits at their ceilings
 abbrev none : ℕ → ℕ → ℕ → ℕ → ℕ → ℕ → ResourceLimits
-none string instructions all-instructions constants upvalues functions = record {
+none string instructions all_instructions constants upvalues functions = record {
   max_input_bytes = 16777216;
   max_nesting_depth = DEEPEST;
   max_total_prototypes = functions;
   max_instructions_per_proto = instructions;
-  max_total_instructions = all-instructions;
+  max_total_instructions = all_instructions;
   max_constants_per_proto = constants;
   max_upvalues_per_proto = upvalues;
   max_string_bytes = string;
@@ -82,6 +82,6 @@ constants_of [] = []
 constants_of (p ∷ ps) = p.constants
 
 absent_holds : constants_of (functions_of (read ceilings constants))
-    ≡ short-string (record { place = 42; bytes = [] }) ∷ long-string (record { place = 44; bytes = [] }) ∷ short-string (record { place = 46; bytes = [] }) ∷ long-string (record { place = 48; bytes = [] }) ∷ []
+    ≡ short_string (record { place = 42; bytes = [] }) ∷ long_string (record { place = 44; bytes = [] }) ∷ short_string (record { place = 46; bytes = [] }) ∷ long_string (record { place = 48; bytes = [] }) ∷ []
 unfolding constants constants_of read body function
 absent_holds = refl

@@ -19,7 +19,7 @@ use Rattle.format.specs.declared.entry.AbsLineInfo.{AbsLineInfo}
 use Rattle.format.specs.declared.entry.UpvalueDesc.{UpvalueDesc}
 use Rattle.format.specs.Form.{Bytes}
 use Rattle.format.specs.Limits.{ceilings}
-use Rattle.format.specs.Reading.{nil, boolean, integer, float, short-string, long-string, LocalVar, Prototype}
+use Rattle.format.specs.Reading.{nil, boolean, integer, float, short_string, long_string, LocalVar, Prototype}
 use Rattle.format.specs.ReadChunk.{body, function, Outcome, shown, refusal, read}
 
 -- ## The bytes
@@ -78,15 +78,15 @@ fourth = record {
   end = 300;
   source_name = some (record { place = 82; bytes = replicate 12 0x61 });
   line_defined = 13;
-  last-line_defined = 14;
+  last_line_defined = 14;
   numparams = 15;
   is_vararg = 16;
   maxstacksize = 17;
   instructions = 0x04030201 ∷ replicate 4 0;
   constants =
       nil ∷ boolean false ∷ boolean true ∷ integer 0x0605 ∷ float 0x0807
-      ∷ short-string (record { place = 144; bytes = 0x70 ∷ 0x71 ∷ [] })
-      ∷ long-string (record { place = 148; bytes = 0x72 ∷ 0x73 ∷ 0x74 ∷ [] })
+      ∷ short_string (record { place = 144; bytes = 0x70 ∷ 0x71 ∷ [] })
+      ∷ long_string (record { place = 148; bytes = 0x72 ∷ 0x73 ∷ 0x74 ∷ [] })
       ∷ [];
   upvalues = record { instack = 1; idx = 2; kind = 3 } ∷ replicate 5 no_upvalue;
   protos = 4;

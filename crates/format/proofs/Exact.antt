@@ -88,6 +88,7 @@ run_complete n at bytes {x} rest g = back (leb n (length (bytes ++ rest))) (le�
   where
     back : (b : Bool) → T b → piece b n at (bytes ++ rest) ≡ ok x (at + length bytes) rest
     back true h = cc (take_at bytes rest n g.1, drop_at bytes rest n g.1)
+    back false h = elim h [ ]
 
 pub exact_run : (n : ℕ) → Exact (run n) (Run n)
 exact_run n = record { sound = λ {at} {s} e. front (leb n (length s)) (leb→le n (length s)) e; complete = λ {at} {bytes} rest g. run_complete n at bytes rest g }

@@ -15,15 +15,19 @@ use Rattle.format.proofs.ExactFields.{exact_field}
 
 pub both : (b c : Bool) → T (b && c) → T b × T c
 both true c t = (tt, t)
+both false c t = elim t [ ]
 
 pub same_eq : (xs ys : Bytes) → T (same_bytes xs ys) → xs ≡ ys
 same_eq [] [] t = refl
 same_eq (x ∷ xs) (y ∷ ys) t =
     let h = both (eqb x y) (same_bytes xs ys) t in
     ap₂ ◌∷◌ (eqb→eq x y h.0) (same_eq xs ys h.1)
+same_eq [] (y ∷ ys) t = elim t [ ]
+same_eq (x ∷ xs) [] t = elim t [ ]
 
 pub both_of : (b c : Bool) → T b → T c → T (b && c)
 both_of true c t u = u
+both_of false c t u = elim t [ ]
 
 pub same_refl : (xs : Bytes) → T (same_bytes xs xs)
 same_refl [] = tt

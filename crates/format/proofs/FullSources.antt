@@ -24,6 +24,7 @@ true_T false e = absurd (true≢false (sym e))
 
 T_true : (b : Bool) → T b → b ≡ true
 T_true true t = refl
+T_true false t = elim t [ ]
 
 pub same_source_lem : (t u : Option LuaString) → equal_sources t u ≡ true → map kept_string t ≡ map kept_string u
 same_source_lem none none e = refl

@@ -8,7 +8,7 @@ use mathlib.Core.Option.{Option, none, some}
 use lib.ListN.{take, length-map}
 use Rattle.format.specs.Form.{Bytes}
 use Rattle.format.specs.GrammarFields.{LuaString}
-use Rattle.format.specs.Reading.{ConstantValue, nil, boolean, integer, float, short-string, long-string, Prototype}
+use Rattle.format.specs.Reading.{ConstantValue, nil, boolean, integer, float, short_string, long_string, Prototype}
 use Rattle.format.specs.Shortest.{shortest}
 use Rattle.format.specs.Copy.{option_bytes, constant_bytes, local_bytes, list_bytes, behind_source, nest, functions_bytes, upvalues_of_main, kept_constant, kept_local, kept_function, kept_nested, kept_functions, kept_string}
 
@@ -29,8 +29,8 @@ constant-kept nil = refl
 constant-kept (boolean b) = refl
 constant-kept (integer n) = refl
 constant-kept (float n) = refl
-constant-kept (short-string t) = refl
-constant-kept (long-string t) = refl
+constant-kept (short_string t) = refl
+constant-kept (long_string t) = refl
 
 pub behind-kept : (source : Option LuaString) (p : Prototype) (nested : Bytes) → behind_source (kept_function source p) nested ≡ behind_source p nested
 unfolding behind_source

@@ -11,7 +11,7 @@ use Prim.Native.Nat.{ℕ, zero, suc}
 use lib.ListN.{take, drop}
 use Rattle.format.specs.Form.{Bytes}
 use Rattle.format.specs.GrammarFields.{LuaString}
-use Rattle.format.specs.Reading.{ConstantValue, nil, boolean, integer, float, short-string, long-string, Prototype, Reading}
+use Rattle.format.specs.Reading.{ConstantValue, nil, boolean, integer, float, short_string, long_string, Prototype, Reading}
 use Rattle.format.specs.ReadHeader.{same_bytes}
 use Rattle.format.specs.Copy.{option_bytes, behind_source, upvalues_of_main, kept_string, kept_constant, kept_local, kept_function, kept_nested, kept_functions, kept}
 use Rattle.format.specs.FullCopy.{nested_source, Within, all_within, full_function, full_nest, full_functions, kept_sourced, kept_full}
@@ -69,8 +69,8 @@ constant_twice nil = refl
 constant_twice (boolean b) = refl
 constant_twice (integer n) = refl
 constant_twice (float n) = refl
-constant_twice (short-string t) = refl
-constant_twice (long-string t) = refl
+constant_twice (short_string t) = refl
+constant_twice (long_string t) = refl
 
 source_twice : (t : Option LuaString) → kept_source (kept_source t) ≡ kept_source t
 source_twice none = refl

@@ -36,7 +36,7 @@ local_numbers (l ∷ more) = l.startpc ∷ l.endpc ∷ local_numbers more
 
 numbers : List Prototype → List ℕ
 numbers [] = []
-numbers (p ∷ ps) = p.line_defined ∷ p.last-line_defined ∷ anchor_numbers p.abs_line_info ++ local_numbers p.loc_vars ++ numbers ps
+numbers (p ∷ ps) = p.line_defined ∷ p.last_line_defined ∷ anchor_numbers p.abs_line_info ++ local_numbers p.loc_vars ++ numbers ps
 
 of_read : {A : Type 0} → (List Prototype → List A) → Outcome → List A
 of_read f (shown r) = f r.functions

@@ -15,12 +15,12 @@ use Rattle.format.specs.ReadChunk.{body, function, Outcome, refusal, read}
 
 -- in the order of `ResourceLimits`
 abbrev limits : ℕ → ℕ → ℕ → ℕ → ℕ → ℕ → ℕ → ℕ → ℕ → ResourceLimits
-limits input nesting prototypes instructions all-instructions constants upvalues string diagnostics = record {
+limits input nesting prototypes instructions all_instructions constants upvalues string diagnostics = record {
   max_input_bytes = input;
   max_nesting_depth = nesting;
   max_total_prototypes = prototypes;
   max_instructions_per_proto = instructions;
-  max_total_instructions = all-instructions;
+  max_total_instructions = all_instructions;
   max_constants_per_proto = constants;
   max_upvalues_per_proto = upvalues;
   max_string_bytes = string;

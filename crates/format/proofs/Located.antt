@@ -163,7 +163,7 @@ module _ (L : ResourceLimits) (s : Bytes) where
       at_here λ start.
       at_then (exact_string L.max_string_bytes) (at-string L.max_string_bytes) λ spelt _ stands.
       at_then exact_number any λ line_defined _ _.
-      at_then exact_number any λ last-line_defined _ _.
+      at_then exact_number any λ last_line_defined _ _.
       at_then (exact_field 1) any λ numparams _ _.
       at_then (exact_field 1) any λ is_vararg _ _.
       at_then (exact_field 1) any λ maxstacksize _ _.
@@ -171,7 +171,7 @@ module _ (L : ResourceLimits) (s : Bytes) where
       at_then exact_number any λ size _ _.
       at_then (exact_at_most size L.max_instructions_per_proto (Instructions first)) any λ _ _ _.
       at_then (exact_at_most (w.instructions + size) L.max_total_instructions (TotalInstructions first)) any λ _ _ _.
-      at_here λ instructions-at.
+      at_here λ instructions_at.
       at_then (exact_many size (exact_field 4)) (at-items (exact_field 4) size) λ instructions _ h1.
       at_then (exact_counted_up_to L.max_constants_per_proto Constants (exact_constant L.max_string_bytes)) (at-counted_up_to _ Constants (exact_constant _)) λ constants _ h2.
       at_then (exact_counted_up_to L.max_upvalues_per_proto Upvalues exact_upvalue) (at-counted_up_to _ Upvalues exact_upvalue) λ upvalues _ h3.

@@ -18,12 +18,12 @@ use Rattle.format.proofs.Distinct.{header, little}
 
 -- the ceilings but for strings and instructions in all
 abbrev limits : ℕ → ℕ → ResourceLimits
-limits string all-instructions = record {
+limits string all_instructions = record {
   max_input_bytes = 16777216;
   max_nesting_depth = DEEPEST;
   max_total_prototypes = 16777216;
   max_instructions_per_proto = 16777216;
-  max_total_instructions = all-instructions;
+  max_total_instructions = all_instructions;
   max_constants_per_proto = 16777216;
   max_upvalues_per_proto = 16777216;
   max_string_bytes = string;

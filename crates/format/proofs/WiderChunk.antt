@@ -32,14 +32,14 @@ module _ {L N : ResourceLimits} (le : AtMostEach L N) where
       behind λ start.
       then_wider (string_wider le.strings) λ spelt.
       behind λ line_defined.
-      behind λ last-line_defined.
+      behind λ last_line_defined.
       behind λ numparams.
       behind λ is_vararg.
       behind λ maxstacksize.
       behind λ size.
       then_wider (at_most_wider size le.instructions) λ _.
       then_wider (at_most_wider (w.instructions + size) le.total_instructions) λ _.
-      behind λ instructions-at.
+      behind λ instructions_at.
       behind λ instructions.
       then_wider (up_to_wider le.constants (constant_wider le.strings)) λ constants.
       then_wider (up_to_wider le.upvalues same_wider) λ upvalues.

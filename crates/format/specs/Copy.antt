@@ -9,7 +9,7 @@ use Rattle.format.specs.declared.entry.AbsLineInfo.{AbsLineInfo}
 use Rattle.format.specs.Form.{Bytes}
 use Rattle.format.specs.GrammarFields.{LuaString}
 use Rattle.format.specs.GrammarHeader.{signature, luac_data, luac_int, luac_num, header_of}
-use Rattle.format.specs.Reading.{ConstantValue, nil, boolean, integer, float, short-string, long-string, LocalVar, Places, Prototype, Reading}
+use Rattle.format.specs.Reading.{ConstantValue, nil, boolean, integer, float, short_string, long_string, LocalVar, Places, Prototype, Reading}
 use Rattle.format.specs.Shortest.{shortest}
 
 -- ## The bytes of each part
@@ -31,8 +31,8 @@ constant_bytes (boolean false) = field_bytes 1 1
 constant_bytes (boolean true) = field_bytes 1 17
 constant_bytes (integer n) = field_bytes 1 3 ++ field_bytes 8 n
 constant_bytes (float n) = field_bytes 1 19 ++ field_bytes 8 n
-constant_bytes (short-string t) = field_bytes 1 4 ++ string_bytes t
-constant_bytes (long-string t) = field_bytes 1 20 ++ string_bytes t
+constant_bytes (short_string t) = field_bytes 1 4 ++ string_bytes t
+constant_bytes (long_string t) = field_bytes 1 20 ++ string_bytes t
 
 abbrev pub upvalue_bytes : UpvalueDesc → Bytes
 upvalue_bytes u = field_bytes 1 u.instack ++ (field_bytes 1 u.idx ++ field_bytes 1 u.kind)
@@ -52,7 +52,7 @@ list_bytes bytes xs = shortest (length xs) ++ flatten (map bytes xs)
 unfoldable pub behind_source : Prototype → Bytes → Bytes
 behind_source p nested =
     shortest p.line_defined
-    ++ (shortest p.last-line_defined
+    ++ (shortest p.last_line_defined
     ++ (field_bytes 1 p.numparams
     ++ (field_bytes 1 p.is_vararg
     ++ (field_bytes 1 p.maxstacksize
@@ -96,8 +96,8 @@ kept_constant nil = nil
 kept_constant (boolean b) = boolean b
 kept_constant (integer n) = integer n
 kept_constant (float n) = float n
-kept_constant (short-string t) = short-string (kept_string t)
-kept_constant (long-string t) = long-string (kept_string t)
+kept_constant (short_string t) = short_string (kept_string t)
+kept_constant (long_string t) = long_string (kept_string t)
 
 abbrev pub kept_local : LocalVar → LocalVar
 kept_local l = record { name = kept_string l.name; startpc = l.startpc; endpc = l.endpc }
@@ -114,7 +114,7 @@ kept_function source p = record {
   end = 0;
   source_name = source;
   line_defined = p.line_defined;
-  last-line_defined = p.last-line_defined;
+  last_line_defined = p.last_line_defined;
   numparams = p.numparams;
   is_vararg = p.is_vararg;
   maxstacksize = p.maxstacksize;

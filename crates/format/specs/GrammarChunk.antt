@@ -10,7 +10,7 @@ use Rattle.format.specs.declared.entry.AbsLineInfo.{AbsLineInfo}
 use Rattle.format.specs.Form.{Bytes, Form, Then, ◌>>=◌, ◌>>◌, Is, Here, Given, Nothing, When, Run, Many}
 use Rattle.format.specs.GrammarFields.{Field, Byte, Number, LuaString, String}
 use Rattle.format.specs.GrammarHeader.{Headed, Header}
-use Rattle.format.specs.Reading.{ConstantValue, nil, boolean, integer, float, short-string, long-string, LocalVar, Places, Prototype, Reading}
+use Rattle.format.specs.Reading.{ConstantValue, nil, boolean, integer, float, short_string, long_string, LocalVar, Places, Prototype, Reading}
 
 -- ## Lists behind their counts
 -- the place of the first item, and the items
@@ -55,10 +55,10 @@ Tagged limit tag =
       Is (float n))
     (When (eqb tag 4) (do
       t ← Always limit []
-      Is (short-string t))
+      Is (short_string t))
     (When (eqb tag 20) (do
       t ← Always limit []
-      Is (long-string t))
+      Is (long_string t))
     Nothing))))))
 
 abbrev pub Constant : ℕ → Form ConstantValue
@@ -124,7 +124,7 @@ Forest (suc n) F w = do
 
 -- the function of its parts, in the order of their bytes, with where it ends: for the grammar, the reader and Lua's loader
 module _
-    (w : Where) (start : ℕ) (spelt : Option LuaString) (line_defined last-line_defined numparams is_vararg maxstacksize : ℕ)
+    (w : Where) (start : ℕ) (spelt : Option LuaString) (line_defined last_line_defined numparams is_vararg maxstacksize : ℕ)
     (instructions : Listed ℕ) (constants : Listed ConstantValue) (upvalues : Listed UpvalueDesc) (protos-at protos : ℕ)
     (line_info_lem : Listed ℕ) (abs_line_info : Listed AbsLineInfo) (loc_vars : Listed LocalVar) (upvalue_names_lem : Listed (Option LuaString)) (end : ℕ) where
   abbrev pub prototype : Prototype
@@ -135,7 +135,7 @@ module _
     end = end;
     source_name = inherit spelt w.source;
     line_defined = line_defined;
-    last-line_defined = last-line_defined;
+    last_line_defined = last_line_defined;
     numparams = numparams;
     is_vararg = is_vararg;
     maxstacksize = maxstacksize;
@@ -165,14 +165,14 @@ Body L F w = do
   start ← Here
   spelt ← String L.max_string_bytes
   line_defined ← Number
-  last-line_defined ← Number
+  last_line_defined ← Number
   numparams ← Byte
   is_vararg ← Byte
   maxstacksize ← Byte
   size ← Number
   Given (size ≤ L.max_instructions_per_proto)
   Given (w.instructions + size ≤ L.max_total_instructions)
-  instructions-at ← Here
+  instructions_at ← Here
   instructions ← Many size (Field 4)
   constants ← CountedUpTo L.max_constants_per_proto (Constant L.max_string_bytes)
   upvalues ← CountedUpTo L.max_upvalues_per_proto Upvalue
@@ -187,7 +187,7 @@ Body L F w = do
   loc_vars ← Counted (Local L.max_string_bytes)
   upvalue_names_lem ← Counted (String L.max_string_bytes)
   end ← Here
-  Is (prototype w start spelt line_defined last-line_defined numparams is_vararg maxstacksize (record { place = instructions-at; items = instructions }) constants upvalues protos-at protos (record { place = line-info-at; items = line_info_lem }) abs_line_info loc_vars upvalue_names_lem end ∷ nested)
+  Is (prototype w start spelt line_defined last_line_defined numparams is_vararg maxstacksize (record { place = instructions_at; items = instructions }) constants upvalues protos-at protos (record { place = line-info-at; items = line_info_lem }) abs_line_info loc_vars upvalue_names_lem end ∷ nested)
 
 -- a function below which functions nest at most `left` deep. The nested function with the number k is the k-th, and k is at most the limit of nested functions
 unfoldable pub Function : ResourceLimits → ℕ → Where → Form (List Prototype)

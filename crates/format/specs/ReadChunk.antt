@@ -20,7 +20,7 @@ use Rattle.format.specs.declared.entry.AbsLineInfo.{AbsLineInfo}
 use Rattle.format.specs.Form.{Bytes}
 use Rattle.format.specs.GrammarFields.{LuaString}
 use Rattle.format.specs.Limits.{within_ceilings}
-use Rattle.format.specs.Reading.{ConstantValue, nil, boolean, integer, float, short-string, long-string, LocalVar, Places, Prototype, Reading}
+use Rattle.format.specs.Reading.{ConstantValue, nil, boolean, integer, float, short_string, long_string, LocalVar, Places, Prototype, Reading}
 use Rattle.format.specs.GrammarChunk.{Listed, inherit, Where, after, within, prototype, outermost, Loaded, reading}
 use Rattle.format.specs.Read.{Read, ok, refused, Reader, next, ◌>>=◌, ◌>>◌, give, here, refuse, at_most, run, many}
 use Rattle.format.specs.ReadFields.{field, byte, number, string}
@@ -65,10 +65,10 @@ tagged limit place tag =
       give (float n))
     (cond (eqb tag 4) (do
       t ← always limit []
-      give (short-string t))
+      give (short_string t))
     (cond (eqb tag 20) (do
       t ← always limit []
-      give (long-string t))
+      give (long_string t))
     (refuse (ConstantTag place))))))))
 
 abbrev pub constant : ℕ → Reader ConstantValue
@@ -110,7 +110,7 @@ body L r w = do
   start ← here
   spelt ← string L.max_string_bytes
   line_defined ← number
-  last-line_defined ← number
+  last_line_defined ← number
   numparams ← byte
   is_vararg ← byte
   maxstacksize ← byte
@@ -118,7 +118,7 @@ body L r w = do
   size ← number
   at_most size L.max_instructions_per_proto (Instructions first)
   at_most (w.instructions + size) L.max_total_instructions (TotalInstructions first)
-  instructions-at ← here
+  instructions_at ← here
   instructions ← many size (field 4)
   constants ← counted_up_to L.max_constants_per_proto Constants (constant L.max_string_bytes)
   upvalues ← counted_up_to L.max_upvalues_per_proto Upvalues upvalue
@@ -134,7 +134,7 @@ body L r w = do
   loc_vars ← counted (local L.max_string_bytes)
   upvalue_names_lem ← counted (string L.max_string_bytes)
   end ← here
-  give (prototype w start spelt line_defined last-line_defined numparams is_vararg maxstacksize (record { place = instructions-at; items = instructions }) constants upvalues protos-at protos (record { place = line-info-at; items = line_info_lem }) abs_line_info loc_vars upvalue_names_lem end ∷ nested)
+  give (prototype w start spelt line_defined last_line_defined numparams is_vararg maxstacksize (record { place = instructions_at; items = instructions }) constants upvalues protos-at protos (record { place = line-info-at; items = line_info_lem }) abs_line_info loc_vars upvalue_names_lem end ∷ nested)
 
 -- `enter_proto`: at the place where a nested function begins, first whether it is too deep, then whether it is one too many
 unfoldable pub function : ResourceLimits → ℕ → Where → Reader (List Prototype)

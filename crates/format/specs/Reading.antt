@@ -20,8 +20,8 @@ pub data ConstantValue : Type 0 where
   boolean : Bool → ConstantValue
   integer : ℕ → ConstantValue
   float : ℕ → ConstantValue
-  short-string : LuaString → ConstantValue
-  long-string : LuaString → ConstantValue
+  short_string : LuaString → ConstantValue
+  long_string : LuaString → ConstantValue
 
 pub record LocalVar : Type 0 where
   pub name : LuaString
@@ -45,7 +45,7 @@ pub record Prototype : Type 0 where
   pub end : ℕ
   pub source_name : Option LuaString
   pub line_defined : ℕ
-  pub last-line_defined : ℕ
+  pub last_line_defined : ℕ
   pub numparams : ℕ
   pub is_vararg : ℕ
   pub maxstacksize : ℕ

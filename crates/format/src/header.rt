@@ -1,7 +1,7 @@
 // What a chunk's header shows, and the warnings of a reading.
 
 // The Rust's `Header`, without its texts: `signature` and `luac_data` are the same in every file that is read.
-#[derive(Drop)]
+#[derive(Clone, Copy)]
 pub struct Header {
     pub version: u8,
     pub format: u8,
@@ -16,7 +16,7 @@ pub struct Header {
 }
 
 // A warning of a reading, with its place.
-#[derive(Drop)]
+#[derive(Clone, Copy)]
 pub enum Warning {
     // L54-HEADER-003.
     NonStandardFormat(usize),
@@ -25,14 +25,14 @@ pub enum Warning {
 }
 
 // The code of the Rust's diagnostic.
-#[derive(Drop)]
+#[derive(Clone, Copy)]
 pub enum WarningCode {
     L54Header003,
     L54Chunk001,
 }
 
 // A warning's code and place.
-#[derive(Drop)]
+#[derive(Clone, Copy)]
 pub struct WarningReport {
     pub code: WarningCode,
     pub place: usize,

@@ -8,7 +8,7 @@ pub const DEEPEST: usize = 14;
 pub const MOST: usize = 16777216;
 
 // The limits of a reading, with the names of the Rust.
-#[derive(Drop)]
+#[derive(Clone, Copy)]
 pub struct ResourceLimits {
     pub max_input_bytes: usize,
     pub max_nesting_depth: usize,

@@ -1,7 +1,7 @@
 // The refusals: everything that a call can refuse, each with 01's number and, where it has one, its place in the file.
 
 // Why a call refuses. A case that holds a number holds its place, the `byte_offset` of the Rust's diagnostic.
-#[derive(Drop)]
+#[derive(Clone, Copy)]
 pub enum Refusal {
     // CORE-TRUNC-001: the file is cut short.
     Truncated(usize),
@@ -72,14 +72,14 @@ pub enum Refusal {
 }
 
 // A place in the file, if there is one.
-#[derive(Drop)]
+#[derive(Clone, Copy)]
 pub enum Place {
     At(usize),
     None,
 }
 
 // A refusal's number and place.
-#[derive(Drop)]
+#[derive(Clone, Copy)]
 pub struct Report {
     pub number: u8,
     pub place: Place,

@@ -1,5 +1,5 @@
 // How a chunk is spelt, where a copy of it spells the same reading otherwise (crates/format_spelling/specs): so many places, by what is otherwise there.
-#[derive(Drop)]
+#[derive(Clone, Copy)]
 pub struct Spelling {
     // Padded numbers: spelt longer than their shortest spelling. A string's size and a list's count are numbers too.
     pub padded: usize,
