@@ -1,4 +1,6 @@
 // Refusals and warnings as numbers and places, by the definitions of `format`.
+#![tactic(auto)]
+
 ghost use Rattle.std.specs.Prelude.{◌≡◌};
 ghost use Rattle.format.specs.Refusals.{reported};
 ghost use Rattle.format.specs.Warnings.{warned};
