@@ -74,7 +74,7 @@ exact_strict_body L one w =
     exact_then exact_here λ start.
     exact_then (exact_string L.max_string_bytes) λ spelt.
     exact_then exact_int λ line_defined.
-    exact_then exact_int λ last-line_defined.
+    exact_then exact_int λ last_line_defined.
     exact_then (exact_field 1) λ numparams.
     exact_then (exact_field 1) λ is_vararg.
     exact_then (exact_field 1) λ maxstacksize.
@@ -82,7 +82,7 @@ exact_strict_body L one w =
     exact_then exact_int λ size.
     exact_then (exact_at_most size L.max_instructions_per_proto (Instructions first)) λ _.
     exact_then (exact_at_most (w.instructions + size) L.max_total_instructions (TotalInstructions first)) λ _.
-    exact_then exact_here λ instructions-at.
+    exact_then exact_here λ instructions_at.
     exact_then (exact_many size (exact_field 4)) λ instructions.
     exact_then (exact_strict_counted_up_to L.max_constants_per_proto Constants (exact_strict_constant L.max_string_bytes)) λ constants.
     exact_then (exact_strict_counted_up_to L.max_upvalues_per_proto Upvalues exact_upvalue) λ upvalues.

@@ -185,7 +185,7 @@ bodies L l one w =
     then at_here λ start.
     then (strings L.max_string_bytes l) λ spelt.
     then an_int λ line_defined.
-    then an_int λ last-line_defined.
+    then an_int λ last_line_defined.
     then a_byte λ numparams.
     then a_byte λ is_vararg.
     then a_byte λ maxstacksize.
@@ -193,7 +193,7 @@ bodies L l one w =
     then an_int λ size.
     then (tests (leb size L.max_instructions_per_proto) (Instructions first) (λ e. omega (arith, e))) λ _.
     then (tests (leb (w.instructions + size) L.max_total_instructions) (TotalInstructions first) (λ e. omega (arith, e))) λ _.
-    then at_here λ instructions-at.
+    then at_here λ instructions_at.
     then (manys size (fields 4 (omega arith))) λ instructions.
     then (up_to L.max_constants_per_proto Constants (λ at e. omega (arith, e)) (constants L.max_string_bytes l)) λ constants.
     then (up_to L.max_upvalues_per_proto Upvalues (λ at e. omega (arith, e)) upvalues) λ upvalues.

@@ -122,7 +122,7 @@ body_agrees L one w =
     behind here λ start.
     behind (string L.max_string_bytes) λ spelt.
     then int_agrees λ line_defined.
-    then int_agrees λ last-line_defined.
+    then int_agrees λ last_line_defined.
     behind byte λ numparams.
     behind byte λ is_vararg.
     behind byte λ maxstacksize.
@@ -130,7 +130,7 @@ body_agrees L one w =
     then int_agrees λ size.
     behind (at_most size L.max_instructions_per_proto (Instructions first)) λ _.
     behind (at_most (w.instructions + size) L.max_total_instructions (TotalInstructions first)) λ _.
-    behind here λ instructions-at.
+    behind here λ instructions_at.
     behind (many size (field 4)) λ instructions.
     then (up_to_agrees L.max_constants_per_proto Constants (constant_agrees L.max_string_bytes)) λ constants.
     then (up_to_agrees L.max_upvalues_per_proto Upvalues (as_it_is upvalue)) λ upvalues.

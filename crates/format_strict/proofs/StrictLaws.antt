@@ -93,14 +93,14 @@ body_strict L one w =
     behind λ start.
     behind λ spelt.
     after-int λ line_defined.
-    after-int λ last-line_defined.
+    after-int λ last_line_defined.
     behind λ numparams.
     behind λ is_vararg.
     behind λ maxstacksize.
     after-int λ size.
     behind λ _.
     behind λ _.
-    behind λ instructions-at.
+    behind λ instructions_at.
     behind λ instructions.
     then_wider (up_to_strict L.max_constants_per_proto (constant_strict L.max_string_bytes)) λ constants.
     then_wider (up_to_strict L.max_upvalues_per_proto same_wider) λ upvalues.

@@ -8,7 +8,7 @@ use Rattle.format.specs.declared.entry.AbsLineInfo.{AbsLineInfo}
 use Rattle.format.specs.Form.{Bytes, Form, ◌>>=◌, ◌>>◌, Is, Here, Given, Spelt, Nothing, When, Run, Many}
 use Rattle.format.specs.GrammarFields.{Field, Byte, Number, LuaString, String}
 use Rattle.format.specs.GrammarHeader.{Headed, header_of, BeforeFormat, BehindFormat}
-use Rattle.format.specs.Reading.{ConstantValue, nil, boolean, integer, float, short-string, long-string, LocalVar, Prototype, Reading}
+use Rattle.format.specs.Reading.{ConstantValue, nil, boolean, integer, float, short_string, long_string, LocalVar, Prototype, Reading}
 use Rattle.format.specs.GrammarChunk.{Listed, Always, Upvalue, inherit, Where, within, prototype, Forest, Loaded, outermost, reading}
 
 -- ## Ints: numbers that `loadInt` reads. `loadUnsigned` takes a further byte while what it has is below INT_MAX >> 7 = 2^24 - 1; so an int is below (2^24 - 1) * 128. (crates/format_lua: it is so.)
@@ -59,10 +59,10 @@ StrictTagged limit tag =
       Is (float n))
     (When (eqb tag 4) (do
       t ← Present limit
-      Is (short-string t))
+      Is (short_string t))
     (When (eqb tag 20) (do
       t ← Present limit
-      Is (long-string t))
+      Is (long_string t))
     Nothing))))))
 
 abbrev pub StrictConstant : ℕ → Form ConstantValue
@@ -91,14 +91,14 @@ StrictBody L F w = do
   start ← Here
   spelt ← String L.max_string_bytes
   line_defined ← Int
-  last-line_defined ← Int
+  last_line_defined ← Int
   numparams ← Byte
   is_vararg ← Byte
   maxstacksize ← Byte
   size ← Int
   Given (size ≤ L.max_instructions_per_proto)
   Given (w.instructions + size ≤ L.max_total_instructions)
-  instructions-at ← Here
+  instructions_at ← Here
   instructions ← Many size (Field 4)
   constants ← StrictCountedUpTo L.max_constants_per_proto (StrictConstant L.max_string_bytes)
   upvalues ← StrictCountedUpTo L.max_upvalues_per_proto Upvalue
@@ -113,7 +113,7 @@ StrictBody L F w = do
   loc_vars ← StrictCounted (StrictLocal L.max_string_bytes)
   upvalue_names_lem ← StrictCounted (String L.max_string_bytes)
   end ← Here
-  Is (prototype w start spelt line_defined last-line_defined numparams is_vararg maxstacksize (record { place = instructions-at; items = instructions }) constants upvalues protos-at protos (record { place = line-info-at; items = line_info_lem }) abs_line_info loc_vars upvalue_names_lem end ∷ nested)
+  Is (prototype w start spelt line_defined last_line_defined numparams is_vararg maxstacksize (record { place = instructions_at; items = instructions }) constants upvalues protos-at protos (record { place = line-info-at; items = line_info_lem }) abs_line_info loc_vars upvalue_names_lem end ∷ nested)
 
 -- a function below which functions nest at most `left` deep
 unfoldable pub StrictFunction : ResourceLimits → ℕ → Where → Form (List Prototype)

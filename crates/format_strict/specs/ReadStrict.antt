@@ -26,9 +26,9 @@ use Rattle.format.specs.Form.{Bytes}
 use Rattle.format.specs.GrammarFields.{LuaString}
 use Rattle.format.specs.GrammarHeader.{Headed, header_of}
 use Rattle.format.specs.Limits.{within_ceilings}
-use Rattle.format.specs.Reading.{ConstantValue, nil, boolean, integer, float, short-string, long-string, LocalVar, Prototype}
+use Rattle.format.specs.Reading.{ConstantValue, nil, boolean, integer, float, short_string, long_string, LocalVar, Prototype}
 use Rattle.format.specs.GrammarChunk.{Listed, inherit, Where, within, prototype, outermost, Loaded}
-use Rattle.format.specs.Read.{Reader, next, ◌>>=◌, ◌>>◌, give, here, refuse, test, at_most, run, many}
+use Rattle.format.specs.Read.{Reader, ◌>>=◌, ◌>>◌, give, here, refuse, test, at_most, run, many}
 use Rattle.format.specs.ReadFields.{field, byte, number, string}
 use Rattle.format.specs.ReadHeader.{expect, before_format, behind_format}
 use Rattle.format.specs.ReadChunk.{always, upvalue, forest, Outcome, refusal, outcome}
@@ -82,10 +82,10 @@ strict_tagged limit place tag =
       give (float n))
     (cond (eqb tag 4) (do
       t ← present limit
-      give (short-string t))
+      give (short_string t))
     (cond (eqb tag 20) (do
       t ← present limit
-      give (long-string t))
+      give (long_string t))
     (refuse (ConstantTag place))))))))
 
 abbrev pub strict_constant : ℕ → Reader ConstantValue
@@ -113,7 +113,7 @@ strict_body L r w = do
   start ← here
   spelt ← string L.max_string_bytes
   line_defined ← int
-  last-line_defined ← int
+  last_line_defined ← int
   numparams ← byte
   is_vararg ← byte
   maxstacksize ← byte
@@ -121,7 +121,7 @@ strict_body L r w = do
   size ← int
   at_most size L.max_instructions_per_proto (Instructions first)
   at_most (w.instructions + size) L.max_total_instructions (TotalInstructions first)
-  instructions-at ← here
+  instructions_at ← here
   instructions ← many size (field 4)
   constants ← strict_counted_up_to L.max_constants_per_proto Constants (strict_constant L.max_string_bytes)
   upvalues ← strict_counted_up_to L.max_upvalues_per_proto Upvalues upvalue
@@ -137,7 +137,7 @@ strict_body L r w = do
   loc_vars ← strict_counted (strict_local L.max_string_bytes)
   upvalue_names_lem ← strict_counted (string L.max_string_bytes)
   end ← here
-  give (prototype w start spelt line_defined last-line_defined numparams is_vararg maxstacksize (record { place = instructions-at; items = instructions }) constants upvalues protos-at protos (record { place = line-info-at; items = line_info_lem }) abs_line_info loc_vars upvalue_names_lem end ∷ nested)
+  give (prototype w start spelt line_defined last_line_defined numparams is_vararg maxstacksize (record { place = instructions_at; items = instructions }) constants upvalues protos-at protos (record { place = line-info-at; items = line_info_lem }) abs_line_info loc_vars upvalue_names_lem end ∷ nested)
 
 unfoldable pub strict_function : ResourceLimits → ℕ → Where → Reader (List Prototype)
 strict_function L zero = strict_body L (λ w. do
