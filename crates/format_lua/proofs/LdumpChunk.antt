@@ -12,7 +12,7 @@ use Prim.Native.Nat.{ℕ, suc, ◌^◌, ◌<◌}
 use lib.Dec.{lit<}
 use lib.ListN.{length}
 use Rattle.format.specs.declared.entry.AbsLineInfo.{AbsLineInfo}
-use Rattle.format.specs.Reading.{ConstantValue, nil, boolean, integer, float, short-string, long-string, LocalVar, Prototype}
+use Rattle.format.specs.Reading.{ConstantValue, nil, boolean, integer, float, short_string, long_string, LocalVar, Prototype}
 use Rattle.format.specs.Shortest.{shortest}
 use Rattle.format.specs.Copy.{field_bytes, option_bytes, constant_bytes, upvalue_bytes, anchor_bytes, local_bytes, list_bytes, behind_source}
 use Rattle.format_lua.specs.LdumpFunctions.{dump_string, dump_each, is_short, dump_constant, Dump, dump_abs_line_info, dump_loc_var, upvalue_names, dump_debug, dump_source, dump_function}
@@ -35,8 +35,8 @@ ConstantFits nil = Unit {0}
 ConstantFits (boolean b) = Unit {0}
 ConstantFits (integer n) = Unit {0}
 ConstantFits (float n) = Unit {0}
-ConstantFits (short-string t) = StringFits (some t)
-ConstantFits (long-string t) = StringFits (some t)
+ConstantFits (short_string t) = StringFits (some t)
+ConstantFits (long_string t) = StringFits (some t)
 
 abbrev pub AnchorFits : AbsLineInfo → Type 0
 AnchorFits a = Fits a.pc × Fits a.line
@@ -51,7 +51,7 @@ ListFits P xs = Fits (length xs) × All P xs
 pub record FunctionFits (p : Prototype) : Type 0 where
   pub source_name : StringFits p.source_name
   pub line_defined : Fits p.line_defined
-  pub last-line_defined : Fits p.last-line_defined
+  pub last_line_defined : Fits p.last_line_defined
   pub instructions : Fits (length p.instructions)
   pub constants : ListFits ConstantFits p.constants
   pub upvalues : Fits (length p.upvalues)
@@ -68,8 +68,8 @@ TaggedByLength nil = Unit {0}
 TaggedByLength (boolean b) = Unit {0}
 TaggedByLength (integer n) = Unit {0}
 TaggedByLength (float n) = Unit {0}
-TaggedByLength (short-string t) = is_short t ≡ true
-TaggedByLength (long-string t) = is_short t ≡ false
+TaggedByLength (short_string t) = is_short t ≡ true
+TaggedByLength (long_string t) = is_short t ≡ false
 
 -- a name that is there: an absent one is shown as `?`
 abbrev pub Named : LocalVar → Type 0
@@ -95,8 +95,8 @@ constant-is (boolean false) h = refl
 constant-is (boolean true) h = refl
 constant-is (integer n) h = refl
 constant-is (float n) h = refl
-constant-is (short-string t) h = rw h.1 (ap (λ b. field_bytes 1 4 ++ b) (string-is (some t) h.0))
-constant-is (long-string t) h = rw h.1 (ap (λ b. field_bytes 1 20 ++ b) (string-is (some t) h.0))
+constant-is (short_string t) h = rw h.1 (ap (λ b. field_bytes 1 4 ++ b) (string-is (some t) h.0))
+constant-is (long_string t) h = rw h.1 (ap (λ b. field_bytes 1 20 ++ b) (string-is (some t) h.0))
 
 anchor-is : (a : AbsLineInfo) → AnchorFits a → dump_abs_line_info a ≡ anchor_bytes a
 anchor-is a h = ap₂ ◌++◌ (dumped a.pc h.0) (dumped a.line h.1)
@@ -147,7 +147,7 @@ copied_as_dumped strip f p psource h a =
     let constants : ListFits (λ c. ConstantFits c × TaggedByLength c) f.constants = (h.constants.0, all_both ConstantFits TaggedByLength f.constants h.constants.1 a.tags) in
     rw (
       dumped f.line_defined h.line_defined,
-      dumped f.last-line_defined h.last-line_defined,
+      dumped f.last_line_defined h.last_line_defined,
       plain_is (field_bytes 4) f.instructions h.instructions,
       list_is dump_constant constant_bytes constant-is f.constants constants,
       plain_is upvalue_bytes f.upvalues h.upvalues,

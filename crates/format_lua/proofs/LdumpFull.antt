@@ -166,14 +166,14 @@ body-both L one w =
     every_then any λ start _.
     every_then any λ spelt _.
     every_then any λ line_defined _.
-    every_then any λ last-line_defined _.
+    every_then any λ last_line_defined _.
     every_then any λ numparams _.
     every_then any λ is_vararg _.
     every_then any λ maxstacksize _.
     every_then any λ size _.
     every_then any λ _ _.
     every_then any λ _ _.
-    every_then any λ instructions-at _.
+    every_then any λ instructions_at _.
     every_then any λ instructions _.
     every_then any λ constants _.
     every_then any λ upvalues _.
@@ -223,6 +223,7 @@ whole (main ∷ nested) there b h a =
     let same = b.alike (source_of fs) (are_all fs fs 0 (λ k. rw zero-add refl)) (all_fine fs fs h a) (all_by_parent fs b.others others.1) none (no_object b.its.source_name) in
     ap (λ x. header_bytes 0 ++ (field_bytes 1 (length main.upvalues) ++ x))
     (ap (λ l. dump_function false main l none) (sym (taken main.protos later rest)) ∙ ap (λ (f : Dump). f none) first ∙ same ∙ sym (append-nil (b.full none)) ∙ ap (all_within none) (sym (b.fulls [])))
+whole [] there b h a = elim there [ ]
 
 pub full_as_dumped : (L : ResourceLimits) (chunk : Bytes) (r : Reading) → Chunk L chunk r → All (AsLuaInFull r.functions) r.functions
     → full_copy r ≡ lua_u_dump false r.functions ++ r.trailing

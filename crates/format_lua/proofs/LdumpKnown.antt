@@ -113,14 +113,14 @@ body_known L one w placed =
     every_then any λ start _.
     every_then (string-fits L.max_string_bytes) λ spelt h0.
     every_then every_number λ line_defined h1.
-    every_then every_number λ last-line_defined h2.
+    every_then every_number λ last_line_defined h2.
     every_then any λ numparams _.
     every_then any λ is_vararg _.
     every_then any λ maxstacksize _.
     every_then every_number λ size h3.
     every_then any λ _ _.
     every_then any λ _ _.
-    every_then any λ instructions-at _.
+    every_then any λ instructions_at _.
     every_then (every_many size any) λ instructions k3.
     every_then (up_to-fits L.max_constants_per_proto (constant-fits L.max_string_bytes)) λ constants h4.
     every_then (up_to-fits L.max_upvalues_per_proto any) λ upvalues h5.
@@ -142,7 +142,7 @@ body_known L one w placed =
           record {
             source_name = inherit-fits spelt w.source h0 placed.source;
             line_defined = below h1;
-            last-line_defined = below h2;
+            last_line_defined = below h2;
             instructions = rw k3.0 (below h3);
             constants = h4;
             upvalues = h5.0;

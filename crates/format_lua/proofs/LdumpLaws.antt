@@ -1,17 +1,17 @@
 -- Our shortest spelling is what ldump.c's `dumpSize` writes.
 -- Assumes nothing.
-use mathlib.Core.Path.{◌≡◌, refl, sym, ◌∙◌, ap}
-use mathlib.Core.Bool.{Bool, true, false, cond}
-use mathlib.Core.List.{List, [], ◌∷◌, ◌++◌, append_assoc}
-use Prim.Native.Nat.{ℕ, zero, suc, ◌+◌, ◌*◌, ◌/◌, ◌%◌, ◌^◌, ◌≤◌, ◌<◌}
+use mathlib.Core.Path.{◌≡◌, refl, ◌∙◌, ap}
+use mathlib.Core.Bool.{Bool, true, false}
+use mathlib.Core.List.{[], ◌∷◌, ◌++◌, append_assoc}
+use Prim.Native.Nat.{ℕ, zero, suc, ◌/◌, ◌%◌, ◌^◌, ◌≤◌, ◌<◌}
 use native.Mathlib.Omega.{arith}
 use native.Mathlib.Nat.{suc_inj}
-use lib.Bits.{bit_and, bit_or, and_mask, or_shifted_r}
+use lib.Bits.{bit_or, and_mask, or_shifted_r}
 use lib.Dec.{eqb}
 use borrow.Author.Tests.{eqb-true, eqb-false}
 use Rattle.format.specs.Form.{Bytes}
 use Rattle.format.specs.Shortest.{groups_of, shortest}
-use Rattle.format_lua.specs.Ldump.{DIBS, dump_size_loop, mark_last, dump_size}
+use Rattle.format_lua.specs.Ldump.{dump_size_loop, mark_last, dump_size}
 use Rattle.format.proofs.ShortestLaws.{groups_none, div_high}
 
 groups_some : (f n : ℕ) → (n ≡ 0 → ⊥) → groups_of (suc f) n ≡ groups_of f (n / 128) ++ n % 128 ∷ []

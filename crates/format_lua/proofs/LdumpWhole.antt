@@ -63,6 +63,7 @@ true_T e = rw e tt
 
 pub T_true : (b : Bool) → T b → b ≡ true
 T_true true h = refl
+T_true false h = elim h [ ]
 
 key_of : (s t : Option LuaString) → same_source s t ≡ true → key s ≡ key t
 key_of s t e = go s t (true_T e)
@@ -72,6 +73,8 @@ key_of s t e = go s t (true_T e)
     go (some s) (some t) h =
         let k = both (same_bytes s.bytes t.bytes) (eqb (object s) (object t)) h in
         ap₂ ◌∷◌ (eqb→eq (object s) (object t) k.1) (same_eq s.bytes t.bytes k.0)
+    go none (some t) h = elim h [ ]
+    go (some s) none h = elim h [ ]
 
 of_key : (s t : Option LuaString) → key s ≡ key t → same_source s t ≡ true
 of_key s t e = T_true (same_source s t) (go s t e)
@@ -176,6 +179,7 @@ unstripped (main ∷ nested) there known a =
     let same = mains fs fs 0 (λ k. rw zero-add refl) known.behind a (λ k h. absurd (omega arith)) in
     functions_as_dumped false (λ s. key s ≡ key main.source_name) main nested known.fit (all_alike fs fs a) (all_absent (key main.source_name) nested same.1) refl
     (source-written main.source_name known.fit.0.source_name)
+unstripped [] there known a = elim there [ ]
 
 pub copy_as_dumped : (L : ResourceLimits) (chunk : Bytes) (r : Reading) → Chunk L chunk r → All (AsLua r.functions) r.functions
     → copy r ≡ lua_u_dump false r.functions ++ r.trailing
@@ -196,6 +200,7 @@ all_stripped (p ∷ ps) a = (record { tags = a.0.tags; debug = (a.0.line_info_le
 stripped : (fs : List Prototype) → There fs → Known 0 fs → source_of fs 0 ≡ none → All AsStripped fs → lua_u_dump true fs ≡ header_bytes 0 ++ (field_bytes 1 (upvalues_of_main fs) ++ functions_bytes fs)
 stripped (main ∷ nested) there known source a =
     functions_as_dumped true (λ s. Unit {0}) main nested known.fit (all_stripped (main ∷ nested) a) (no_sources nested) tt (rw source (dumped 0 (lit< tt)))
+stripped [] there known source a = elim there [ ]
 
 pub copy_as_stripped : (L : ResourceLimits) (chunk : Bytes) (r : Reading) → Chunk L chunk r → source_of r.functions 0 ≡ none → All AsStripped r.functions
     → copy r ≡ lua_u_dump true r.functions ++ r.trailing

@@ -11,7 +11,7 @@ use mathlib.Core.Option.{none, some}
 use lib.ListN.{replicate}
 use Rattle.format.specs.Form.{Bytes}
 use Rattle.format.specs.GrammarHeader.{header_of}
-use Rattle.format.specs.Reading.{nil, boolean, integer, float, short-string, long-string, Prototype}
+use Rattle.format.specs.Reading.{nil, boolean, integer, float, short_string, long_string, Prototype}
 use Rattle.format.specs.GrammarChunk.{Loaded}
 
 -- 31 bytes
@@ -52,12 +52,12 @@ full_functions_lem =
       end = 208;
       source_name = some (record { place = 33; bytes = 0x40 ∷ 0x6d ∷ [] });
       line_defined = 10;
-      last-line_defined = 30;
+      last_line_defined = 30;
       numparams = 3;
       is_vararg = 1;
       maxstacksize = 7;
       instructions = 0x7fffff38 ∷ 0x01000046 ∷ [];
-      constants = nil ∷ boolean false ∷ boolean true ∷ integer 0xfffffffffffffffe ∷ float 0x4004000000000000 ∷ short-string (record { place = 73; bytes = 0x78 ∷ [] }) ∷ long-string (record { place = 76; bytes = replicate 41 0x61 }) ∷ [];
+      constants = nil ∷ boolean false ∷ boolean true ∷ integer 0xfffffffffffffffe ∷ float 0x4004000000000000 ∷ short_string (record { place = 73; bytes = 0x78 ∷ [] }) ∷ long_string (record { place = 76; bytes = replicate 41 0x61 }) ∷ [];
       upvalues = record { instack = 1; idx = 0; kind = 2 } ∷ [];
       protos = 2;
       line_info_lem = 0x05 ∷ 0xfb ∷ [];
@@ -73,7 +73,7 @@ full_functions_lem =
       end = 176;
       source_name = some (record { place = 33; bytes = 0x40 ∷ 0x6d ∷ [] });
       line_defined = 11;
-      last-line_defined = 15;
+      last_line_defined = 15;
       numparams = 1;
       is_vararg = 0;
       maxstacksize = 3;
@@ -94,7 +94,7 @@ full_functions_lem =
       end = 157;
       source_name = some (record { place = 143; bytes = 0x67 ∷ [] });
       line_defined = 12;
-      last-line_defined = 13;
+      last_line_defined = 13;
       numparams = 0;
       is_vararg = 0;
       maxstacksize = 2;
@@ -115,7 +115,7 @@ full_functions_lem =
       end = 190;
       source_name = some (record { place = 177; bytes = [] });
       line_defined = 16;
-      last-line_defined = 17;
+      last_line_defined = 17;
       numparams = 0;
       is_vararg = 0;
       maxstacksize = 4;
@@ -140,7 +140,7 @@ small-function = record {
   end = 46;
   source_name = none;
   line_defined = 0;
-  last-line_defined = 0;
+  last_line_defined = 0;
   numparams = 0;
   is_vararg = 0;
   maxstacksize = 2;

@@ -76,7 +76,7 @@ module _ (L : ResourceLimits) where
       untested_in int_wider λ size.
       limited
       (limited
-      (untested_in same_wider λ instructions-at.
+      (untested_in same_wider λ instructions_at.
       knows_in (every_many size any) same_wider λ instructions counted.
       ends_in
       (tested (up_to-within (constant-within L.max_string_bytes) L.max_constants_per_proto) λ constants.

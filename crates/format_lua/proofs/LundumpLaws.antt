@@ -3,20 +3,19 @@
 --     size_exactly         a size is accepted exactly where we accept a number
 --     int_exactly          an int is accepted exactly where we accept a number below 2^31 - 128
 -- Assumes nothing.
-use mathlib.Core.Path.{◌≡◌, refl, sym, ◌∙◌, ap}
+use mathlib.Core.Path.{◌≡◌, refl}
 use mathlib.Core.Logic.{◌↔◌}
 use mathlib.Core.Bool.{Bool, true, false, cond}
-use mathlib.Core.List.{List, [], ◌∷◌, ◌++◌}
-use Prim.Native.Nat.{ℕ, zero, suc, ◌+◌, ◌-◌, ◌*◌, ◌/◌, ◌%◌, ◌^◌, ◌≤◌, ◌<◌}
+use mathlib.Core.List.{[], ◌∷◌}
+use Prim.Native.Nat.{ℕ, ◌+◌, ◌-◌, ◌*◌, ◌/◌, ◌%◌, ◌^◌, ◌≤◌, ◌<◌}
 use native.Mathlib.Omega.{arith}
 use lib.Bits.{bit_and, bit_or, and_mask, and_high, or_shifted}
 use lib.Dec.{ltb, leb, eqb, lit<}
-use borrow.Author.Tests.{lt-ltb, le-ltb, ltb-true, ltb-false, leb-true, leb-false, lt-leb, eq-eqb, ne_eqb, eqb-true, eqb-false}
-use Rattle.format.specs.declared.refusal.Refusal.TheVariants.{VarintOverflow}
+use borrow.Author.Tests.{lt-ltb, ltb-true, ltb-false, leb-false, lt-leb}
 use Rattle.format.specs.Form.{Bytes, Below}
-use Rattle.format.specs.Read.{Read, ok, refused}
-use Rattle.format.specs.ReadFields.{groups, number}
-use Rattle.format_lua.specs.Lundump.{LoadedNumber, loaded, truncated_chunk, integer_overflow, load_unsigned_loop, load_unsigned, load_size, load_int}
+use Rattle.format.specs.Read.{ok}
+use Rattle.format.specs.ReadFields.{groups}
+use Rattle.format_lua.specs.Lundump.{loaded, integer_overflow, load_unsigned_loop, load_unsigned, load_size, load_int}
 use Rattle.format.proofs.Exact.{never}
 use Rattle.format.proofs.ExactFields.{groups_least, exact_number}
 

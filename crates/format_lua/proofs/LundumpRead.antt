@@ -111,6 +111,7 @@ module _ {A : Type 0} (t : A → Bytes → Bool) where
 
       passed : (b : Bool) {x : A} {to : ℕ} {rest : Bytes} → T b → cond b (ok x to rest) (refused Overflow) ≡ ok x to rest
       passed true h = refl
+      passed false {to = to} {rest = rest} h = elim h [ ]
 
       back : {at : ℕ} {b : Bytes} {x : A} (rest : Bytes) → T (t x b) × F at b x → judge at (b ++ rest) (r at (b ++ rest)) ≡ ok x (at + length b) rest
       back {at} {b} {x} rest g =
@@ -196,7 +197,7 @@ take-local = take_then take-name λ name. take_then take-int λ startpc. take_th
 abbrev pub take_debug : Takes LoadDebug
 take_debug =
     take_then take-int λ n.
-    take_then take-here λ lineinfo-at.
+    take_then take-here λ lineinfo_at.
     take_then (take-run n) λ lineinfo.
     take_then (take_counted take-anchor) λ abslineinfo.
     take_then (take_counted take-local) λ locvars.

@@ -185,7 +185,7 @@ module _ (L : ResourceLimits) where
       as_form grouped (part int_narrower λ size _.
       tested λ per.
       tested λ total.
-      as_form grouped (part same λ instructions-at _.
+      as_form grouped (part same λ instructions_at _.
       as_form grouped (part (many_narrower size (same {F = ours.Field 4})) λ instructions counted.
       as_form into_is (
       part (up_to_narrower (constant_narrower L.max_string_bytes) L.max_constants_per_proto) λ constants k.

@@ -1,5 +1,5 @@
 -- From ldump.c (Lua 5.4.4), close to the text: how Lua itself writes a number. A size_t has 64 bits.
-use Rattle.std.specs.Prelude.{cond, List, [], ◌∷◌, ℕ, zero, suc, ◌+◌, ◌/◌, ◌^◌, eqb}
+use Rattle.std.specs.Prelude.{cond, [], ◌∷◌, ℕ, zero, suc, ◌+◌, ◌/◌, ◌^◌, eqb}
 use Rattle.std.specs.Int.Bits.{bit_and, bit_or}
 use Rattle.format.specs.Form.{Bytes}
 

@@ -11,7 +11,7 @@ use Rattle.format.specs.declared.entry.AbsLineInfo.{AbsLineInfo}
 use Rattle.format.specs.Form.{Bytes}
 use Rattle.format.specs.GrammarFields.{LuaString}
 use Rattle.format.specs.GrammarHeader.{signature, luac_data}
-use Rattle.format.specs.Reading.{ConstantValue, nil, boolean, integer, float, short-string, long-string, LocalVar, Prototype}
+use Rattle.format.specs.Reading.{ConstantValue, nil, boolean, integer, float, short_string, long_string, LocalVar, Prototype}
 use Rattle.format.specs.ReadHeader.{same_bytes}
 use Rattle.format.specs.Copy.{field_bytes}
 use Rattle.format_lua.specs.Ldump.{dump_size}
@@ -56,8 +56,8 @@ dump_constant (boolean false) = dump_byte 1
 dump_constant (boolean true) = dump_byte 17
 dump_constant (integer n) = dump_byte 3 ++ dump_integer n
 dump_constant (float n) = dump_byte 19 ++ dump_number n
-dump_constant (short-string s) = dump_byte (ttypetag s) ++ dump_string (some s)
-dump_constant (long-string s) = dump_byte (ttypetag s) ++ dump_string (some s)
+dump_constant (short_string s) = dump_byte (ttypetag s) ++ dump_string (some s)
+dump_constant (long_string s) = dump_byte (ttypetag s) ++ dump_string (some s)
 
 abbrev pub dump_constants : Prototype → Bytes
 dump_constants f = dump_each dump_constant f.constants
@@ -124,7 +124,7 @@ unfoldable pub dump_function : Bool → Prototype → List Dump → Dump
 dump_function strip f p psource =
     dump_source strip f.source_name psource
     ++ (dump_int f.line_defined
-    ++ (dump_int f.last-line_defined
+    ++ (dump_int f.last_line_defined
     ++ (dump_byte f.numparams
     ++ (dump_byte f.is_vararg
     ++ (dump_byte f.maxstacksize

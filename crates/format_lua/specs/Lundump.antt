@@ -1,5 +1,5 @@
 -- From lundump.c (Lua 5.4.4), close to the text: how Lua's own loader reads a number. A size_t has 64 bits.
-use Rattle.std.specs.Prelude.{cond, List, [], ◌∷◌, ℕ, ◌*◌, ◌-◌, ◌/◌, ◌%◌, ◌^◌, leb, eqb}
+use Rattle.std.specs.Prelude.{cond, [], ◌∷◌, ℕ, ◌*◌, ◌-◌, ◌/◌, ◌%◌, ◌^◌, leb, eqb}
 use Rattle.std.specs.Int.Bits.{bit_and, bit_or}
 use Rattle.format.specs.Form.{Bytes}
 

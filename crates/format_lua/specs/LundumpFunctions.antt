@@ -6,14 +6,14 @@
 -- Bytes of a word or a number are in the order of a little-endian machine: C copies them as they lie in memory (`loadVector`).
 -- Where 01 makes ours differ is said at each. What `Undump` takes, our grammar takes, with the same value, where that is within the limits: `proofs/LundumpChunk.antt`. The stricter grammar takes exactly that: `proofs/StrictLoaded.antt`.
 -- Not here: memory (what a loader allocates, or writes behind an array's end), and what happens at a tag that is none (`lua_assert(0)`).
-use Rattle.std.specs.Prelude.{◌≡◌, Bool, true, false, List, [], ◌∷◌, ◌++◌, ℕ, zero, suc, ◌+◌, eqb, length}
+use Rattle.std.specs.Prelude.{◌≡◌, true, false, List, [], ◌∷◌, ◌++◌, ℕ, zero, suc, eqb, length}
 use Rattle.std.proofs.Math.Option.{Option, none, some, get_or}
 use Rattle.format.specs.declared.entry.UpvalueDesc.{UpvalueDesc}
 use Rattle.format.specs.declared.entry.AbsLineInfo.{AbsLineInfo}
-use Rattle.format.specs.Form.{Bytes, Below, Form, Then, ◌>>=◌, ◌>>◌, Is, Here, Spelt, Nothing, When, Run, Many}
+use Rattle.format.specs.Form.{Bytes, Below, Form, ◌>>=◌, ◌>>◌, Is, Here, Spelt, Nothing, When, Run, Many}
 use Rattle.format.specs.GrammarFields.{Field, LuaString}
 use Rattle.format.specs.GrammarHeader.{Headed, signature, luac_data, luac_int, luac_num, header_of}
-use Rattle.format.specs.Reading.{ConstantValue, nil, boolean, integer, float, short-string, long-string, LocalVar, Places, Prototype}
+use Rattle.format.specs.Reading.{ConstantValue, nil, boolean, integer, float, short_string, long_string, LocalVar, Prototype}
 use Rattle.format.specs.GrammarChunk.{Listed, inherit, Where, after, within, prototype, Loaded, outermost}
 use Rattle.format_lua.specs.Lundump.{loaded, load_size, load_int}
 
@@ -76,10 +76,10 @@ LoadTagged t =
       Is (float n))
     (When (eqb t 4) (do
       st ← LoadString
-      Is (short-string st))
+      Is (short_string st))
     (When (eqb t 20) (do
       st ← LoadString
-      Is (long-string st))
+      Is (long_string st))
     Nothing))))))
 
 -- int t = loadByte(S); switch (t) ..
@@ -133,7 +133,7 @@ LoadLocVar = do
   Is (record { name = varname; startpc = startpc; endpc = endpc })
 
 pub record Debug : Type 0 where
-  pub lineinfo-at : ℕ
+  pub lineinfo_at : ℕ
   pub lineinfo : Bytes
   pub abslineinfo : Listed AbsLineInfo
   pub locvars : Listed LocalVar
@@ -142,12 +142,12 @@ pub record Debug : Type 0 where
 abbrev pub LoadDebug : Form Debug
 LoadDebug = do
   n ← LoadInt
-  lineinfo-at ← Here
+  lineinfo_at ← Here
   lineinfo ← Run n
   abslineinfo ← LoadCounted LoadAbsLineInfo
   locvars ← LoadCounted LoadLocVar
   upvalue_names_lem ← LoadCounted LoadStringN
-  Is (record { lineinfo-at = lineinfo-at; lineinfo = lineinfo; abslineinfo = abslineinfo; locvars = locvars; upvalue_names_lem = upvalue_names_lem })
+  Is (record { lineinfo_at = lineinfo_at; lineinfo = lineinfo; abslineinfo = abslineinfo; locvars = locvars; upvalue_names_lem = upvalue_names_lem })
 
 -- if (f->source == NULL) f->source = psource. The first argument bounds how deep functions nest, and C has no such bound; `Where` is how we number the functions
 unfoldable pub LoadFunction : ℕ → Where → Form (List Prototype)
@@ -168,7 +168,7 @@ LoadFunction (suc left) w = do
   p ← LoadProtos n (LoadFunction left) (within w (inherit source w.source) (length code.items))
   debug ← LoadDebug
   end ← Here
-  Is (prototype w start source linedefined lastlinedefined numparams is_vararg maxstacksize code k upvalues protos-at n (record { place = debug.lineinfo-at; items = debug.lineinfo }) debug.abslineinfo debug.locvars debug.upvalue_names_lem end ∷ p)
+  Is (prototype w start source linedefined lastlinedefined numparams is_vararg maxstacksize code k upvalues protos-at n (record { place = debug.lineinfo_at; items = debug.lineinfo }) debug.abslineinfo debug.locvars debug.upvalue_names_lem end ∷ p)
 
 -- LUA_SIGNATURE, LUAC_VERSION, LUAC_FORMAT, LUAC_DATA, sizes, LUAC_INT, LUAC_NUM. Ours takes any format byte. In C the signature's first byte was read and compared before,
 -- by the caller (ldo.c's `f_parser`), and here is checkliteral(S, &LUA_SIGNATURE[1], ..)

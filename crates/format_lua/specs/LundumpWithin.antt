@@ -7,7 +7,7 @@ use Rattle.std.proofs.Math.Option.{Option, none, some}
 use Rattle.format.specs.declared.limits.ResourceLimits.{ResourceLimits}
 use Rattle.format.specs.Form.{Bytes, All}
 use Rattle.format.specs.GrammarFields.{LuaString}
-use Rattle.format.specs.Reading.{ConstantValue, nil, boolean, integer, float, short-string, long-string, LocalVar, Prototype, Reading}
+use Rattle.format.specs.Reading.{ConstantValue, nil, boolean, integer, float, short_string, long_string, LocalVar, Prototype, Reading}
 use Rattle.format.specs.GrammarChunk.{instructions_of, Where, Loaded, outermost, reading}
 use Rattle.format_lua.specs.LundumpFunctions.{Undump}
 
@@ -26,8 +26,8 @@ ConstantWithin limit nil = Unit {0}
 ConstantWithin limit (boolean x) = Unit {0}
 ConstantWithin limit (integer n) = Unit {0}
 ConstantWithin limit (float n) = Unit {0}
-ConstantWithin limit (short-string t) = BytesWithin limit t
-ConstantWithin limit (long-string t) = BytesWithin limit t
+ConstantWithin limit (short_string t) = BytesWithin limit t
+ConstantWithin limit (long_string t) = BytesWithin limit t
 
 -- a name that is NULL is shown as `?`, which is asked to be within the limit too; so 0 is too small a limit for it
 abbrev pub LocalWithin : ℕ → LocalVar → Type 0
