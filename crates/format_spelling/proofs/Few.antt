@@ -165,14 +165,14 @@ few_body L one w =
     few_both few_none λ start.
     few_both (few_source L.max_string_bytes w) λ spelt.
     few_both few_number λ line_defined.
-    few_both few_number λ last-line_defined.
+    few_both few_number λ last_line_defined.
     few_both few_none λ numparams.
     few_both few_none λ is_vararg.
     few_both few_none λ maxstacksize.
     few_both few_number λ size.
     few_both few_none λ _.
     few_both few_none λ _.
-    few_both few_none λ instructions-at.
+    few_both few_none λ instructions_at.
     few_both few_none λ instructions.
     few_both (few_counted_up_to L.max_constants_per_proto (few_constant L.max_string_bytes)) λ constants.
     few_both (few_counted_up_to L.max_upvalues_per_proto few_none) λ upvalues.

@@ -150,14 +150,14 @@ tells_body L exact one w =
     tells_skip here_empty λ start.
     tells_both (exact_string L.max_string_bytes) (tells_source L.max_string_bytes w) λ spelt.
     tells_both exact_number tells_number λ line_defined.
-    tells_both exact_number tells_number λ last-line_defined.
+    tells_both exact_number tells_number λ last_line_defined.
     tells_both (exact_field 1) tells_none λ numparams.
     tells_both (exact_field 1) tells_none λ is_vararg.
     tells_both (exact_field 1) tells_none λ maxstacksize.
     tells_both exact_number tells_number λ size.
     tells_skip given_empty λ _.
     tells_skip given_empty λ _.
-    tells_skip here_empty λ instructions-at.
+    tells_skip here_empty λ instructions_at.
     tells_both (exact_many size (exact_field 4)) tells_none λ instructions.
     tells_both (exact_counted_up_to L.max_constants_per_proto Constants (exact_constant L.max_string_bytes))
     (tells_counted_up_to L.max_constants_per_proto (exact_constant L.max_string_bytes) (tells_constant L.max_string_bytes)) λ constants.

@@ -88,7 +88,7 @@ unfoldable pub body : (L : ResourceLimits) → (Where → Reader (List Prototype
 body L r c w =
     plus (field.string L.max_string_bytes) (source L.max_string_bytes w) λ spelt.
     plus field.number number λ line_defined.
-    plus field.number number λ last-line_defined.
+    plus field.number number λ last_line_defined.
     plus field.byte none λ numparams.
     plus field.byte none λ is_vararg.
     plus field.byte none λ maxstacksize.

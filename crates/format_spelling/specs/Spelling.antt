@@ -119,14 +119,14 @@ body L p w =
     both none λ start.
     both (source L.max_string_bytes w) λ spelt.
     both number λ line_defined.
-    both number λ last-line_defined.
+    both number λ last_line_defined.
     both none λ numparams.
     both none λ is_vararg.
     both none λ maxstacksize.
     both number λ size.
     both none λ _.
     both none λ _.
-    both none λ instructions-at.
+    both none λ instructions_at.
     both none λ instructions.
     both (counted_up_to L.max_constants_per_proto (constant L.max_string_bytes)) λ constants.
     both (counted_up_to L.max_upvalues_per_proto none) λ upvalues.
