@@ -4,9 +4,9 @@
 -- Assumes nothing.
 use mathlib.Core.Path.{◌≡◌, sym, ◌∙◌, ap, subst, subst_refl, path_j}
 use mathlib.Core.List.{[]}
-use Prim.Native.Nat.{ℕ, ◌+◌}
+use Prim.Native.Nat.{ℕ}
 use native.Mathlib.Nat.{add-zero}
-use Rattle.format.specs.Form.{Bytes, Form, Then}
+use Rattle.format.specs.Form.{Bytes, Form}
 use Rattle.format.specs.declared.spelling.Spelling.{Spelling}
 use Rattle.format_spelling.specs.Spelling.{Tally, none, both}
 use Rattle.format.proofs.Build.{skip}

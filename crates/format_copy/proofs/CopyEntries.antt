@@ -6,12 +6,11 @@ use mathlib.Core.List.{List, [], ◌∷◌, ◌++◌, append_assoc, append-nil, 
 use mathlib.Core.Option
 use mathlib.Core.Option.{Option, none, some, get_or}
 use Prim.Native.Nat.{ℕ, zero, suc, ◌+◌, ◌-◌, ◌^◌, ◌≤◌, ◌<◌, zero-le}
-use native.Mathlib.Omega.{arith}
 use lib.Dec.{T, eqb, eqb→eq, lit<}
 use lib.ListN.{length}
 use Rattle.format.specs.Form.{Bytes, Below, Form, Then, Is, When, Many}
 use Rattle.format.specs.GrammarFields.{Field, LuaString, Content, String}
-use Rattle.format.specs.Reading.{short-string, long-string}
+use Rattle.format.specs.Reading.{short_string, long_string}
 use Rattle.format.specs.GrammarChunk.{Listed, Counted, CountedUpTo, Always, Tagged, Constant, Upvalue, Anchor, Local, Where, outermost}
 use Rattle.format.specs.Shortest.{shortest}
 use Rattle.format_spelling.specs.Spelling.{same, ◌⊕◌, Tally}
@@ -121,9 +120,9 @@ tagged_copies limit tag =
     (when_copies (eqb tag 3) (λ t. uncounted (field_copies λ n. is_copies (ap (λ k. field_bytes 1 k ++ field_bytes 8 n) (eqb→eq tag 3 t), refl)))
     (when_copies (eqb tag 19) (λ t. uncounted (field_copies λ n. is_copies (ap (λ k. field_bytes 1 k ++ field_bytes 8 n) (eqb→eq tag 19 t), refl)))
     (when_copies (eqb tag 4) (λ t. then_copies (always_copies limit [] (empty_spellable limit)) λ x x' b r.
-    is_copies (ap₂ (λ k c. field_bytes 1 k ++ c) (eqb→eq tag 4 t) (append-nil b ∙ r.0), ap short-string r.1))
+    is_copies (ap₂ (λ k c. field_bytes 1 k ++ c) (eqb→eq tag 4 t) (append-nil b ∙ r.0), ap short_string r.1))
     (when_copies (eqb tag 20) (λ t. then_copies (always_copies limit [] (empty_spellable limit)) λ x x' b r.
-    is_copies (ap₂ (λ k c. field_bytes 1 k ++ c) (eqb→eq tag 20 t) (append-nil b ∙ r.0), ap long-string r.1))
+    is_copies (ap₂ (λ k c. field_bytes 1 k ++ c) (eqb→eq tag 20 t) (append-nil b ∙ r.0), ap long_string r.1))
     none_copies))))))
 
 pub constant_copies : {m : Measure} (limit : ℕ) → Copies m (Constant limit) (Constant limit) (tally.constant limit) (As constant_bytes kept_constant)

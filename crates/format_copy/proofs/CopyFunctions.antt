@@ -5,7 +5,7 @@
 -- Assumes nothing.
 use mathlib.Core.Path.{◌≡◌, refl, sym, ◌∙◌, ap, ap₂}
 use mathlib.Core.List.{List, [], ◌∷◌, ◌++◌, append-nil, map-id, foldr}
-use mathlib.Core.Option.{Option, none, some, map}
+use mathlib.Core.Option.{Option, none, map}
 use Prim.Native.Nat.{ℕ, zero, suc, ◌≤◌}
 use lib.ListN.{length}
 use lib.Seq.{take_at, drop_at}
@@ -51,14 +51,14 @@ body_copies way L l one w v src near a =
     here_copies λ start start'.
     then_copies src λ spelt spelt' front r.
     number_copies λ line_defined.
-    number_copies λ last-line_defined.
+    number_copies λ last_line_defined.
     field_copies λ numparams.
     field_copies λ is_vararg.
     field_copies λ maxstacksize.
     number_copies λ size.
     given_copies (λ h. h) (
     given_copies (λ h. rw (← a.instructions) h) (
-    here_copies λ instructions-at instructions-at'.
+    here_copies λ instructions_at instructions-at'.
     then_copies (uncounted (many_copies size (field_again 4))) λ instructions instructions' b₁ q₁.
     then_copies (up_to_copies (constant_copies L.max_string_bytes) L.max_constants_per_proto) λ constants constants' b₂ q₂.
     then_copies (up_to_copies upvalue_copies L.max_upvalues_per_proto) λ upvalues upvalues' b₃ q₃.

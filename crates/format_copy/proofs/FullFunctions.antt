@@ -9,9 +9,8 @@ use mathlib.Core.Bool.{Bool, true, false}
 use mathlib.Core.List.{List, [], ◌∷◌, ◌++◌, append-nil, map, foldr}
 use mathlib.Core.Option
 use mathlib.Core.Option.{Option, none, some}
-use Prim.Native.Nat.{ℕ, zero, suc, ◌+◌, ◌≤◌}
+use Prim.Native.Nat.{ℕ, zero, suc, ◌≤◌}
 use native.Mathlib.Omega.{arith}
-use lib.Dec.{lit<}
 use lib.Seq.{take_at, drop_at}
 use Rattle.format.specs.declared.limits.ResourceLimits.{ResourceLimits}
 use Rattle.format.specs.Form.{Bytes, Below}
@@ -25,7 +24,7 @@ use Rattle.format_spelling.specs.Spelling as tally
 use Rattle.format.proofs.FullSources.{same_source_lem, alike_sources, inherited}
 use Rattle.format_copy.proofs.Copies.{Measure, Copied, Copies, none_copies, given_copies, weaken}
 use Rattle.format_copy.proofs.CopyEntries.{string_copies, absent_copies}
-use Rattle.format_copy.proofs.CopyForest.{Way, Once, Each, Around}
+use Rattle.format_copy.proofs.CopyForest.{Way, Once, Around}
 use Rattle.format_copy.proofs.CopyFunctions.{Behind, body_copies}
 
 -- every source is kept but for its place

@@ -19,7 +19,6 @@ use Rattle.format.specs.GrammarFields.{Field, LuaString, Content, String}
 use Rattle.format.specs.Reading.{Prototype}
 use Rattle.format.specs.GrammarChunk.{Listed, Counted, CountedUpTo, Always, Tagged, Constant, Upvalue, Anchor, Local, Where, after, within, inherit, outermost, Forest, Body, Function}
 use Rattle.format.specs.Shortest.{shortest}
-use Rattle.format.specs.declared.spelling.Spelling.{Spelling}
 use Rattle.format_spelling.specs.Spelling.{same, ◌⊕◌, Tally, filling, dropping}
 use Rattle.format_spelling.specs.Spelling as tally
 use Rattle.format.specs.Copy.{field_bytes, string_bytes, option_bytes, constant_bytes, upvalue_bytes, anchor_bytes, local_bytes, list_bytes, behind_source, kept_string}
@@ -132,14 +131,14 @@ body_own way L w one src =
     here_own λ start.
     then_own src λ spelt front r.
     number_own λ line_defined.
-    number_own λ last-line_defined.
+    number_own λ last_line_defined.
     field_own λ numparams.
     field_own λ is_vararg.
     field_own λ maxstacksize.
     number_own λ size.
     given_own (
     given_own (
-    here_own λ instructions-at.
+    here_own λ instructions_at.
     then_own (words_own size) λ instructions b₁ q₁.
     then_own (up_to_own (constant_own L.max_string_bytes) L.max_constants_per_proto) λ constants b₂ q₂.
     then_own (up_to_own upvalue_own L.max_upvalues_per_proto) λ upvalues b₃ q₃.

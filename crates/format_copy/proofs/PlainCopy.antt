@@ -6,9 +6,9 @@
 --     plain_length     so it is as long
 --     copy_plain       and only there, if the limits allow a string of one byte
 -- Assumes nothing.
-use mathlib.Core.Path.{◌≡◌, refl, sym, ◌∙◌, ap, ap₂}
+use mathlib.Core.Path.{◌≡◌, sym, ◌∙◌, ap, ap₂}
 use mathlib.Core.Logic.{◌↔◌}
-use mathlib.Core.List.{List, [], ◌∷◌, ◌++◌, append_assoc, append-nil}
+use mathlib.Core.List.{List, ◌++◌, append_assoc, append-nil}
 use Prim.Native.Nat.{ℕ, ◌+◌, ◌≤◌}
 use native.Mathlib.Omega.{arith}
 use native.Mathlib.Nat.{zero-add}
@@ -20,7 +20,6 @@ use Rattle.format.specs.GrammarFields.{Byte}
 use Rattle.format.specs.GrammarHeader.{Headed, BeforeFormat, BehindFormat, Header}
 use Rattle.format.specs.Reading.{Prototype, Reading}
 use Rattle.format.specs.GrammarChunk.{outermost, Function, Chunk}
-use Rattle.format.specs.declared.spelling.Spelling.{Spelling}
 use Rattle.format_spelling.specs.Spelling.{same, ◌⊕◌, respelt, spelling_of, respelt_in}
 use Rattle.format_spelling.specs.Spelling as tally
 use Rattle.format_spelling.specs.ReadSpelling as count
