@@ -1,18 +1,14 @@
 -- What a test that antt computes says of each thing that it went through.
 --     below k f, at        the test f passes at each number below k
---     each ks f, keyed     the test f passes at each number of a list, and so at a `match`'s key
 --     Passed k x, passed       x is none of the numbers below k, as a `match` tells its last arm, and so at least k
 -- Assumes nothing.
-use mathlib.Core.Path.{◌≡◌, refl, sym, subst}
+use mathlib.Core.Path.{◌≡◌, refl, subst}
 use mathlib.Core.Bool.{Bool, true, false, ◌&&◌}
-use mathlib.Core.List.{List, [], ◌∷◌}
-use mathlib.Core.Logic.{inl, inr}
 use Prim.Native.Nat.{ℕ, zero, suc, ◌<◌, ◌≤◌}
 use native.Mathlib.Nat.{not-suc-le-zero}
 use native.Mathlib.Omega.{arith}
 use lib.Dec.{T, ltb}
 use borrow.Author.Tests.{ltb-true, ltb-false}
-use types.Run.{OneOf}
 
 pub both-parts : (a b : Bool) → T (a && b) → T a × T b
 both-parts true b t = (tt, t)
@@ -31,16 +27,6 @@ at (suc k) f t n h = go (at k f (both-parts (f k) (below k f) t).1 n) (ltb n k) 
     go rest false e =
         let last : k ≡ n = omega (arith, ltb-false n k e) in
         subst (λ (m : ℕ). T (f m)) last (both-parts (f k) (below k f) t).0
-
-abbrev pub each : List ℕ → (ℕ → Bool) → Bool
-each [] f = true
-each (k ∷ ks) f = f k && each ks f
-
-pub keyed : (ks : List ℕ) (f : ℕ → Bool) → T (each ks f) → (x : ℕ) → OneOf ks x → T (f x)
-keyed [] f t x o = absurd o
-keyed (k ∷ []) f t x o = subst (λ (m : ℕ). T (f m)) (sym o) (both-parts (f k) true t).0
-keyed (k ∷ k' ∷ ks) f t x (inl e) = subst (λ (m : ℕ). T (f m)) (sym e) (both-parts (f k) (each (k' ∷ ks) f) t).0
-keyed (k ∷ k' ∷ ks) f t x (inr o) = keyed (k' ∷ ks) f (both-parts (f k) (each (k' ∷ ks) f) t).1 x o
 
 abbrev pub Passed : ℕ → ℕ → Type 0
 Passed zero x = Unit {0}

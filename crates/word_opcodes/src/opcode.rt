@@ -4,7 +4,7 @@ ghost use Rattle.std.specs.Prelude.{◌≡◌, get_or};
 ghost use Rattle.word_opcodes.specs.Table.{opcodes, opcode_at, number_of, mode_of};
 
 // The 83 opcodes, in the order of their numbers (lopcodes.h, OpCode).
-#[derive(Drop)]
+#[derive(Clone, Copy)]
 pub enum Opcode54 {
     Move = 0,
     Loadi = 1,
@@ -92,14 +92,14 @@ pub enum Opcode54 {
 }
 
 // An opcode, or none.
-#[derive(Drop)]
+#[derive(Clone, Copy)]
 pub enum OptionOpcode54 {
     Some(Opcode54),
     None,
 }
 
 // How an instruction's fields lie in its word (lopcodes.h, OpMode).
-#[derive(Drop)]
+#[derive(Clone, Copy)]
 pub enum OpMode54 {
     IABC,
     IABx,
