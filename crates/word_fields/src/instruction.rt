@@ -6,7 +6,7 @@ use format::refusal::Refusal;
 use word_opcodes::opcode::{OpMode54, Opcode54, OptionOpcode54};
 
 // The fields of a 32-bit instruction word. From bit 0: opcode 7 bits, A 8, k 1, B 8, C 8; Bx is 17 bits from bit 15, Ax and sJ 25 from bit 7.
-#[derive(Drop)]
+#[derive(Clone, Copy)]
 pub struct RawInstruction54 {
     pub opcode_num: u8,
     pub opcode: OptionOpcode54,
@@ -23,7 +23,7 @@ pub struct RawInstruction54 {
 }
 
 // A word, or the refusal: NoOpcode, 28, before FieldRange, 27.
-#[derive(Drop)]
+#[derive(Clone, Copy)]
 pub enum Encoded {
     Word(u32),
     Refused(Refusal),
@@ -132,6 +132,7 @@ impl RawInstruction54 {
 
     // The word of the opcode and of the fields that its mode uses. Ruled out: 27 where there is no opcode; a refusal for a field that the mode
     // does not use.
+    #[tactic(auto, unfolding(crate::specs::Word::encoded))]
     pub fn encode(self) -> Encoded
         ensures { result ≡ encoded self }
     {
@@ -151,7 +152,7 @@ impl RawInstruction54 {
 }
 
 // The number that a signed field's bits spell, if they can.
-#[derive(Drop)]
+#[derive(Clone, Copy)]
 enum Unbiased {
     In(u32),
     Out,
