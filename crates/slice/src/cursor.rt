@@ -6,13 +6,13 @@ ghost use Rattle.slice.specs.Inner.Results.{cursor_result};
 use format::refusal::Refusal;
 
 // A place in a file: the Rust's `SafeReader` without the file, the limits and the counts.
-#[derive(Drop)]
+#[derive(Clone, Copy)]
 pub struct Cursor {
     pub at: usize,
 }
 
 // The cursor behind what was read, or why it was not.
-#[derive(Drop)]
+#[derive(Clone, Copy)]
 pub enum CursorResult {
     Ok(Cursor),
     Err(Refusal),
