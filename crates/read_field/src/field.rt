@@ -7,19 +7,19 @@ use format::refusal::Refusal;
 use slice::cursor::{Cursor, remaining, short};
 use slice::little::{u32_at, u64_at};
 
-#[derive(Drop)]
+#[derive(Clone, Copy)]
 pub enum U8Result {
     Ok { value: u8, next: Cursor },
     Err(Refusal),
 }
 
-#[derive(Drop)]
+#[derive(Clone, Copy)]
 pub enum U32Result {
     Ok { value: u32, next: Cursor },
     Err(Refusal),
 }
 
-#[derive(Drop)]
+#[derive(Clone, Copy)]
 pub enum U64Result {
     Ok { value: u64, next: Cursor },
     Err(Refusal),

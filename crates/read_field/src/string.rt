@@ -12,19 +12,19 @@ use format_spelling::tally::Tally;
 use slice::cursor::{Cursor, CursorResult, read_exact};
 
 // A string that is there: the place of its first byte, and how many there are.
-#[derive(Drop)]
+#[derive(Clone, Copy)]
 pub struct StringAt {
     pub place: usize,
     pub len: usize,
 }
 
-#[derive(Drop)]
+#[derive(Clone, Copy)]
 pub enum OptionString {
     Some(StringAt),
     None,
 }
 
-#[derive(Drop)]
+#[derive(Clone, Copy)]
 pub enum StringResult {
     Ok { string: OptionString, next: Cursor },
     Err(Refusal),

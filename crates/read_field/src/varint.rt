@@ -13,7 +13,7 @@ use slice::cursor::{Cursor, short};
 use slice::little::wide;
 
 // A number, the cursor behind it, and whether it is padded: not in its shortest form.
-#[derive(Drop)]
+#[derive(Clone, Copy)]
 pub enum NumberResult {
     Ok {
         value: u64,

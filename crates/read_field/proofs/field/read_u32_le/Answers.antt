@@ -1,0 +1,18 @@
+-- `read_field::field::read_u32_le` meets its contract: by whether as many bytes are there. Assumes nothing.
+use native.Mathlib.Omega.{arith}
+use borrow.Author.Rules.{rules}
+use lib.ListN.{drop, length-drop}
+use Rattle.format.proofs.Steps.{field-short, field_enough}
+use Rattle.read_field.proofs.field.read_u32_le.Goals as goal
+
+pub returns-then-remaining-lt4 : goal.returns-then-remaining-lt4
+returns-then-remaining-lt4 c = let a = c.args in rw (c.short.ensures, field-short 4 a.cursor.at (drop a.cursor.at a.s.now) (omega arith))
+
+pub u32_at-requires : goal.u32_at-requires
+u32_at-requires c = let a = c.args in omega (arith, length-drop a.cursor.at a.s.now)
+
+pub overflow_add-result : goal.overflow_add-result
+overflow_add-result c = let a = c.args in omega (arith, length-drop a.cursor.at a.s.now)
+
+pub returns : goal.returns
+returns c = let a = c.args in rw (c.u32_at.ensures, field_enough 4 a.cursor.at (drop a.cursor.at a.s.now) (omega arith))
