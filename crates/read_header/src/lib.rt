@@ -1,4 +1,6 @@
 // header.rs: the 31 bytes at the front of a chunk.
+#![tactic(auto)]
+
 ghost use Rattle.std.specs.Prelude.{◌≡◌, [], ◌∷◌, drop};
 ghost use Rattle.format.specs.declared.refusal.Refusal.TheVariants.{Signature};
 ghost use Rattle.format.specs.ReadHeader as spec;
@@ -13,13 +15,13 @@ use read_field::field::{U8Result, read_u8};
 use slice::bytes::same_bytes;
 use slice::cursor::{Cursor, CursorResult, read_exact};
 
-#[derive(Drop)]
+#[derive(Clone, Copy)]
 pub enum OptionWarning {
     Some(Warning),
     None,
 }
 
-#[derive(Drop)]
+#[derive(Clone, Copy)]
 pub enum HeaderResult {
     Ok {
         header: Header,
@@ -75,7 +77,7 @@ fn format_warning(place: usize, format: u8) -> OptionWarning
 }
 
 // The parts of the header that are the same in every chunk.
-#[derive(Drop)]
+#[derive(Clone, Copy)]
 enum Fixed {
     Signature,
     Version,
