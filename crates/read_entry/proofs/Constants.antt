@@ -9,7 +9,7 @@ use lib.ListN.{drop}
 use Rattle.format.specs.declared.refusal.Refusal.{Refusal}
 use Rattle.format.specs.Form.{Bytes}
 use Rattle.format.specs.GrammarFields.{LuaString}
-use Rattle.format.specs.Reading.{ConstantValue, integer, float, short-string, long-string}
+use Rattle.format.specs.Reading.{ConstantValue, integer, float, short_string, long_string}
 use Rattle.format.specs.Read.{Read, ok, refused, Reader, next, ◌>>=◌, give, here}
 use Rattle.format.specs.ReadFields.{field}
 use Rattle.format.specs.ReadChunk.{tagged, constant}
@@ -38,12 +38,12 @@ float-shown (refused q) = refl
 abbrev or_nothing : Option LuaString → Reader LuaString
 or_nothing t = here >>= λ place. give (get_or t (record { place = place; bytes = [] }))
 
-pub short-shown : (o : Read (Option LuaString)) → short_string_of (string_result o) ≡ constant_result (next (next o or_nothing) (λ t. give (short-string t)))
+pub short-shown : (o : Read (Option LuaString)) → short_string_of (string_result o) ≡ constant_result (next (next o or_nothing) (λ t. give (short_string t)))
 short-shown (ok none to rest) = refl
 short-shown (ok (some t) to rest) = refl
 short-shown (refused q) = refl
 
-pub long-shown : (o : Read (Option LuaString)) → long_string_of (string_result o) ≡ constant_result (next (next o or_nothing) (λ t. give (long-string t)))
+pub long-shown : (o : Read (Option LuaString)) → long_string_of (string_result o) ≡ constant_result (next (next o or_nothing) (λ t. give (long_string t)))
 long-shown (ok none to rest) = refl
 long-shown (ok (some t) to rest) = refl
 long-shown (refused q) = refl

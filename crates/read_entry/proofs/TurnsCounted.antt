@@ -60,7 +60,7 @@ module _ {A : Type 0} {r : Reader A} {c : Count} {s : Bytes} {n from left at : �
     goes_on_lem exact covers {k} e adds =
         let w = (cursor_ok (r at (drop at s)) k e).was in
         record {
-          rest = turn.goes_on r s n from left at inv.rest more exact w;
+          rest = turn.goes_on_lem r s n from left at inv.rest more exact w;
           room = room-on covers at (drop at s) inv.room w.is adds;
           all = λ t' a.
               inv.all t' (subst (λ n. Added r c s n at t t') (sym (turn.one_more left more))

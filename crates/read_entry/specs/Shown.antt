@@ -30,8 +30,8 @@ constant_value reading.nil = constant.Nil
 constant_value (reading.boolean b) = constant.Boolean b
 constant_value (reading.integer n) = constant.Integer (to_z w64 n)
 constant_value (reading.float n) = constant.Float n
-constant_value (reading.short-string t) = constant.ShortString (string_at t)
-constant_value (reading.long-string t) = constant.LongString (string_at t)
+constant_value (reading.short_string t) = constant.ShortString (string_at t)
+constant_value (reading.long_string t) = constant.LongString (string_at t)
 
 abbrev pub constant_result : Read reading.ConstantValue → ConstantResult
 constant_result (ok k to rest) = answer.Ok (constant_value k) (cursor_at to)

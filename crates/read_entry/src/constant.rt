@@ -12,7 +12,7 @@ use read_field::string::{OptionString, StringAt, StringResult, read_string_lua54
 use slice::cursor::Cursor;
 
 // The Rust's `ConstantValue`: of a float the bits, of a string its place and length.
-#[derive(Drop)]
+#[derive(Clone, Copy)]
 pub enum ConstantValue {
     Nil,
     Boolean(bool),
@@ -22,7 +22,7 @@ pub enum ConstantValue {
     LongString(StringAt),
 }
 
-#[derive(Drop)]
+#[derive(Clone, Copy)]
 pub enum ConstantResult {
     Ok { value: ConstantValue, next: Cursor },
     Err(Refusal),

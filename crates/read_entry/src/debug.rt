@@ -11,14 +11,14 @@ use read_field::string::{OptionString, StringResult, read_string_lua54};
 use read_field::varint::read_value;
 use slice::cursor::Cursor;
 
-#[derive(Drop)]
+#[derive(Clone, Copy)]
 pub enum AnchorResult {
     Ok { value: AbsLineInfo, next: Cursor },
     Err(Refusal),
 }
 
 // The Rust's `LocalVar`, but that an absent name stays absent.
-#[derive(Drop)]
+#[derive(Clone, Copy)]
 pub enum LocalResult {
     Ok {
         name: OptionString,

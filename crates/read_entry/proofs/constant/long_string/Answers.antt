@@ -1,0 +1,9 @@
+-- `read_entry::constant::long_string` meets its contract: by what was read. Assumes nothing.
+use borrow.Author.Rules.{rules}
+use Rattle.read_entry.proofs.constant.long_string.Goals as goal
+
+pub returns-in-Err : goal.returns-in-Err
+returns-in-Err c = rw c.in-Err.is
+
+pub returns-in-Ok : goal.returns-in-Ok
+returns-in-Ok c = rw (c.or_empty.ensures, c.in-Ok.is)

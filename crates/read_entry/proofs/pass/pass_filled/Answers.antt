@@ -1,0 +1,23 @@
+-- `read_entry::pass::pass_filled` meets its contract: by what was read (`Filled.antt`). Assumes nothing.
+use mathlib.Core.Path.{sym, ◌∙◌}
+use native.Mathlib.Omega.{arith}
+use borrow.Author.Rules.{rules}
+use lib.ListN.{drop}
+use Rattle.format.specs.ReadFields.{string}
+use Rattle.format_spelling.proofs.Tallies.{adds-not}
+use Rattle.read_field.proofs.Shows.{string_err, string-ok}
+use Rattle.read_entry.proofs.Filled.{filled-fits, filled-adds}
+use Rattle.read_entry.proofs.pass.pass_filled.Goals as goal
+
+pub add_absent-requires : goal.add_absent-requires
+add_absent-requires c = let a = c.args in
+    filled-fits a.max_string_bytes a.cursor.at (drop a.cursor.at a.s.now) (string-ok (string a.max_string_bytes a.cursor.at (drop a.cursor.at a.s.now)) _ _ (sym c.in-Ok.is ∙ c.tally_string-read.ensures.value)) c.tally_string-read.ensures.adds c.requires
+    (omega (arith))
+
+pub returns-in-Err : goal.returns-in-Err
+returns-in-Err c = let a = c.args in
+    let e = string_err (string a.max_string_bytes a.cursor.at (drop a.cursor.at a.s.now)) _ (sym c.in-Err.is ∙ c.tally_string-read.ensures.value) in record { value = rw e; adds = adds-not e }
+
+pub returns-in-Ok : goal.returns-in-Ok
+returns-in-Ok c = let a = c.args in
+    let w = string-ok (string a.max_string_bytes a.cursor.at (drop a.cursor.at a.s.now)) _ _ (sym c.in-Ok.is ∙ c.tally_string-read.ensures.value) in record { value = rw w.was.is; adds = filled-adds a.max_string_bytes a.cursor.at (drop a.cursor.at a.s.now) w c.tally_string-read.ensures.adds c.add_absent.ensures }

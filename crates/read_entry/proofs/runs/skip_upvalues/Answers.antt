@@ -1,0 +1,19 @@
+-- `read_entry::runs::skip_upvalues` meets its contract: by how many single bytes are there (`FixedWidth.antt`). Assumes nothing.
+use native.Mathlib.Omega.{arith}
+use borrow.Author.Rules.{rules}
+use lib.ListN.{drop, length-drop}
+use Rattle.read_entry.proofs.FixedWidth.{upvalues_enough, upvalues-short}
+use Rattle.read_entry.proofs.runs.skip_upvalues.Goals as goal
+
+pub overflow_add-result : goal.overflow_add-result
+overflow_add-result c = let a = c.args in omega (arith, length-drop a.cursor.at a.s.now)
+
+pub returns-then-n-there : goal.returns-then-n-there
+returns-then-n-there c = let a = c.args in upvalues_enough a.n a.cursor.at (drop a.cursor.at a.s.now) (omega arith)
+
+pub overflow_add-at : goal.overflow_add-at
+overflow_add-at c = let a = c.args in omega (arith, length-drop a.cursor.at a.s.now)
+
+pub returns : goal.returns
+returns c = let a = c.args in
+    rw (c.short.ensures, c.remaining-there.ensures) (upvalues-short a.n a.cursor.at (drop a.cursor.at a.s.now) (omega arith))
