@@ -12,7 +12,7 @@ use native.Mathlib.Omega.{arith}
 use lib.Dec.{eqb}
 use Rattle.format.specs.Form.{Bytes, Form}
 use Rattle.format.specs.GrammarFields.{LuaString}
-use Rattle.format.specs.Reading.{ConstantValue, nil, boolean, integer, float, short-string, long-string}
+use Rattle.format.specs.Reading.{ConstantValue, nil, boolean, integer, float, short_string, long_string}
 use Rattle.format.specs.Read.{Reader, next, ◌>>=◌, many}
 use Rattle.format.specs.ReadFields.{byte, string}
 use Rattle.format.specs.ReadChunk.{always, tagged, constant, local}
@@ -26,8 +26,8 @@ use Rattle.read_nth.specs.Inner.Nth.{entry_at, local_at}
 module _ (s : Bytes) where
   -- ## Constants
   abbrev pub ConstantStands : ConstantValue → Type 0
-  ConstantStands (short-string t) = Stands s t
-  ConstantStands (long-string t) = Stands s t
+  ConstantStands (short_string t) = Stands s t
+  ConstantStands (long_string t) = Stands s t
   ConstantStands nil = Unit {0}
   ConstantStands (boolean b) = Unit {0}
   ConstantStands (integer n) = Unit {0}

@@ -15,7 +15,7 @@ use read_entry::runs::{skip_upvalues, skip_words};
 use read_field::field::{U8Result, U32Result, read_u8, read_u32_le};
 use slice::cursor::{Cursor, CursorResult};
 
-#[derive(Drop)]
+#[derive(Clone, Copy)]
 pub enum UpvalueResult {
     Ok { value: UpvalueDesc, next: Cursor },
     Err(Refusal),
