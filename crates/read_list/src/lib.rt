@@ -1,4 +1,6 @@
 // Lists behind their counts: how many items, where the first begins, and the cursor behind the last. Their numbers are counted on the way. Most lists of small functions are empty, and these call nothing.
+#![tactic(auto)]
+
 ghost use Rattle.std.specs.Prelude.{◌≡◌, drop};
 ghost use Rattle.format.specs.declared.refusal.Refusal.TheVariants.{Constants, Upvalues};
 ghost use Rattle.format.specs.ReadFields.{string};
@@ -18,7 +20,7 @@ use read_field::field::U64Result;
 use read_field::varint::tally_varint;
 use slice::cursor::{Cursor, CursorResult, read_exact};
 
-#[derive(Drop)]
+#[derive(Clone, Copy)]
 pub enum ListResult {
     Ok {
         count: usize,
