@@ -21,7 +21,7 @@ steps : ResourceLimits → (Where → Reader (List Prototype)) → Where → Rea
 steps L r w at s =
     next (string L.max_string_bytes at s) (λ spelt a1 s1.
     next (number a1 s1) (λ line_defined a2 s2.
-    next (number a2 s2) (λ last-line_defined a3 s3.
+    next (number a2 s2) (λ last_line_defined a3 s3.
     next (byte a3 s3) (λ numparams a4 s4.
     next (byte a4 s4) (λ is_vararg a5 s5.
     next (byte a5 s5) (λ maxstacksize a6 s6.
@@ -46,7 +46,7 @@ steps L r w at s =
       end = a20;
       source_name = inherit spelt w.source;
       line_defined = line_defined;
-      last-line_defined = last-line_defined;
+      last_line_defined = last_line_defined;
       numparams = numparams;
       is_vararg = is_vararg;
       maxstacksize = maxstacksize;

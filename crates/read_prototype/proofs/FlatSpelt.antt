@@ -69,8 +69,8 @@ module _ (limit : ℕ) (w : Where) (at : ℕ) (s : Bytes) {f : Front} {to : ℕ}
 
   front-spelt : (
       plus (string limit) (count.source limit w) λ spelt.
-      plus number count.number λ line-defined.
-      plus number count.number λ last-line_defined.
+      plus number count.number λ line_defined.
+      plus number count.number λ last_line_defined.
       plus byte none λ numparams.
       plus byte none λ is_vararg.
       plus byte none λ maxstacksize.

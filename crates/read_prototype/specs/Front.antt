@@ -9,9 +9,9 @@ use Rattle.read_prototype.specs.declared.front.Sizes.{Sizes}
 
 abbrev pub lines : Reader Lines
 lines = do
-  line-defined ← number
-  last-line_defined ← number
-  give (record { line_defined = line-defined; last_line_defined = last-line_defined })
+  line_defined ← number
+  last_line_defined ← number
+  give (record { line_defined = line_defined; last_line_defined = last_line_defined })
 
 abbrev pub sizes : Reader Sizes
 sizes = do

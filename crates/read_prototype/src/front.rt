@@ -13,13 +13,13 @@ use read_field::varint::tally_varint;
 use slice::cursor::Cursor;
 
 // The lines between which a function is defined.
-#[derive(Drop)]
+#[derive(Clone, Copy)]
 pub struct Lines {
     pub line_defined: usize,
     pub last_line_defined: usize,
 }
 
-#[derive(Drop)]
+#[derive(Clone, Copy)]
 pub enum LinesResult {
     Ok { lines: Lines, next: Cursor },
     Err(Refusal),
@@ -53,14 +53,14 @@ fn read_lines(s: &[u8], cursor: Cursor, tally: &mut Tally) -> LinesResult
 }
 
 // The three bytes of a function.
-#[derive(Drop)]
+#[derive(Clone, Copy)]
 pub struct Sizes {
     pub numparams: u8,
     pub is_vararg: u8,
     pub maxstacksize: u8,
 }
 
-#[derive(Drop)]
+#[derive(Clone, Copy)]
 pub enum SizesResult {
     Ok { sizes: Sizes, next: Cursor },
     Err(Refusal),
@@ -101,14 +101,14 @@ fn read_sizes(s: &[u8], cursor: Cursor) -> SizesResult
     }
 }
 
-#[derive(Drop)]
+#[derive(Clone, Copy)]
 pub struct Front {
     pub source: OptionString,
     pub lines: Lines,
     pub sizes: Sizes,
 }
 
-#[derive(Drop)]
+#[derive(Clone, Copy)]
 pub enum FrontResult {
     Ok { front: Front, next: Cursor },
     Err(Refusal),

@@ -16,7 +16,7 @@ use read_list::{
 };
 use slice::cursor::Cursor;
 
-#[derive(Drop)]
+#[derive(Clone, Copy)]
 pub struct HeadLists {
     pub instructions: ListAt,
     pub constants: ListAt,
@@ -24,7 +24,7 @@ pub struct HeadLists {
 }
 
 // A list that was passed over, and the place behind it.
-#[derive(Drop)]
+#[derive(Clone, Copy)]
 struct ListEnd {
     list: ListAt,
     next: Cursor,
@@ -39,7 +39,7 @@ fn passed(count: usize, place: usize, next: Cursor) -> ListEnd
     }
 }
 
-#[derive(Drop)]
+#[derive(Clone, Copy)]
 pub enum HeadListsResult {
     Ok { lists: HeadLists, next: Cursor },
     Err(Refusal),
@@ -89,14 +89,14 @@ fn read_head_lists(
     }
 }
 
-#[derive(Drop)]
+#[derive(Clone, Copy)]
 pub struct Head {
     pub front: Front,
     pub lists: HeadLists,
     pub protos: ListAt,
 }
 
-#[derive(Drop)]
+#[derive(Clone, Copy)]
 pub enum HeadResult {
     Ok { head: Head, next: Cursor },
     Err(Refusal),
@@ -149,7 +149,7 @@ pub fn read_head(
     }
 }
 
-#[derive(Drop)]
+#[derive(Clone, Copy)]
 pub struct Tail {
     pub line_info: ListAt,
     pub abs_line_info: ListAt,
@@ -157,7 +157,7 @@ pub struct Tail {
     pub upvalue_names: ListAt,
 }
 
-#[derive(Drop)]
+#[derive(Clone, Copy)]
 pub enum TailResult {
     Ok { tail: Tail, next: Cursor },
     Err(Refusal),

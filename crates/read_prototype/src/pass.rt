@@ -13,7 +13,7 @@ use read_field::string::OptionString;
 use slice::cursor::Cursor;
 
 // How long the lists before the nested functions are, whether the source is spelt, and where the words and the constants begin, just after their counts.
-#[derive(Drop)]
+#[derive(Clone, Copy)]
 pub struct HeadCounts {
     pub instructions: usize,
     pub constants: usize,
@@ -24,7 +24,7 @@ pub struct HeadCounts {
     pub constants_at: usize,
 }
 
-#[derive(Drop)]
+#[derive(Clone, Copy)]
 pub enum HeadCountsResult {
     Ok { counts: HeadCounts, next: Cursor },
     Err(Refusal),
@@ -78,7 +78,7 @@ pub fn pass_head(
 }
 
 // How long the lists behind the nested functions are.
-#[derive(Drop)]
+#[derive(Clone, Copy)]
 pub struct TailCounts {
     pub line_info: usize,
     pub abs_line_info: usize,
@@ -86,7 +86,7 @@ pub struct TailCounts {
     pub upvalue_names: usize,
 }
 
-#[derive(Drop)]
+#[derive(Clone, Copy)]
 pub enum TailCountsResult {
     Ok { counts: TailCounts, next: Cursor },
     Err(Refusal),

@@ -3,14 +3,14 @@ use crate::front::{Lines, Sizes};
 use read_field::string::OptionString;
 
 // A list of a function: how many entries it has, and the place of the first, just after the count.
-#[derive(Drop)]
+#[derive(Clone, Copy)]
 pub struct ListAt {
     pub count: usize,
     pub place: usize,
 }
 
 // The lists of a function, in the order of the file.
-#[derive(Drop)]
+#[derive(Clone, Copy)]
 pub struct Lists {
     pub instructions: ListAt,
     pub constants: ListAt,
@@ -22,7 +22,7 @@ pub struct Lists {
     pub upvalue_names: ListAt,
 }
 
-#[derive(Drop)]
+#[derive(Clone, Copy)]
 pub struct FunctionRow {
     pub start: usize,
     // Just behind its last byte.
@@ -36,7 +36,7 @@ pub struct FunctionRow {
     pub lists: Lists,
 }
 
-#[derive(Drop)]
+#[derive(Clone, Copy)]
 pub enum OptionRow {
     Some(FunctionRow),
     None,

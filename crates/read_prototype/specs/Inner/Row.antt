@@ -19,8 +19,8 @@ row_of p = record {
   end = p.end;
   depth = p.depth;
   parent = p.parent;
-  source_name = option_string p.source-name;
-  lines = record { line_defined = p.line-defined; last_line_defined = p.last-line_defined };
+  source_name = option_string p.source_name;
+  lines = record { line_defined = p.line_defined; last_line_defined = p.last_line_defined };
   sizes = record { numparams = p.numparams; is_vararg = p.is_vararg; maxstacksize = p.maxstacksize };
   lists = record {
     instructions = list_at p.instructions p.places.instructions;
