@@ -8,3 +8,5 @@ pub mod Sources
 pub mod Spelt
 pub mod Unpadded
 mod Tally
+pub mod Passed
+pub mod Headed

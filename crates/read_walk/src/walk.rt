@@ -20,14 +20,14 @@ use read_prototype::pass::{HeadCountsResult, TailCountsResult, pass_head, pass_t
 use slice::cursor::Cursor;
 
 // Where a walk stands: the number of the next function, and the instructions of all before it.
-#[derive(Drop)]
+#[derive(Clone, Copy)]
 pub struct Skimmed {
     pub next: Cursor,
     pub number: usize,
     pub instructions: usize,
 }
 
-#[derive(Drop)]
+#[derive(Clone, Copy)]
 pub enum SkimResult {
     Ok(Skimmed),
     Err(Refusal),
