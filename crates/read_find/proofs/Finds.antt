@@ -1,8 +1,9 @@
 -- What a walk has found: at each return of `find_function`, and at each turn of the loop of `find_functions`.
---     refuses              a walk that refuses may have left anything
+--     unfound              a walk that refuses may have left anything
 --     nested_refused, tail-refused, function-shown     what a walk over a function shows, as read_walk's Passes.antt has it, from the place of a source
 --     function-found       behind a function: its own row, where it is the one wanted, else what was found in it
 --     Behind               in the loop: what was found among the functions passed
+--     Walked               behind those that nest in a function: what a walk over them shows, and what it has found
 -- Assumes nothing.
 use mathlib.Core.Path.{◌≡◌, refl, sym, subst, ◌∙◌, ap}
 use mathlib.Core.Bool.{Bool, true, false, cond}
@@ -33,11 +34,12 @@ use Rattle.read_prototype.specs.Inner.Counts.{head_counts_result, tail_counts_re
 use Rattle.read_prototype.specs.Inner.Row.{row_of, lookup}
 use Rattle.read_prototype.specs.Inner.Whole.{prototype_of}
 use Rattle.read_walk.specs.declared.walk.Skimmed.{Skimmed}
+use Rattle.read_walk.specs.declared.walk.SkimResult.{SkimResult}
 use Rattle.read_walk.specs.declared.walk.SkimResult.TheVariants as skim
 use Rattle.read_walk.specs.Inner.Skim.{entered, skim_result}
 use Rattle.read_walk.proofs.OneFunction.{skim_err}
 use Rattle.read_walk.proofs.Passes as passes
-use Rattle.read_walk.proofs.SoFar.{SoFar, starts, ended, next-read, goes_on_lem}
+use Rattle.read_walk.proofs.SoFar.{SoFar, starts, ends, ended, next-read, goes_on_lem}
 use Rattle.read_find.specs.declared.spot.Above.{Above}
 use Rattle.read_find.specs.Inner.Spot.{spot_of, below_shown, standing, function_at, functions_at, row_at, row_or, Found}
 use Rattle.read_find.proofs.Spots.{below_stands, this_row}
@@ -55,8 +57,8 @@ row_append n k (p ∷ ps) qs r = by (row_append n (k + 1) ps qs r) (eqb n k) ref
     by more true e = let same : n ≡ k = eqb-true n k e in sym (ap (λ o. row_or o (option.Some (row_of p))) (none-behind n (k + length (p ∷ ps)) qs (omega arith)))
     by more false e = let behind : k + 1 + length ps ≡ k + length (p ∷ ps) = omega arith in more ∙ ap (λ j. row_or (lookup n j qs) (row_or (lookup n (k + 1) ps) r)) behind
 
-pub refuses : (wanted k : ℕ) (w : grammar.Where) (o : Read (List Prototype)) (r r' : OptionRow) {q : Refusal} → skim.Err q ≡ skim_result w o → (skim.Err q ≡ skim_result w o) × Found wanted k o r r'
-refuses wanted k w o r r' {q} e = (e, record { found = λ ps to rest is. absurd (never (sym (skim_err w o q e) ∙ is)) })
+pub unfound : {wanted k : ℕ} (w : grammar.Where) {o : Read (List Prototype)} {r r' : OptionRow} {q : Refusal} → skim.Err q ≡ skim_result w o → Found wanted k o r r'
+unfound w {o} {q = q} e = record { found = λ ps to rest is. absurd (never (sym (skim_err w o q e) ∙ is)) }
 
 -- ## A function
 module _ (s : Bytes) (L : ResourceLimits) (left : ℕ) (above : Above) (from : Skimmed)
@@ -148,3 +150,27 @@ module _ {s : Bytes} {L : ResourceLimits} {above : Above} {wanted n left : ℕ} 
             ∙ (λ i. row_or (lookup wanted (b.so_far.number i) this.value) (b.row i))
             ∙ sym (row_append wanted from.number b.passed this.value r₀);
       }
+
+-- ## Those that nest in a function
+pub record Walked (s : Bytes) (L : ResourceLimits) (left : ℕ) (nest : Above) (stand : Skimmed) (protos wanted : ℕ) (l₀ : List ℕ) (k : Skimmed) (l : List ℕ) : Type 0 where
+  pub shown : skim.Ok k ≡ skim_result (standing L s nest stand) (functions_at L s protos left nest stand)
+  pub found : Found wanted stand.number (functions_at L s protos left nest stand) (row_at L s l₀) (row_at L s l)
+
+-- where there are some: they were walked over
+pub walked_some : {s : Bytes} {L : ResourceLimits} {left : ℕ} {nest below : Above} {stand : Skimmed} {protos wanted : ℕ} {l₀ l l' : List ℕ} {k k' : Skimmed} {r : SkimResult} → nest ≡ below
+    → r ≡ skim_result (standing L s nest stand) (functions_at L s protos left nest stand) → Found wanted stand.number (functions_at L s protos left nest stand) (row_at L s l₀) (row_at L s l')
+    → r ≡ skim.Ok k' → k ≡ k' → l ≡ l' → Walked s L left below stand protos wanted l₀ k l
+walked_some {s} {L} {left} {nest} {below} {stand} {protos} {wanted} {l₀} {l} {l'} {k} {k'} {r} inherits shown found is same spot = record {
+  shown = ap skim.Ok same ∙ sym is ∙ subst (λ b. r ≡ skim_result (standing L s b stand) (functions_at L s protos left b stand)) inherits shown;
+  found = subst (λ l. Found wanted stand.number (functions_at L s protos left below stand) (row_at L s l₀) (row_at L s l)) (sym spot)
+      (subst (λ b. Found wanted stand.number (functions_at L s protos left b stand) (row_at L s l₀) (row_at L s l')) inherits found);
+}
+
+-- where there are none
+pub walked_none : (s : Bytes) (L : ResourceLimits) (left : ℕ) (nest : Above) (stand : Skimmed) (protos wanted : ℕ) (l₀ : List ℕ) {l : List ℕ} {k : Skimmed} → protos ≤ 0 → k ≡ stand → l ≡ l₀ → Walked s L left nest stand protos wanted l₀ k l
+walked_none s L left nest stand protos wanted l₀ over same spot =
+    let all = starts-behind s L nest wanted protos left stand (row_at L s l₀) in
+    record {
+      shown = ap skim.Ok same ∙ ends all.so_far over;
+      found = subst (λ l. Found wanted stand.number (functions_at L s protos left nest stand) (row_at L s l₀) (row_at L s l)) (sym spot) (ends_behind all over);
+    }

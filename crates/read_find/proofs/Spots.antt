@@ -16,18 +16,16 @@ use Rattle.format.specs.declared.refusal.Refusal.{Refusal}
 use Rattle.format.specs.Form.{Bytes}
 use Rattle.format.specs.GrammarChunk as grammar
 use Rattle.format.specs.GrammarChunk.{inherit, outermost}
-use Rattle.format.specs.Read.{Read, ok, next}
+use Rattle.format.specs.Read.{Read, ok}
 use Rattle.slice.specs.declared.cursor.Cursor.{Cursor}
 use Rattle.slice.specs.Shown.{cursor_at}
 use Rattle.read_field.specs.Shown.{option_string}
 use Rattle.read_field.specs.declared.string.OptionString.{OptionString}
-use Rattle.read_field.specs.declared.string.OptionString.TheVariants as string
 use Rattle.read_prototype.specs.declared.parts.Head as declared-head
 use Rattle.read_prototype.specs.declared.parts.HeadResult.TheVariants as head-answer
 use Rattle.read_prototype.specs.declared.parts.Tail as declared-tail
 use Rattle.read_prototype.specs.declared.parts.TailResult.TheVariants as tail-answer
 use Rattle.read_prototype.specs.declared.row.OptionRow.TheVariants as option
-use Rattle.read_prototype.specs.Front.{front, lines, sizes}
 use Rattle.read_prototype.specs.Parts as parts
 use Rattle.read_prototype.specs.Parts.{Head, Tail}
 use Rattle.read_prototype.specs.PartsShown.{head_of, tail_of, head_result, tail_result}

@@ -14,7 +14,7 @@ use read_walk::walk::{SkimResult, Skimmed};
 use slice::cursor::Cursor;
 
 // Where the walk ended, and the row of the function that was wanted, if there is one of that number.
-#[derive(Drop)]
+#[derive(Clone, Copy)]
 pub enum FindResult {
     Ok { walked: Skimmed, row: OptionRow },
     Err(Refusal),

@@ -15,7 +15,7 @@ use read_walk::walk::{SkimResult, Skimmed};
 pub type Spot = [usize; 6];
 
 // What a function inherits: its depth, its parent's number, and where the function begins whose source it inherits.
-#[derive(Drop)]
+#[derive(Clone, Copy)]
 pub struct Above {
     pub depth: usize,
     pub parent: usize,
