@@ -1,6 +1,6 @@
 -- Laws of the rows still to come: no function left at a level, too deep, and one more function.
 -- Assumes nothing.
-use mathlib.Core.Path.{◌≡◌, refl, ap, sym, ◌∙◌}
+use mathlib.Core.Path.{◌≡◌, refl, ap, ◌∙◌}
 use mathlib.Core.List.{List, [], ◌∷◌, ◌++◌, append_assoc, append-nil}
 use Prim.Native.Nat.{ℕ, zero, suc, ◌+◌, ◌-◌, ◌<◌, ◌≤◌}
 use native.Mathlib.Nat.{not-suc-le-zero}
@@ -134,9 +134,9 @@ module _ (L : ResourceLimits) (s : Bytes) where
       (head-same d (head_at L s at) _ _ (λ row first. rw (entered_rows left d row.protos first low fits, z)))
 
   -- the whole chunk: one function, at the top
-  pub at-start : (left : List ℕ) (at : ℕ) → get_or left 0 0 ≡ 1 → rows_from L s left 0 at ≡ chunk_rows L s at
+  pub at_start : (left : List ℕ) (at : ℕ) → get_or left 0 0 ≡ 1 → rows_from L s left 0 at ≡ chunk_rows L s at
   unfolding chunk_rows rows_from times
-  at-start left at e = rw e (only (function_at L s LEVELS at))
+  at_start left at e = rw e (only (function_at L s LEVELS at))
     where
       only : (w : Walked) → onward (and_then w (through [])) (λ behind. []) ≡ rows_of w
       only (through rows place) = simp append-nil

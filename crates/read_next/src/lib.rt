@@ -1,6 +1,8 @@
 // The functions of a chunk in the order in which their bytes begin, without recursion: a level for each function that is open, and in
 // `left` how many functions of that level are still to come.
-ghost use Rattle.std.specs.Prelude.{◌≡◌, ◌+◌, ◌<◌, ◌≤◌, length, get_or};
+#![tactic(auto)]
+
+ghost use Rattle.std.specs.Prelude.{◌≡◌, ◌<◌, ◌≤◌, get_or};
 ghost use Rattle.format.specs.Limits.{MOST};
 ghost use Rattle.read_next.specs.Inner.Rows.{LEVELS, row_shown, rows_from, any_row, met, entered, up_to, Within, Ready};
 
@@ -18,7 +20,7 @@ pub type Levels = [usize; COUNTS];
 
 // A function's level, main's being 0, and what stands before its nested functions, without its source: of its lists how long they are, and where the first instruction word stands.
 // (Numbers by themselves: a count beside its place is copied as a pair, and reading a pair just behind the writing of its halves holds the processor up.)
-#[derive(Drop)]
+#[derive(Clone, Copy)]
 pub struct Row {
     pub depth: usize,
     pub lines: Lines,
@@ -52,7 +54,6 @@ fn row_of(depth: usize, head: Head) -> Row
 }
 
 fn left_at(left: &Levels, d: usize) -> usize
-    requires { length left.now ≡ LEVELS + 1 }
     ensures { result ≡ get_or left.now d 0 }
 {
     if d < COUNTS {
@@ -62,7 +63,7 @@ fn left_at(left: &Levels, d: usize) -> usize
 }
 
 // Where the next function begins, and its level.
-#[derive(Drop)]
+#[derive(Clone, Copy)]
 enum Up {
     At(usize, Cursor),
     End,
@@ -71,7 +72,6 @@ enum Up {
 // From a place in a function whose nested functions are at the level `depth`: the tails of the functions that have no more in them, up to
 // one that has.
 fn go_up(s: &[u8], limits: ResourceLimits, left: &Levels, depth: usize, cursor: Cursor) -> Up
-    requires { length left.now ≡ LEVELS + 1 }
     ensures { (rows_from limits s.now left.now depth cursor.at ≡ up_to limits s.now left.now result) × Ready left.now result }
 {
     let mut d = depth;
@@ -96,7 +96,7 @@ fn go_up(s: &[u8], limits: ResourceLimits, left: &Levels, depth: usize, cursor: 
     }
 }
 
-#[derive(Drop)]
+#[derive(Clone, Copy)]
 pub enum Met {
     // The function's row, its level, and the place behind its head.
     Function(Row, usize, Cursor),
@@ -111,7 +111,7 @@ pub fn next_function(
     depth: usize,
     cursor: Cursor,
 ) -> Met
-    requires { (length left.now ≡ LEVELS + 1) × (limits.max_total_instructions ≤ MOST) }
+    requires { limits.max_total_instructions ≤ MOST }
     ensures { (rows_from limits s.now left.now depth cursor.at ≡ met limits s.now left.now result) × Within left.now result }
 {
     let Up::At(d, place) = go_up(s, limits, left, depth, cursor) else {
@@ -133,7 +133,6 @@ pub fn any_function(
     depth: usize,
     cursor: Cursor,
 ) -> bool
-    requires { length left.now ≡ LEVELS + 1 }
     ensures { result ≡ any_row (rows_from limits s.now left.now depth cursor.at) }
 {
     let Up::At(_, place) = go_up(s, limits, left, depth, cursor) else {
@@ -148,7 +147,7 @@ pub fn any_function(
 
 // Goes on into a function of level d in which n nest: one fewer is still to come at its level, and n at the one below.
 pub fn go_down(left: &mut Levels, d: usize, n: usize)
-    requires { (length left.old ≡ LEVELS + 1) × (d < LEVELS) × (0 < get_or left.old d 0) }
+    requires { (d < LEVELS) × (0 < get_or left.old d 0) }
     ensures { left.new ≡ entered left.old d n }
 {
     left[d] = left[d] - 1;

@@ -130,7 +130,7 @@ Within left met-is.End = Unit {0}
 abbrev pub prototype_row : Prototype → Row
 prototype_row p = record {
   depth = p.depth;
-  lines = record { line_defined = p.line-defined; last_line_defined = p.last-line_defined };
+  lines = record { line_defined = p.line_defined; last_line_defined = p.last_line_defined };
   sizes = record { numparams = p.numparams; is_vararg = p.is_vararg; maxstacksize = p.maxstacksize };
   instructions = length p.instructions;
   constants = length p.constants;
