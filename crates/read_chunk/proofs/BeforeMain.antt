@@ -8,10 +8,10 @@
 use mathlib.Core.Path.{◌≡◌, refl, sym, ◌∙◌, ap}
 use mathlib.Core.Bool.{Bool, true, false, cond}
 use mathlib.Core.List.{List, ◌++◌}
-use Prim.Native.Nat.{ℕ, ◌+◌, ◌≤◌, ◌<◌}
+use Prim.Native.Nat.{ℕ, ◌+◌, ◌≤◌}
 use native.Mathlib.Nat.{zero-add}
 use native.Mathlib.Omega.{arith}
-use borrow.Author.Tests.{leb-true, le-leb, lt-leb}
+use borrow.Author.Tests.{leb-true}
 use lib.Dec.{leb}
 use lib.ListN.{length, take, drop, length-append}
 use Rattle.format.specs.declared.limits.ResourceLimits.{ResourceLimits}
@@ -23,7 +23,7 @@ use Rattle.format.specs.Limits.{within_ceilings}
 use Rattle.format.specs.Reading.{Prototype, Reading}
 use Rattle.format.specs.GrammarFields.{Byte}
 use Rattle.format.specs.GrammarHeader.{Headed, Header}
-use Rattle.format.specs.GrammarChunk.{outermost, Loaded, reading, trailing_warnings, instructions_of}
+use Rattle.format.specs.GrammarChunk.{outermost, Loaded, reading, trailing_warnings}
 use Rattle.format.specs.Read.{Read, ok, refused, Reader, next, give}
 use Rattle.format.specs.ReadFields.{byte}
 use Rattle.format.specs.ReadHeader.{header}
@@ -107,7 +107,7 @@ functions_spelt L = count.function L L.max_nesting_depth outermost
 pub record WasBefore (L : ResourceLimits) (s : Bytes) (headed : Headed) (to : ℕ) : Type 0 where
   pub place : to ≡ 32
   pub one : AtMostOne headed
-  pub goes_on_lem : main L 0 s ≡ next (function L L.max_nesting_depth outermost to (drop to s)) (load headed)
+  pub goes_on : main L 0 s ≡ next (function L L.max_nesting_depth outermost to (drop to s)) (load headed)
   pub spelt : spelling L s ≡ functions_spelt L to (drop to s)
 
 abbrev by_functions : (L : ResourceLimits) → Headed → Reader Loaded
@@ -145,23 +145,12 @@ was_before L s {headed} {to} {rest} is =
     record {
       place = omega (arith, place, size);
       one = rw (← split.spelt.two.two.1) (every_header.holds 0 split.spelt.front split.spelt.value split.spelt.one);
-      goes_on_lem = in_two L s ∙ ap (λ o. next o (by_functions L)) is ∙ ap (by_functions L headed to) behind;
+      goes_on = in_two L s ∙ ap (λ o. next o (by_functions L)) is ∙ ap (by_functions L headed to) behind;
       spelt = spelt_in_two L s ∙ ap (λ o. count.behind o (λ _. functions_spelt L)) is ∙ ap (functions_spelt L to) behind;
     }
 
 pub before-refused : (L : ResourceLimits) (s : Bytes) {q : Refusal} → before_main 0 s ≡ refused q → main L 0 s ≡ refused q
 before-refused L s is = in_two L s ∙ ap (λ o. next o (by_functions L)) is
-
--- ## The two tests
-module _ (s : Bytes) (L : ResourceLimits) where
-  pub above : within_ceilings L ≡ false → begins.Err LimitAboveCeiling ≡ opening_result (opened L s)
-  above e = rw e
-
-  pub too_long : within_ceilings L ≡ true → L.max_input_bytes < length s → begins.Err InputBytes ≡ opening_result (opened L s)
-  too_long e h = rw (e, lt-leb _ _ h)
-
-  pub by_before : within_ceilings L ≡ true → length s ≤ L.max_input_bytes → opening_result (before_main 0 s) ≡ opening_result (opened L s)
-  by_before e h = rw (e, le-leb _ _ h)
 
 -- ## What is known where a chunk is opened
 pub record Opened (L : ResourceLimits) (s : Bytes) (f : Opening) : Type 0 where

@@ -1,9 +1,8 @@
 -- What is known where a chunk was judged with how it is spelt.
 --     was_spelt            what was shown is of a reading, and of how the chunk is spelt
 --     not-spelt            what was refused is no reading
---     judged_refused, judged_shown     the same without the spelling
 -- Assumes nothing.
-use mathlib.Core.Path.{◌≡◌, refl, sym, ap}
+use mathlib.Core.Path.{◌≡◌, refl}
 use Prim.Native.Nat.{ℕ}
 use native.Mathlib.Omega.{arith}
 use Rattle.format.specs.declared.refusal.Refusal.{Refusal}
@@ -11,10 +10,9 @@ use Rattle.format.specs.declared.spelling.Spelling.{Spelling}
 use Rattle.format.specs.Reading.{Reading}
 use Rattle.format.specs.ReadChunk.{Outcome, shown, refusal}
 use Rattle.read_chunk.specs.declared.summary.Summary.{Summary}
-use Rattle.read_chunk.specs.declared.summary.JudgedResult.TheVariants as judged
 use Rattle.read_chunk.specs.declared.summary.SpeltResult.TheVariants as spelt
 use Rattle.read_chunk.specs.Decoded.{summary_of}
-use Rattle.read_chunk.specs.Inner.Decoded.{spelt_result, judged_result}
+use Rattle.read_chunk.specs.Inner.Decoded.{spelt_result}
 
 pub record WasSpelt (n : Spelling) (o : Outcome) (y : Summary) (k : Spelling) : Type 0 where
   pub value : Reading
@@ -29,10 +27,3 @@ was_spelt n (refusal q) y k e = absurd (let z : ◌≡◌ {A = ℕ} 0 1 = cc in 
 pub not-spelt : (n : Spelling) (o : Outcome) (q : Refusal) → spelt.Err q ≡ spelt_result n o → o ≡ refusal q
 not-spelt n (shown r) q e = absurd (let z : ◌≡◌ {A = ℕ} 0 1 = cc in omega arith)
 not-spelt n (refusal p) q e = cc
-
--- ## Without the spelling
-pub judged_refused : (n : Spelling) (o : Outcome) (q : Refusal) → spelt.Err q ≡ spelt_result n o → judged.Err q ≡ judged_result o
-judged_refused n o q e = sym (ap judged_result (not-spelt n o q e))
-
-pub judged_shown : (n : Spelling) (o : Outcome) (y : Summary) (k : Spelling) → spelt.Ok y k ≡ spelt_result n o → judged.Ok y ≡ judged_result o
-judged_shown n o y k e = let w = was_spelt n o y k e in rw w.is (ap judged.Ok w.shows)

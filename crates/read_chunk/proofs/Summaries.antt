@@ -2,47 +2,21 @@
 -- Assumes nothing.
 use mathlib.Core.Path.{◌≡◌, refl, sym}
 use mathlib.Core.Bool.{Bool, true, false, true≢false, ◌&&◌, cond}
-use mathlib.Core.List.{List, [], ◌∷◌, ◌++◌}
-use Prim.Native.Nat.{ℕ, zero, suc, ◌+◌, ◌≤◌}
+use mathlib.Core.List.{[], ◌∷◌}
+use Prim.Native.Nat.{ℕ, ◌≤◌}
 use native.Mathlib.Omega.{arith}
-use borrow.Author.Tests.{leb-true, lt-ltb, ne_eqb}
-use lib.Dec.{leb, ltb, eqb}
-use lib.ListN.{length, take}
+use borrow.Author.Tests.{leb-true}
+use lib.Dec.{leb, eqb}
 use Rattle.format.specs.declared.limits.ResourceLimits.{ResourceLimits}
-use Rattle.format.specs.declared.header.Warning.{Warning}
 use Rattle.format.specs.declared.header.Warning.TheVariants as code
-use Rattle.format.specs.Form.{Bytes}
 use Rattle.format.specs.Limits.{within_ceilings, DEEPEST, MOST, Walkable}
 use Rattle.format.specs.GrammarHeader.{Headed, Header, format_warnings}
-use Rattle.format.specs.GrammarChunk.{Main, trailing_warnings}
+use Rattle.format.specs.GrammarChunk.{Main}
 use Rattle.format.proofs.Every.{Every, any, every_then, every_is}
-use Rattle.read_header.specs.declared.OptionWarning.{OptionWarning}
-use Rattle.read_header.specs.declared.OptionWarning.TheVariants as option
 use Rattle.read_header.specs.Shown.{first_warning}
-use Rattle.read_chunk.specs.Decoded.{shown_warnings}
 use Rattle.read_chunk.specs.Inner.Decoded.{list_of}
 
 -- ## Warnings
-take_none : (n : ℕ) → take {A = Warning} n [] ≡ []
-take_none zero = refl
-take_none (suc n) = refl
-
-pub none_first : (limit : ℕ) (b : OptionWarning) → shown_warnings (take limit (list_of option.None ++ list_of b)) ≡ record { first = cond (ltb 0 limit) b option.None; second = option.None }
-none_first zero option.None = refl
-none_first zero (option.Some w) = refl
-none_first (suc n) option.None = rw (lt-ltb 0 (suc n) (omega arith))
-none_first (suc n) (option.Some w) = rw (lt-ltb 0 (suc n) (omega arith), take_none n)
-
-pub some_first : (limit : ℕ) (w : Warning) (b : OptionWarning) → shown_warnings (take limit (list_of (option.Some w) ++ list_of b)) ≡ record { first = cond (ltb 0 limit) (option.Some w) option.None; second = cond (ltb 1 limit) b option.None }
-some_first zero w b = refl
-some_first (suc zero) w b = refl
-some_first (suc (suc n)) w option.None = rw (lt-ltb 0 (suc (suc n)) (omega arith), lt-ltb 1 (suc (suc n)) (omega arith))
-some_first (suc (suc n)) w (option.Some v) = rw (lt-ltb 0 (suc (suc n)) (omega arith), lt-ltb 1 (suc (suc n)) (omega arith))
-
-pub trailing_list : (at : ℕ) (rest : Bytes) → list_of (cond (eqb (length rest) 0) option.None (option.Some (code.TrailingBytes at))) ≡ trailing_warnings at rest
-trailing_list at [] = refl
-trailing_list at (x ∷ xs) = rw (ne_eqb (length (x ∷ xs)) 0 (λ e. omega arith))
-
 -- the header has at most one warning
 one_warning_lem : (place format : ℕ) → format_warnings place format ≡ list_of (first_warning (format_warnings place format))
 one_warning_lem place format = by (eqb format 0)

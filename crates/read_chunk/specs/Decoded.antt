@@ -15,6 +15,6 @@ summary_of r = record {
   header = r.header;
   warnings = shown_warnings r.warnings;
   functions = length r.functions;
-  trailing_at = r.trailing-at;
+  trailing_at = r.trailing_at;
   trailing_len = length r.trailing;
 }

@@ -1,4 +1,6 @@
 // chunk.rs, `decode_chunk_lua54`: a whole chunk, judged in one pass, how it is spelt, and the row of one function.
+#![tactic(auto)]
+
 pub mod summary;
 
 ghost use Rattle.std.specs.Prelude.{◌≡◌};
@@ -15,14 +17,14 @@ use slice::cursor::Cursor;
 pub const MAIN_AT: usize = 32;
 
 // What stands before main: what the header shows, the header's warning, and where main begins.
-#[derive(Drop)]
+#[derive(Clone, Copy)]
 pub struct Opening {
     pub header: Header,
     pub warning: OptionWarning,
     pub next: Cursor,
 }
 
-#[derive(Drop)]
+#[derive(Clone, Copy)]
 pub enum OpeningResult {
     Ok(Opening),
     Err(Refusal),

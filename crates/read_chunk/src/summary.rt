@@ -20,13 +20,13 @@ use read_walk::walk::{SkimResult, Skimmed, skim_main};
 use slice::cursor::{Cursor, remaining};
 
 // The warnings of a reading, in their order: there are at most two.
-#[derive(Drop)]
+#[derive(Clone, Copy)]
 pub struct Warnings {
     pub first: OptionWarning,
     pub second: OptionWarning,
 }
 
-#[derive(Drop)]
+#[derive(Clone, Copy)]
 pub struct Summary {
     pub header: Header,
     pub warnings: Warnings,
@@ -36,26 +36,26 @@ pub struct Summary {
 }
 
 // The summary, and the row of the function that was wanted, if there is one of that number.
-#[derive(Drop)]
+#[derive(Clone, Copy)]
 pub struct Decoded {
     pub summary: Summary,
     pub row: OptionRow,
 }
 
-#[derive(Drop)]
+#[derive(Clone, Copy)]
 pub enum DecodedResult {
     Ok(Decoded),
     Err(Refusal),
 }
 
-#[derive(Drop)]
+#[derive(Clone, Copy)]
 pub enum JudgedResult {
     Ok(Summary),
     Err(Refusal),
 }
 
 // The summary, and how the chunk is spelt.
-#[derive(Drop)]
+#[derive(Clone, Copy)]
 pub enum SpeltResult {
     Ok {
         summary: Summary,

@@ -5,7 +5,7 @@ use Rattle.format.specs.declared.refusal.Refusal.TheVariants.{LimitAboveCeiling,
 use Rattle.format.specs.Form.{Bytes}
 use Rattle.format.specs.Limits.{within_ceilings}
 use Rattle.format.specs.GrammarHeader.{Headed}
-use Rattle.format.specs.Read.{Read, ok, refused, Reader, next, ◌>>=◌, give}
+use Rattle.format.specs.Read.{Read, ok, refused, Reader, ◌>>=◌, give}
 use Rattle.format.specs.ReadFields.{byte}
 use Rattle.format.specs.ReadHeader.{header}
 use Rattle.slice.specs.Shown.{cursor_at}
