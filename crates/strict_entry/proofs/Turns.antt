@@ -31,4 +31,4 @@ module _ {A : Type 0} {r : Reader A} {s : Bytes} {n from left at : ℕ} (inv : L
     stops {q} e = turn.stops r s n from left at inv.rest more q (cursor_err (r at (drop at s)) q e)
 
     pub goes_on_lem : {F : Form A} → Exact r F → {k : Cursor} → cursor.Ok k ≡ cursor_result (r at (drop at s)) → Left r s n from (left - 1) k.at
-    goes_on_lem exact {k} e = record { rest = turn.goes_on r s n from left at inv.rest more exact (cursor_ok (r at (drop at s)) k e).was }
+    goes_on_lem exact {k} e = record { rest = turn.goes_on_lem r s n from left at inv.rest more exact (cursor_ok (r at (drop at s)) k e).was }
