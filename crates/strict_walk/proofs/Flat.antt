@@ -23,7 +23,7 @@ steps : ResourceLimits → (Where → Reader (List Prototype)) → Where → Rea
 steps L r w at s =
     next (string L.max_string_bytes at s) (λ spelt a1 s1.
     next (int a1 s1) (λ line_defined a2 s2.
-    next (int a2 s2) (λ last-line_defined a3 s3.
+    next (int a2 s2) (λ last_line_defined a3 s3.
     next (byte a3 s3) (λ numparams a4 s4.
     next (byte a4 s4) (λ is_vararg a5 s5.
     next (byte a5 s5) (λ maxstacksize a6 s6.
@@ -41,7 +41,7 @@ steps L r w at s =
     next (strict_counted strict_anchor a17 s17) (λ abs_line_info a18 s18.
     next (strict_counted (strict_local L.max_string_bytes) a18 s18) (λ loc_vars a19 s19.
     next (strict_counted (string L.max_string_bytes) a19 s19) (λ upvalue_names_lem a20 s20.
-    ok (prototype w at spelt line_defined last-line_defined numparams is_vararg maxstacksize (record { place = a9; items = instructions }) constants upvalues a14 protos (record { place = a16; items = line_info_lem }) abs_line_info loc_vars upvalue_names_lem a20 ∷ nested) a20 s20))))))))))))))))))))
+    ok (prototype w at spelt line_defined last_line_defined numparams is_vararg maxstacksize (record { place = a9; items = instructions }) constants upvalues a14 protos (record { place = a16; items = line_info_lem }) abs_line_info loc_vars upvalue_names_lem a20 ∷ nested) a20 s20))))))))))))))))))))
 
 as_steps : (L : ResourceLimits) (r : Where → Reader (List Prototype)) (w : Where) (at : ℕ) (s : Bytes) → steps L r w at s ≡ strict_body L r w at s
 unfolding strict_body steps

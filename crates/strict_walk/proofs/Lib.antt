@@ -4,3 +4,4 @@ pub mod Flat
 pub mod Continued
 pub mod HeadAnswers
 pub mod Passes
+pub mod Passed

@@ -17,7 +17,7 @@ use strict_entry::int::pass_int;
 use strict_entry::pass::pass_string;
 
 // How many instructions a function has, and how many functions nest in it.
-#[derive(Drop)]
+#[derive(Clone, Copy)]
 pub enum HeadPassed {
     Ok {
         instructions: usize,

@@ -59,10 +59,10 @@ strict_line_info = do
 abbrev pub strict_front : ℕ → Reader Front
 strict_front limit = do
   source ← string limit
-  line-defined ← int
-  last-line_defined ← int
+  line_defined ← int
+  last_line_defined ← int
   three ← sizes
-  give (record { source = source; lines = record { line_defined = line-defined; last_line_defined = last-line_defined }; sizes = three })
+  give (record { source = source; lines = record { line_defined = line_defined; last_line_defined = last_line_defined }; sizes = three })
 
 abbrev pub strict_lists : ResourceLimits → Reader (Listed ConstantValue × Listed UpvalueDesc)
 strict_lists L = do
