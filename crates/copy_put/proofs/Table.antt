@@ -1,18 +1,15 @@
 -- The table of lengths (`specs/Lengths.antt`) has the length of every number's shortest spelling.
 --     by_rule          the table is its rule at 0 to 64: one test, which antt computes
 --     table_rule       so at the leading zeros of v it has the length of v's shortest spelling
---     told, passed     what an arm of a match knows of its number: it is the arm's, or none of those before
+--     told             what an arm of a match knows of its number: it is the arm's
 -- Assumes nothing.
 use mathlib.Core.Path.{◌≡◌, refl, sym, ◌∙◌, ap}
-use mathlib.Core.Bool.{Bool, true, false}
 use mathlib.Core.List.{List, [], ◌∷◌}
 use mathlib.Core.Option.{some}
 use Prim.Native.Nat.{ℕ, zero, suc, ◌+◌, ◌-◌, ◌/◌, ◌^◌, ◌<◌, ◌≤◌}
 use native.Mathlib.Nat.{not-suc-le-zero, add-zero}
 use native.Mathlib.Omega.{arith}
-use borrow.Author.Tests.{ltb-true, ltb-false}
-use lib.Count.{count_leading_zeros, leading_le, leading_of_zero, leading_top}
-use lib.Dec.{ltb}
+use lib.Count.{count_leading_zeros, leading_of_zero, leading_top}
 use lib.ListN.{length, get_elem?}
 use Rattle.format.specs.Shortest.{shortest}
 use Rattle.format.proofs.ShortestLaws.{length-zero, length-bits}
@@ -50,23 +47,10 @@ table_rule (suc n) h =
     let few : count_leading_zeros 64 (suc n) < 64 = omega (arith, top.1) in
     entry (count_leading_zeros 64 (suc n)) (omega (arith, few)) ∙ ap some (rounded (count_leading_zeros 64 (suc n)) few ∙ length-bits (suc n) (λ z. omega (arith, z)) h)
   where
-    rounded : (zeros : ℕ) → zeros < 64 → rule zeros ≡ (64 - zeros + 6) / 7
-    rounded zeros less = omega arith
+    rounded : (top : ℕ) → top < 64 → rule top ≡ (64 - top + 6) / 7
+    rounded top less = omega arith
 
 -- ## The match
 -- at the number that an arm names
 pub told : {x n : ℕ} → x ≡ n → get_elem? lengths x ≡ get_elem? lengths n
 told e = ap (get_elem? lengths) e
-
--- it is no number below k
-abbrev Passed : ℕ → ℕ → Type 0
-Passed zero x = Unit {0}
-Passed (suc k) x = Passed k x × (x ≡ k → ⊥)
-
-pub passed : (k x : ℕ) → Passed k x → k ≤ x
-passed zero x p = omega arith
-passed (suc k) x p = go (passed k x p.0) (ltb k x) refl
-  where
-    go : k ≤ x → (more : Bool) → ltb k x ≡ more → suc k ≤ x
-    go least true e = ltb-true k x e
-    go least false e = absurd (p.1 (omega (arith, ltb-false k x e)))

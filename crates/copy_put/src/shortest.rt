@@ -7,6 +7,7 @@ ghost use Rattle.copy_put.specs.Lengths.{lengths};
 
 // The table. A match and no constant array: that is a value, stored anew at each call; of this the compiler makes 65 numbers in read-only memory, of which a call loads one.
 // Ruled out: a length for one bit more or less, 0 bytes for 0.
+#[tactic(auto, unfolding(crate::specs::Lengths::lengths))]
 fn length_at(zeros: u32) -> usize
     requires { zeros ≤ 64 }
     ensures { get_elem? lengths zeros ≡ some result }

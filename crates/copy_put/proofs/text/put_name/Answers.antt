@@ -1,0 +1,9 @@
+-- `copy_put::text::put_name` meets its contract. Assumes nothing.
+use Rattle.copy_put.proofs.Writes.{put_then}
+use Rattle.copy_put.proofs.text.put_name.Goals as goal
+
+pub returns-in-None : goal.returns-in-None
+returns-in-None c = λ h. rw c.in-None.is (put_then c.put_varint-behind.ensures c.put_byte.ensures)
+
+pub returns-in-Some : goal.returns-in-Some
+returns-in-Some c = λ h. rw c.in-Some.is (c.put_present.ensures (rw c.in-Some.is at h))
