@@ -5,19 +5,19 @@
 -- Assumes nothing.
 use mathlib.Core.Path.{◌≡◌, refl, sym, ◌∙◌, ap, ap₂}
 use mathlib.Core.Bool.{Bool, true, false}
-use mathlib.Core.List.{List, [], ◌∷◌, ◌++◌, map, flatten}
+use mathlib.Core.List.{[], ◌∷◌, ◌++◌, map, flatten}
 use mathlib.Core.Option.{Option, none, some, get_or}
-use Prim.Native.Nat.{ℕ, zero, suc, ◌+◌, ◌-◌, ◌*◌, ◌≤◌, ◌<◌}
-use native.Mathlib.Nat.{suc-mul, add_comm, add_assoc}
+use Prim.Native.Nat.{ℕ, zero, suc, ◌+◌, ◌-◌, ◌*◌, ◌≤◌}
+use native.Mathlib.Nat.{suc-mul, add_comm}
 use native.Mathlib.Omega.{arith}
-use lib.Dec.{eqb, leb}
+use lib.Dec.{leb}
 use borrow.Author.Tests.{leb-true}
 use lib.ListN.{length, take, drop, length-drop, take-append-drop}
 use lib.Seq.{length-take-le, take-add, drop-drop}
 use Rattle.format.specs.declared.refusal.Refusal.{Refusal}
 use Rattle.format.specs.Form.{Bytes, Below, Form}
 use Rattle.format.specs.GrammarFields.{LuaString, little}
-use Rattle.format.specs.Read.{Read, ok, refused, Reader, next, ◌>>=◌, give, piece, run, many}
+use Rattle.format.specs.Read.{Read, ok, refused, Reader, piece, run, many}
 use Rattle.format.specs.ReadFields.{field}
 use Rattle.format.specs.Shortest.{shortest}
 use Rattle.format.specs.ReadChunk.{upvalue}
@@ -26,7 +26,7 @@ use Rattle.format.proofs.Exact.{Exact, never, exact_run, exact_many}
 use Rattle.format.proofs.ExactFields.{exact_field, exact_number, exact_string}
 use Rattle.format.proofs.FieldBytes.{field_back}
 use Rattle.format.proofs.Below.{below_split}
-use Rattle.format.proofs.Located.{AtPlace, any, at_give, at_here, at_then, at-string, Stands, StandsIf}
+use Rattle.format.proofs.Located.{AtPlace, any, at_give, at_here, at_then, at-string, StandsIf}
 use Rattle.read_field.specs.Shown.{option_string}
 use Rattle.read_field.proofs.Shows.{Was}
 use Rattle.read_entry.specs.Readers.{RawLocal, raw_local}

@@ -1,7 +1,6 @@
 -- The returns of the functions that copy an entry, by what their calls showed and put.
 -- Assumes nothing.
-use mathlib.Core.Path.{◌≡◌, refl, sym, ◌∙◌, ap}
-use mathlib.Core.List.{List, [], ◌∷◌, ◌++◌}
+use mathlib.Core.Path.{◌≡◌, ◌∙◌, ap}
 use mathlib.Core.Option.{Option}
 use Prim.Native.Nat.{ℕ}
 use native.Mathlib.Omega.{arith}
@@ -14,7 +13,7 @@ use Rattle.format.specs.Read.{Read, ok, refused, next, give}
 use Rattle.format.specs.ReadFields.{string}
 use Rattle.format.specs.ReadChunk.{constant, anchor, local}
 use Rattle.format.specs.Shortest.{shortest}
-use Rattle.format.specs.Copy.{string_bytes, option_bytes, anchor_bytes, local_bytes, constant_bytes}
+use Rattle.format.specs.Copy.{option_bytes, anchor_bytes, local_bytes, constant_bytes}
 use Rattle.format.proofs.Located.{StandsIf, at-string}
 use Rattle.slice.specs.declared.cursor.Cursor.{Cursor}
 use Rattle.read_field.specs.declared.string.OptionString.{OptionString}
@@ -28,7 +27,7 @@ use Rattle.read_entry.specs.declared.debug.AnchorResult.TheVariants as anchor-an
 use Rattle.read_entry.specs.declared.debug.LocalResult.TheVariants as local-answer
 use Rattle.read_entry.specs.Readers.{RawLocal, raw_local}
 use Rattle.read_entry.specs.Inner.Counts.{named}
-use Rattle.read_entry.specs.Shown.{constant_value, constant_result, anchor_result, local_result}
+use Rattle.read_entry.specs.Shown.{constant_result, anchor_result, local_result}
 use Rattle.read_entry.proofs.Constants.{constant_err, constant-ok}
 use Rattle.read_entry.proofs.DebugInfo.{local-named, local-refused, anchor_err, anchor-ok}
 use Rattle.copy_put.specs.Inner.Put.{Put, Puts}
@@ -36,7 +35,7 @@ use Rattle.copy_put.specs.Inner.Text.{There, spelt, spelt_name}
 use Rattle.copy_entry.specs.Inner.Value.{Stood, value_bytes}
 use Rattle.copy_put.proofs.Writes.{put_then}
 use Rattle.copy_entry.proofs.Entries.{puts_of, puts-not, there-is, spelt_is, name-is, at-raw_local}
-use Rattle.copy_entry.proofs.Values.{Kept, at_constant}
+use Rattle.copy_entry.proofs.Values.{at_constant}
 
 -- ## Strings
 pub string-put : (s : Bytes) (t : Option LuaString) (shown : OptionString) {at : ℕ} {l : Bytes} {behind : ℕ} {l' : Bytes} → StandsIf s t → shown ≡ option_string t
@@ -64,14 +63,14 @@ module _ (s : Bytes) (at : ℕ) where
 record WasLocal (o : Read RawLocal) (name : OptionString) (startpc endpc to : ℕ) : Type 0 where
   value : RawLocal
   was : Was o value to
-  name-shown : name ≡ option_string value.name
+  name_shown : name ≡ option_string value.name
   start : startpc ≡ value.startpc
   end : endpc ≡ value.endpc
 
 raw_ok : (o : Read RawLocal) (name : OptionString) (startpc endpc : ℕ) (c : Cursor) → local-answer.Ok name startpc endpc c ≡ local_result o → WasLocal o name startpc endpc c.at
 raw_ok (ok l to rest) name startpc endpc c e =
     let next : c ≡ cursor_at to = cc in
-    record { value = l; was = record { rest = rest; is = rw next }; name-shown = cc; start = cc; end = cc }
+    record { value = l; was = record { rest = rest; is = rw next }; name_shown = cc; start = cc; end = cc }
 raw_ok (refused q) name startpc endpc c e = absurd (let z : ◌≡◌ {A = ℕ} 0 1 = cc in omega arith)
 
 parts-put : (s : Bytes) (l : RawLocal) (name : OptionString) (startpc endpc : ℕ) {w w₁ w₂ behind : ℕ} {k k₁ k₂ k' : Bytes} → StandsIf s l.name → name ≡ option_string l.name → startpc ≡ l.startpc → endpc ≡ l.endpc
@@ -88,7 +87,7 @@ module _ (s : Bytes) (limit at : ℕ) where
       let o = raw_ok (raw_local limit at (drop at s)) name startpc endpc c e in
       let stands = (at-raw_local s {at = at} limit).holds o.was.is in
       let whole : Was (local limit at (drop at s)) (named o.value) c.at = record { rest = o.was.rest; is = local-named limit at (drop at s) ∙ ap (λ z. next z (λ l. give (named l))) o.was.is } in
-      puts_of whole (parts-put s o.value name startpc endpc stands o.name-shown o.start o.end p q r)
+      puts_of whole (parts-put s o.value name startpc endpc stands o.name_shown o.start o.end p q r)
 
 -- ## Constants
 module _ (s : Bytes) (limit at : ℕ) where

@@ -2,9 +2,9 @@
 -- Assumes nothing.
 use mathlib.Core.Path.{◌≡◌, refl, sym, ◌∙◌, ap}
 use mathlib.Core.Bool.{Bool, true, false, cond}
-use mathlib.Core.List.{List, [], ◌∷◌, ◌++◌}
+use mathlib.Core.List.{[], ◌∷◌, ◌++◌}
 use mathlib.Core.Option.{Option, none, some, get_or}
-use Prim.Native.Nat.{ℕ, zero, suc, ◌+◌, ◌-◌, ◌≤◌, zero-le}
+use Prim.Native.Nat.{ℕ, suc, ◌-◌, ◌≤◌, zero-le}
 use native.Mathlib.Omega.{arith}
 use borrow.Author.Tests.{eqb-true}
 use lib.Dec.{eqb}
@@ -12,8 +12,8 @@ use lib.ListN.{length, take, drop}
 use Rattle.format.specs.Form.{Bytes, Below}
 use Rattle.format.specs.GrammarFields.{LuaString}
 use Rattle.format.specs.Read.{Reader}
-use Rattle.format.specs.ReadChunk.{always, tagged, constant}
-use Rattle.format.specs.Reading.{ConstantValue, nil, boolean, integer, float, short-string, long-string}
+use Rattle.format.specs.ReadChunk.{always, constant}
+use Rattle.format.specs.Reading.{ConstantValue}
 use Rattle.format.specs.Shortest.{shortest}
 use Rattle.format.specs.Copy.{field_bytes, constant_bytes}
 use Rattle.format.proofs.ExactFields.{exact_field, exact_string}

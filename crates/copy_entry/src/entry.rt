@@ -18,7 +18,7 @@ use read_field::string::{StringResult, read_string_lua54};
 use slice::cursor::{Cursor, CursorResult};
 
 // Behind what is read and put: the cursor in the chunk or the refusal, and the place in the copy.
-#[derive(Drop)]
+#[derive(Clone, Copy)]
 pub struct Passed {
     pub read: CursorResult,
     pub behind: usize,

@@ -16,7 +16,7 @@ use read_list::{ListResult, count_up_to, listed};
 use slice::cursor::Cursor;
 
 // What a list shows, and the place behind it in the copy.
-#[derive(Drop)]
+#[derive(Clone, Copy)]
 pub struct Listed {
     pub list: ListResult,
     pub behind: usize,
