@@ -3,21 +3,21 @@
 --     short_then           two, the second right behind the first
 --     short-..             the reader of each part
 -- Assumes nothing.
-use mathlib.Core.Path.{◌≡◌, refl, sym, ◌∙◌, ap}
+use mathlib.Core.Path.{◌≡◌, ◌∙◌, ap}
 use mathlib.Core.Bool.{Bool, true, false}
-use mathlib.Core.List.{List, [], ◌∷◌, ◌++◌, map, flatten}
+use mathlib.Core.List.{[], ◌∷◌, ◌++◌, map, flatten}
 use mathlib.Core.Option.{Option, none, some, get_or}
-use Prim.Native.Nat.{ℕ, zero, suc, ◌+◌, ◌-◌, ◌*◌, ◌≤◌}
+use Prim.Native.Nat.{ℕ, zero, suc, ◌-◌, ◌*◌, ◌≤◌}
 use native.Mathlib.Omega.{arith}
 use lib.Dec.{eqb, leb, lit≤}
-use lib.ListN.{length, take, drop, length-append, length-drop}
+use lib.ListN.{length, drop, length-append, length-drop}
 use lib.Seq.{length-take-le}
 use Rattle.format.specs.declared.refusal.Refusal.{Refusal}
 use Rattle.format.specs.declared.refusal.Refusal.TheVariants.{StringBytes}
 use Rattle.format.specs.Form.{Bytes, Below, Form}
 use Rattle.format.specs.GrammarFields.{LuaString}
 use Rattle.format.specs.GrammarChunk.{Listed}
-use Rattle.format.specs.Read.{Read, ok, Reader, next, ◌>>=◌, give, here, test, at_most, run, many}
+use Rattle.format.specs.Read.{ok, Reader, ◌>>=◌, give, here, test, at_most, many}
 use Rattle.format.specs.ReadFields.{number, content, string}
 use Rattle.format.specs.ReadChunk.{counted, counted_up_to, always, constant, anchor, local}
 use Rattle.format.specs.Shortest.{shortest}
@@ -76,12 +76,12 @@ short-content {s} limit first at (suc n) mid h =
     let front : Short (shortest (suc (length bytes))) at mid' = rw (size, same) h in
     short_then front (raw_short k))
 
-pub short-string : {s : Bytes} {at : ℕ} (limit : ℕ) → AtPlace s at (string limit) (λ to t. Short (option_bytes t) at to)
-short-string {s} {at} limit = record { holds = λ e. (at_then {s = s} {at = at} exact_number short-number λ size mid h. short-content limit at at size mid h).holds e }
+pub short_string : {s : Bytes} {at : ℕ} (limit : ℕ) → AtPlace s at (string limit) (λ to t. Short (option_bytes t) at to)
+short_string {s} {at} limit = record { holds = λ e. (at_then {s = s} {at = at} exact_number short-number λ size mid h. short-content limit at at size mid h).holds e }
 
 -- an absent one is written as another, of at most one byte
 short-always : {s : Bytes} {at : ℕ} (limit : ℕ) (instead : Bytes) → length (shortest (suc (length instead)) ++ instead) ≤ 2 → AtPlace s at (always limit instead) (λ to t. Short (string_bytes t) at to)
-short-always {s} {at} limit instead few = at_then (exact_string limit) (short-string limit) λ t mid h. at_here λ place. at_give λ _. from t place mid h
+short-always {s} {at} limit instead few = at_then (exact_string limit) (short_string limit) λ t mid h. at_here λ place. at_give λ _. from t place mid h
   where
     from : (t : Option LuaString) (place mid : ℕ) → Short (option_bytes t) at mid → Short (string_bytes (get_or t (record { place = place; bytes = instead }))) at mid
     from none place mid h = record { on = h.on; short = omega (arith, few, h.short, h.on, length-zero) }
@@ -103,9 +103,9 @@ module _ (s : Bytes) (bytes : Below 256 s) where
   tag_short : {at mid tag : ℕ} (n : ℕ) → Raw s (field_bytes 1) 1 at mid tag → Short (field_bytes 1 n) at mid
   tag_short n h = let z = raw_short h in record { on = z.on; short = z.short }
 
-  pub short-constant : (limit at : ℕ) → AtPlace s at (constant limit) (λ to k. Short (constant_bytes k) at to)
+  pub short_constant : (limit at : ℕ) → AtPlace s at (constant limit) (λ to k. Short (constant_bytes k) at to)
   unfolding shortest
-  short-constant limit at =
+  short_constant limit at =
       at_here λ place.
       at_then (exact_field 1) (raw_field s bytes 1 at) λ tag mid h.
       at_pick (eqb tag 0) (λ _. at_give λ _. tag_short 0 h) λ _.

@@ -1,31 +1,30 @@
 -- The two parts of a function at their place: how long the copy's bytes of each are, and where its lists stand.
 -- Assumes nothing.
-use mathlib.Core.Path.{◌≡◌, refl, sym, ◌∙◌, ap}
-use mathlib.Core.Bool.{Bool, true, false, cond}
-use mathlib.Core.List.{List, [], ◌∷◌, ◌++◌, append_assoc}
+use mathlib.Core.Path.{◌≡◌, ◌∙◌, ap}
+use mathlib.Core.Bool.{Bool, true, false}
+use mathlib.Core.List.{[], ◌∷◌, ◌++◌, append_assoc}
 use mathlib.Core.Option.{Option, none, some}
-use Prim.Native.Nat.{ℕ, zero, suc, ◌+◌, ◌-◌, ◌*◌, ◌%◌, ◌≤◌, ◌<◌}
+use Prim.Native.Nat.{ℕ, suc, ◌+◌, ◌≤◌}
 use native.Mathlib.Omega.{arith}
-use lib.ListN.{length, take, drop, length-drop, length-append}
+use lib.ListN.{length, drop, length-drop, length-append}
 use lib.Seq.{length-take-le}
 use Rattle.format.specs.declared.limits.ResourceLimits.{ResourceLimits}
 use Rattle.format.specs.declared.refusal.Refusal.TheVariants.{Instructions, TotalInstructions, Constants, Upvalues, Prototypes}
-use Rattle.format.specs.Form.{Bytes, Below, Form}
+use Rattle.format.specs.Form.{Bytes, Below}
 use Rattle.format.specs.GrammarFields.{LuaString, little}
 use Rattle.format.specs.GrammarChunk.{Listed}
-use Rattle.format.specs.Read.{Read, ok, Reader, next, ◌>>=◌, give, run, many}
+use Rattle.format.specs.Read.{ok, Reader, ◌>>=◌, give, run, many}
 use Rattle.format.specs.ReadFields.{field, string}
 use Rattle.format.specs.ReadChunk.{constant, upvalue, anchor, local}
 use Rattle.format.specs.Shortest.{shortest}
-use Rattle.format.specs.Copy.{field_bytes, option_bytes, constant_bytes, upvalue_bytes, anchor_bytes, local_bytes}
-use Rattle.format.proofs.Exact.{Exact, exact_then, exact_give, exact_at_most, exact_run}
+use Rattle.format.specs.Copy.{field_bytes, option_bytes}
+use Rattle.format.proofs.Exact.{exact_then, exact_give, exact_at_most, exact_run}
 use Rattle.format.proofs.ExactFields.{exact_field, exact_number, exact_string}
 use Rattle.format.proofs.ExactChunk.{exact_counted, exact_counted_up_to, exact_constant, exact_upvalue, exact_anchor, exact_local}
 use Rattle.format.proofs.ShortestLaws.{length-zero}
 use Rattle.format.proofs.Located.{Found, AtPlace, at_give, at_here, at_then, at-string, StandsIf}
 use Rattle.read_entry.specs.Readers.{Count, protos_count, code, line_info}
 use Rattle.read_list.proofs.Within.{exact_code, exact_line_info, exact_protos_count}
-use Rattle.read_prototype.specs.declared.front.Sizes.{Sizes}
 use Rattle.read_prototype.specs.Front.{Front, front, lines, sizes}
 use Rattle.read_prototype.specs.Parts.{HeadLists, head_lists, Head, head, Tail, tail}
 use Rattle.read_prototype.proofs.FrontAnswers.{exact_front}
@@ -33,7 +32,7 @@ use Rattle.read_prototype.proofs.HeadAnswers.{exact_lists}
 use Rattle.copy_put.proofs.Stores.{size_pos}
 use Rattle.copy_entry.proofs.Entries.{Raw, at-run, raw_field, raw_upvalue, below_part}
 use Rattle.copy_parts.specs.Inner.Parts.{source_bytes, lines_bytes, sizes_bytes, lists_bytes, head_bytes, tail_bytes}
-use Rattle.copy_parts.proofs.Lengths.{Short, short_then, short-number, raw_short, stays, short-string, short-anchor, short-local, short-constant, Listing, listed, counted-at, up_to-at}
+use Rattle.copy_parts.proofs.Lengths.{Short, short_then, short-number, raw_short, stays, short_string, short-anchor, short-local, short_constant, Listing, listed, counted-at, up_to-at}
 
 at_as : {A : Type 0} {s : Bytes} {at : ℕ} {r : Reader A} {P Q : ℕ → A → Type 0} → ((to : ℕ) (x : A) → P to x → Q to x) → AtPlace s at r P → AtPlace s at r Q
 at_as f h = record { holds = λ {x} {to} e. f to x (h.holds e) }
@@ -67,7 +66,7 @@ tail-at limit at =
     at_then exact_line_info (deltas_at at) λ line_info_lem _ h.
     at_then (exact_counted exact_anchor) (counted-at exact_anchor short-anchor _) λ abs_line_info _ k.
     at_then (exact_counted (exact_local limit)) (counted-at (exact_local limit) (short-local limit) _) λ loc_vars _ m.
-    at_then (exact_counted (exact_string limit)) (counted-at (exact_string limit) (λ at. short-string limit) _) λ upvalue_names_lem _ n.
+    at_then (exact_counted (exact_string limit)) (counted-at (exact_string limit) (λ at. short_string limit) _) λ upvalue_names_lem _ n.
     at_give (record {
       short = short_then h.short (short_then k.short (short_then m.short n.short));
       line_info_lem = h.found;
@@ -136,7 +135,7 @@ module _ (s : Bytes) (bytes : Below 256 s) where
   pub lists_at : (L : ResourceLimits) (before at : ℕ) → AtPlace s at (head_lists L before) (λ to h. ListsAt s L.max_string_bytes at to h)
   lists_at L before at =
       at_then (exact_code _ _ _) (code_at _ _ _ at) λ instructions _ h.
-      at_then (exact_counted_up_to _ Constants (exact_constant _)) (up_to-at (exact_constant _) (short-constant s bytes _) _ Constants _) λ constants _ k.
+      at_then (exact_counted_up_to _ Constants (exact_constant _)) (up_to-at (exact_constant _) (short_constant s bytes _) _ Constants _) λ constants _ k.
       at_then (exact_counted_up_to _ Upvalues exact_upvalue) (up_to-at exact_upvalue (λ at. at_as (λ to x. raw_short) (raw_upvalue s bytes at)) _ Upvalues _) λ upvalues _ m.
       at_give (record { short = short_then h.short (short_then k.short m.short); instructions = h.found; constants = k.found; upvalues = m.found })
 
@@ -156,7 +155,7 @@ module _ (s : Bytes) (bytes : Below 256 s) where
       at_give (record { short = λ named. short_then (source-short named source h.0) (short_then k m.0); source = h.1; sizes = m.1 })
     where
       both : AtPlace s at (string limit) (λ to t. (Short (option_bytes t) at to) × StandsIf s t)
-      both = record { holds = λ e. ((short-string limit).holds e, (at-string {s = s} {at = at} limit).holds e) }
+      both = record { holds = λ e. ((short_string limit).holds e, (at-string {s = s} {at = at} limit).holds e) }
 
       lines_at : {at : ℕ} → AtPlace s at lines (λ to l. Short (lines_bytes l) at to)
       lines_at = at_then exact_number short-number λ _ _ h. at_then exact_number short-number λ _ _ k. at_give (short_then h k)

@@ -1,8 +1,8 @@
 -- The two parts of a function, put: by what the calls put of each list.
 -- Assumes nothing.
-use mathlib.Core.Path.{◌≡◌, refl, sym, subst, ◌∙◌, ap}
+use mathlib.Core.Path.{◌≡◌, sym, subst, ◌∙◌, ap}
 use mathlib.Core.Bool.{Bool, true, false, cond}
-use mathlib.Core.List.{List, [], ◌∷◌, ◌++◌, map, flatten}
+use mathlib.Core.List.{[], ◌∷◌, ◌++◌}
 use mathlib.Core.Option.{Option}
 use Prim.Native.Nat.{ℕ, ◌-◌, ◌*◌, ◌≤◌}
 use native.Mathlib.Nat.{mul-one}
@@ -11,11 +11,11 @@ use Rattle.format.specs.declared.limits.ResourceLimits.{ResourceLimits}
 use Rattle.format.specs.Form.{Bytes, Below, Form}
 use Rattle.format.specs.GrammarFields.{LuaString}
 use Rattle.format.specs.GrammarChunk.{Listed}
-use Rattle.format.specs.Read.{Read, ok, Reader, run, many}
+use Rattle.format.specs.Read.{ok, Reader, run, many}
 use Rattle.format.specs.ReadFields.{field, string}
 use Rattle.format.specs.ReadChunk.{constant, anchor, local}
 use Rattle.format.specs.Shortest.{shortest}
-use Rattle.format.specs.Copy.{field_bytes, option_bytes, constant_bytes, upvalue_bytes, anchor_bytes, local_bytes, list_bytes}
+use Rattle.format.specs.Copy.{option_bytes, constant_bytes, anchor_bytes, local_bytes, list_bytes}
 use Rattle.format.proofs.Exact.{Exact}
 use Rattle.format.proofs.ExactFields.{exact_field}
 use Rattle.format.proofs.ExactChunk.{exact_upvalue}
@@ -23,7 +23,6 @@ use Rattle.format.proofs.Located.{Found, AtPlace, StandsIf}
 use Rattle.read_prototype.specs.declared.parts.HeadLists as declared-lists
 use Rattle.read_prototype.specs.declared.parts.Head as declared-head
 use Rattle.read_prototype.specs.declared.parts.Tail as declared-tail
-use Rattle.read_prototype.specs.declared.front.Lines.{Lines}
 use Rattle.read_prototype.specs.declared.front.Sizes.{Sizes}
 use Rattle.read_prototype.specs.Parts.{HeadLists, head_lists, Head, head, Tail, tail}
 use Rattle.read_prototype.specs.PartsShown.{lists_of, head_of, tail_of}
@@ -33,9 +32,9 @@ use Rattle.copy_put.specs.Inner.Put.{Put, PutsAll}
 use Rattle.copy_put.specs.Inner.Text.{There, spelt}
 use Rattle.copy_put.proofs.Writes.{put_then}
 use Rattle.copy_entry.proofs.Items.{string-put}
-use Rattle.copy_entry.proofs.Entries.{Raw, at-run, raw_field, raw_upvalue, raw_many, there-is, spelt_is}
+use Rattle.copy_entry.proofs.Entries.{Raw, at-run, raw_field, raw_upvalue, raw_many, there-is}
 use Rattle.copy_parts.specs.Inner.Parts.{source_bytes, lines_bytes, sizes_bytes, lists_bytes, head_bytes, tail_bytes}
-use Rattle.copy_parts.proofs.PartsAt.{TailAt, tail-at, ListsAt, lists_at, HeadAt, head_at_lem}
+use Rattle.copy_parts.proofs.PartsAt.{tail-at, lists_at, head_at_lem}
 
 pub put_as : {a b : Bytes} {at w : ℕ} {k k' : Bytes} → a ≡ b → Put a at k w k' → Put b at k w k'
 put_as e p = rw (← e) p

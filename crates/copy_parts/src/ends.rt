@@ -16,7 +16,7 @@ use read_walk::walk::{SkimResult, Skimmed};
 use slice::cursor::{Cursor, CursorResult};
 
 // What a walk over functions found, how many upvalues the first of them has, and the length of their copy.
-#[derive(Drop)]
+#[derive(Clone, Copy)]
 pub struct Copied {
     pub walk: SkimResult,
     pub upvalues: usize,

@@ -15,7 +15,7 @@ use read_list::{ListResult, instructions_list, protos_count, upvalues_list};
 use slice::cursor::{Cursor, CursorResult};
 
 // How many words and upvalues a function has: of the lists before the nested functions a walk needs no more.
-#[derive(Drop)]
+#[derive(Clone, Copy)]
 enum ListCountsResult {
     Ok {
         instructions: usize,
@@ -26,7 +26,7 @@ enum ListCountsResult {
 }
 
 // The same, and the place behind the lists in the copy.
-#[derive(Drop)]
+#[derive(Clone, Copy)]
 struct ListsCopied {
     lists: ListCountsResult,
     behind: usize,
@@ -109,21 +109,21 @@ fn copy_lists(
 }
 
 // What a walk needs of a function before the functions that nest in it: how many words and upvalues it has, and how many of those.
-#[derive(Drop)]
+#[derive(Clone, Copy)]
 pub struct Counts {
     pub instructions: usize,
     pub upvalues: usize,
     pub protos: usize,
 }
 
-#[derive(Drop)]
+#[derive(Clone, Copy)]
 pub enum CountsResult {
     Ok { counts: Counts, next: Cursor },
     Err(Refusal),
 }
 
 // The same, and how long its copy is.
-#[derive(Drop)]
+#[derive(Clone, Copy)]
 pub struct HeadCopied {
     pub begins: CountsResult,
     pub len: usize,
