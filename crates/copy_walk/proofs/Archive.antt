@@ -1,6 +1,7 @@
 -- The archive copy's bytes of a function that was read, and of all that nest in it: nested sources are absent.
 --     made             a function's bytes are those of its two parts, with those of the nested functions between them
 --     archive, single  the archive copy as a way to go through functions (Nests.antt), and what it makes of a function of its parts
+--     asks             what the walk asks of where a function stands
 --     main-short       main, with its source, is copied by at most twice as many bytes
 -- Assumes nothing.
 use mathlib.Core.Path.{◌≡◌, refl, sym, ◌∙◌, ap}
@@ -41,6 +42,10 @@ none_nested source = refl
 
 abbrev pub archive : Way
 archive = record { Piece = Bytes; nest = nest; all = λ source. flatten; one = λ source. function_bytes false; nothing = none_nested }
+
+-- what a copy of a function asks: that only main's source is kept, which inherits none
+abbrev pub asks : Bool → Bytes → Where → Type 0
+asks named s w = (named ≡ true → w.source ≡ none) × Below 256 s
 
 short_made : (named : Bool) (w : Where) (ps : List Prototype) (at to : ℕ) → (named ≡ true → w.source ≡ none) → Parts archive w ps at to → Short (function_bytes named ps) at to
 short_made named w ps at to main a = rw (a.is, made named w a.start a.head a.tail a.end a.inner main, a.stack [], append-nil) (a.short named)

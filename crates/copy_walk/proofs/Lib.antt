@@ -3,3 +3,4 @@ pub mod Archive
 pub mod Tails
 pub mod Loops
 pub mod Functions
+pub mod Nested
