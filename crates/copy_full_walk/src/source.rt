@@ -6,7 +6,7 @@ use read_field::string::OptionString;
 use read_walk::source::{repeats, source_at, unpadded};
 
 // Where the source is spelt that the functions in a function inherit, and whether a full copy writes the function's own.
-#[derive(Drop)]
+#[derive(Clone, Copy)]
 pub struct Source {
     pub own: usize,
     pub written: bool,
