@@ -2,10 +2,10 @@
 --     functions_stops, functions-put   main and the trailing bytes, by what the bytes of the functions are
 --     main-put         of the archive copy
 -- Assumes nothing.
-use mathlib.Core.Path.{◌≡◌, refl, sym, subst, ◌∙◌, ap}
-use mathlib.Core.Bool.{Bool, true, false}
-use mathlib.Core.List.{List, [], ◌∷◌, ◌++◌, append_assoc}
-use Prim.Native.Nat.{ℕ, ◌+◌, ◌-◌, ◌*◌, ◌≤◌}
+use mathlib.Core.Path.{◌≡◌, refl, sym, ◌∙◌, ap}
+use mathlib.Core.Bool.{true}
+use mathlib.Core.List.{List, [], ◌∷◌, ◌++◌}
+use Prim.Native.Nat.{ℕ, ◌+◌, ◌-◌, ◌≤◌}
 use native.Mathlib.Omega.{arith}
 use lib.ListN.{length, take, drop, length-append, length-drop}
 use lib.Seq.{take_all}
@@ -15,7 +15,7 @@ use Rattle.format.specs.declared.refusal.Refusal.{Refusal}
 use Rattle.format.specs.Form.{Bytes, Below}
 use Rattle.format.specs.Reading.{Prototype}
 use Rattle.format.specs.GrammarChunk.{outermost, instructions_of}
-use Rattle.format.specs.Read.{Read, ok, refused}
+use Rattle.format.specs.Read.{Read, ok}
 use Rattle.format.specs.ReadChunk.{function}
 use Rattle.format.specs.Copy.{field_bytes, header_bytes, functions_bytes, upvalues_of_main}
 use Rattle.format.proofs.Exact.{never}
@@ -27,7 +27,7 @@ use Rattle.read_walk.specs.declared.walk.SkimResult.TheVariants as skim
 use Rattle.read_walk.specs.Inner.Skim.{skim_result}
 use Rattle.read_walk.proofs.OneFunction.{skim_err}
 use Rattle.slice.specs.Inner.Splice.{splice}
-use Rattle.slice.proofs.Splices.{splice-length, splice-before}
+use Rattle.slice.proofs.Splices.{splice-before}
 use Rattle.copy_put.specs.Inner.Put.{Put}
 use Rattle.copy_put.proofs.Writes.{put_then}
 use Rattle.copy.specs.declared.whole.CopyAnswer.TheVariants as answer

@@ -22,7 +22,7 @@ use Rattle.slice.specs.declared.cursor.Cursor.{Cursor}
 use Rattle.read_prototype.specs.declared.pass.HeadCounts.{HeadCounts}
 use Rattle.read_prototype.specs.declared.pass.HeadCountsResult.TheVariants as counts-answer
 use Rattle.read_prototype.specs.Parts.{Head, head, Tail, tail}
-use Rattle.read_prototype.specs.Inner.Counts.{head_counts, head_counts_result}
+use Rattle.read_prototype.specs.Inner.Counts.{head_counts_result}
 use Rattle.read_prototype.specs.Inner.Whole.{prototype_of, inside}
 use Rattle.read_prototype.proofs.On.{taken}
 use Rattle.read_walk.specs.Inner.Skim.{entered}

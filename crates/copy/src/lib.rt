@@ -1,6 +1,8 @@
 // chunk.rs, `encode_chunk_lua54`: the archive copy of a chunk, written into lent memory.
 // A chunk that is spelt as its copy is judged in one pass and copied as it stands, but for its first 32 bytes (plain.rt).
 // Of any other, a walk judges and copies as far as the copy has room: lent next to nothing it measures, lent enough it writes (whole.rt). Where main's first number is padded that walk is taken at once.
+#![tactic(auto)]
+
 pub mod plain;
 pub mod whole;
 

@@ -16,7 +16,7 @@ use read_walk::walk::{SkimResult, Skimmed};
 use slice::cursor::{Cursor, remaining};
 
 // The length of the copy, or why there is none.
-#[derive(Drop)]
+#[derive(Clone, Copy)]
 pub enum CopyAnswer {
     Ok(usize),
     Err(Refusal),
