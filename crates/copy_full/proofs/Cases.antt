@@ -6,7 +6,6 @@
 -- Assumes nothing.
 use mathlib.Core.Path.{◌≡◌, refl}
 use mathlib.Core.List.{List, [], ◌∷◌, ◌++◌, map}
-use Prim.Native.Nat.{ℕ}
 use lib.ListN.{length, replicate, set, take}
 use Rattle.format.specs.declared.refusal.Refusal.TheVariants.{Truncated, LentSpace}
 use Rattle.format.specs.Form.{Bytes}

@@ -1,5 +1,7 @@
 // The full copy of a chunk (02, item 6), written into lent memory: the archive copy, with each nested source that is not its parent's. ldump.c keeps these.
 // A chunk that is spelt as its full copy is copied as it is, but for its front, as a chunk that is spelt as its archive copy is there (crates/copy/src/lib.rt); of any other, the walk of copy_full_walk measures and writes (whole.rt).
+#![tactic(auto)]
+
 mod plain;
 mod whole;
 

@@ -1,0 +1,28 @@
+-- `copy_full::whole::full_chunk` meets its contract: by what `open_chunk` and `full_functions` showed (crates/copy/proofs/Outcomes.antt). Assumes nothing.
+use mathlib.Core.Path.{sym, ◌∙◌}
+use native.Mathlib.Omega.{arith}
+use Rattle.format.specs.ReadChunk.{read}
+use Rattle.read_chunk.proofs.Summaries.{in_ceilings, input_ceiling}
+use Rattle.read_chunk.proofs.BeforeMain.{not_opened, known}
+use Rattle.format.specs.FullCopy.{full_functions, full_copy}
+use Rattle.copy.proofs.Outcomes.{by_stopped, by_chunk_copied, all-bytes}
+use Rattle.copy_full.proofs.FullMain.{chunk_is}
+use Rattle.copy_full.proofs.whole.full_chunk.Goals as goal
+
+pub full_functions-requires : goal.full_functions-requires
+full_functions-requires c =
+    let a = c.args in
+    in_ceilings a.limits (known a.limits a.s.now c.in-Ok.opening (sym c.in-Ok.is ∙ c.open_chunk-begins.ensures)).within
+
+pub returns-in-Err : goal.returns-in-Err
+returns-in-Err c =
+    let a = c.args in
+    by_stopped full_copy (read a.limits a.s.now) _ _ _ (not_opened a.limits a.s.now _ (sym c.in-Err.is ∙ c.open_chunk-begins.ensures))
+
+pub returns-in-Ok : goal.returns-in-Ok
+returns-in-Ok c =
+    let a = c.args in
+    let opens = sym c.in-Ok.is ∙ c.open_chunk-begins.ensures in
+    let is = known a.limits a.s.now c.in-Ok.opening opens in
+    by_chunk_copied full_copy full_functions chunk_is a.limits a.s.now c.in-Ok.opening opens _ _ _
+    (c.full_functions.ensures (all-bytes a.s.now (λ i h. (c.type_inv.s i).fits)) (let input = input_ceiling a.limits is.within in let fits = is.fits in omega arith))
