@@ -1,6 +1,4 @@
 pub mod RuleCases
-pub mod Targets
-pub mod Judging
 pub mod Glances
 pub mod RustLaws
 pub mod FewFindings

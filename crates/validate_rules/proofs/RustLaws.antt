@@ -1,16 +1,16 @@
 -- The findings by groups are those of the Rust's list and flag.
 -- Assumes nothing.
 use mathlib.Core.Path.{◌≡◌, refl, ap, sym, ◌∙◌}
-use mathlib.Core.Bool.{Bool, true, false, ◌||◌, cond}
+use mathlib.Core.Bool.{Bool, true, false, cond}
 use mathlib.Core.List.{List, [], ◌∷◌, ◌++◌, append_assoc, append-nil}
-use Prim.Native.Nat.{ℕ, zero, suc, ◌+◌, ◌<◌}
+use Prim.Native.Nat.{ℕ, ◌+◌, ◌<◌}
 use native.Mathlib.Omega.{arith}
 use lib.ListN.{length, length-append}
-use lib.Dec.{leb, ltb}
+use lib.Dec.{leb}
 use Rattle.format.specs.Reading.{Prototype, Reading}
 use Rattle.validate_rules.specs.Rules.{instruction}
 use Rattle.validate_rules.specs.Findings.{MAX-DIAGNOSTICS, bounds_of, code_groups, groups, Listing, ended, prepend, limited, chunk_findings}
-use Rattle.validate_rules.specs.Rust.{halt, push, over_code, over_functions, closed, over_chunk, validate}
+use Rattle.validate_rules.specs.Rust.{halt, over_code, over_functions, closed, over_chunk, validate}
 use Rattle.validate_rules.specs.declared.finding.Finding.{Finding}
 use Rattle.validate_rules.specs.declared.finding.Bounds.{Bounds}
 

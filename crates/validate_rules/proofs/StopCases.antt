@@ -20,7 +20,7 @@ use Rattle.validate_rules.specs.declared.finding.Verdict.{Verdict}
 use Rattle.validate_rules.specs.declared.finding.Verdict.TheVariants.{ValidForAnalysis, Invalid, Incomplete}
 use Rattle.validate_rules.specs.Rules.{at, instruction}
 use Rattle.validate_rules.specs.Findings.{code_groups, groups, Listing, ended, limited, chunk_findings, verdict}
-use Rattle.validate_rules.specs.Rust.{over_code, over_functions, closed, over_chunk, validate}
+use Rattle.validate_rules.specs.Rust.{over_code, over_functions, over_chunk, validate}
 
 -- a function of these words, with a stack of 2 and empty lists
 abbrev pub function : List ℕ → Prototype
@@ -31,7 +31,7 @@ function words = record {
   end = 0;
   source_name = none;
   line_defined = 0;
-  last-line_defined = 0;
+  last_line_defined = 0;
   numparams = 0;
   is_vararg = 0;
   maxstacksize = 2;

@@ -5,16 +5,16 @@
 --     one_too_many     more than the maximum after the last group: every finding is listed, and that is a stop
 --     behind           the maximum or more, and anything behind: a stop, with what was found up to there
 -- Assumes nothing.
-use mathlib.Core.Path.{◌≡◌, refl, ap, sym, ◌∙◌}
-use mathlib.Core.Bool.{Bool, true, false}
+use mathlib.Core.Path.{◌≡◌, ap, sym, ◌∙◌}
+use mathlib.Core.Bool.{true, false}
 use mathlib.Core.List.{List, [], ◌∷◌, ◌++◌, flatten, append_assoc, append-nil}
 use Prim.Native.Nat.{ℕ, ◌+◌, ◌<◌, ◌≤◌}
 use native.Mathlib.Omega.{arith}
 use lib.ListN.{length, length-append}
-use lib.Dec.{leb, ltb}
+use lib.Dec.{leb}
 use borrow.Author.Tests.{lt-ltb, le-ltb, le-leb, lt-leb}
 use Rattle.validate_rules.specs.declared.finding.Finding.{Finding}
-use Rattle.validate_rules.specs.Findings.{Listing, ended, prepend, limited}
+use Rattle.validate_rules.specs.Findings.{Listing, prepend, limited}
 
 abbrev pub Groups : Type 0
 Groups = List (List Finding)

@@ -3,7 +3,7 @@
 --     limited max n gs     the findings of groups, where there are n diagnostics already
 --     chunk_findings r      of a reading, whose warnings count
 --     verdict              on findings
-use Rattle.std.specs.Prelude.{Bool, true, false, cond, List, [], ◌∷◌, ◌++◌, ℕ, zero, suc, ◌+◌, length, leb, ltb}
+use Rattle.std.specs.Prelude.{Bool, true, false, cond, List, [], ◌∷◌, ◌++◌, ℕ, ◌+◌, length, leb, ltb}
 use Rattle.format.specs.Any.{any}
 use Rattle.format.specs.Ascii.{ascii}
 use Rattle.format.specs.Reading.{Prototype, Reading}

@@ -1,7 +1,7 @@
 -- The findings once more, as validator.rs has them: a list and a flag, tested before each function and each instruction. `warnings` says how many the reading has, with which
 -- the Rust's list begins. (Its header tests cannot fail: the reader refuses other sizes. Its functions are a tree, gone through in the order of our list.)
---     validate r       the list and the flag of `validate_chunk_lua54`.       `proofs/RustLaws.antt`: they are `chunkFindings r`
-use Rattle.std.specs.Prelude.{Bool, true, false, ◌||◌, cond, List, [], ◌∷◌, ◌++◌, ℕ, ◌+◌, length, leb, ltb}
+--     validate r       the list and the flag of `validate_chunk_lua54`.       `proofs/RustLaws.antt`: they are `chunk_findings r`
+use Rattle.std.specs.Prelude.{true, false, ◌||◌, cond, List, [], ◌∷◌, ◌++◌, ℕ, ◌+◌, length, leb, ltb}
 use Rattle.format.specs.Reading.{Prototype, Reading}
 use Rattle.validate_rules.specs.declared.finding.Finding.{Finding}
 use Rattle.validate_rules.specs.declared.finding.Bounds.{Bounds}

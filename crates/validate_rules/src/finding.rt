@@ -4,7 +4,7 @@
 pub const MAX_DIAGNOSTICS: u32 = 10000;
 
 // The rule that an instruction breaks, with the number that breaks it: an opcode, a register, an index or a jump's target.
-#[derive(Drop)]
+#[derive(Clone, Copy)]
 pub enum Rule {
     Opcode(u8),
     Register(u8),
@@ -16,26 +16,26 @@ pub enum Rule {
 }
 
 // The function's number, the instruction's number in it, and the rule.
-#[derive(Drop)]
+#[derive(Clone, Copy)]
 pub struct Finding {
     pub function: usize,
     pub pc: u32,
     pub rule: Rule,
 }
 
-#[derive(Drop)]
+#[derive(Clone, Copy)]
 pub enum OptionFinding {
     Some(Finding),
     None,
 }
 
-#[derive(Drop)]
+#[derive(Clone, Copy)]
 pub enum Severity {
     Error,
     Warning,
 }
 
-#[derive(Drop)]
+#[derive(Clone, Copy)]
 pub enum Verdict {
     ValidForAnalysis,
     Invalid,
@@ -43,7 +43,7 @@ pub enum Verdict {
 }
 
 // What an instruction's fields are held against: the stack's size and the lengths of the function's lists.
-#[derive(Drop)]
+#[derive(Clone, Copy)]
 pub struct Bounds {
     pub maxstacksize: u8,
     pub instructions: u32,

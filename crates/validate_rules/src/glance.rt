@@ -7,7 +7,7 @@ use word_opcodes::opcode::{Opcode54, OptionOpcode54};
 
 // By class: the bound of A; which bits are an operand, of those from bit 15 on; their bound.
 // (Of two widths: where LLVM sees one list, or three of one width, it makes a jump of an opcode's class, and a word takes twice as long.)
-#[derive(Drop)]
+#[derive(Clone, Copy)]
 pub struct Glance {
     pub registers: [u32; 6],
     pub masks: [u32; 6],

@@ -7,14 +7,14 @@ use crate::finding::{Bounds, Finding, OptionFinding, Rule};
 use word_fields::instruction::RawInstruction54;
 use word_opcodes::opcode::{Opcode54, OptionOpcode54};
 
-#[derive(Drop)]
+#[derive(Clone, Copy)]
 enum OptionRule {
     Some(Rule),
     None,
 }
 
 // What of an opcode's operands is held against a bound.
-#[derive(Drop)]
+#[derive(Clone, Copy)]
 enum Check {
     Nothing,
     Constant,
@@ -25,7 +25,7 @@ enum Check {
     Jump,
 }
 
-#[derive(Drop)]
+#[derive(Clone, Copy)]
 pub enum Judged {
     Fine,
     // A finding, and a second one, if there is one.
@@ -136,6 +136,7 @@ fn found(function: usize, pc: u32, rule: OptionRule) -> OptionFinding
 }
 
 // The findings of one instruction. Ruled out: other checks of a word without an opcode, the operand's finding first.
+#[tactic(auto, unfolding(crate::specs::Rules::instruction))]
 pub fn judge(function: usize, bounds: Bounds, pc: u32, word: u32) -> Judged
     ensures { group_of result ≡ instruction function bounds pc word }
 {

@@ -1,4 +1,6 @@
 // validator.rs: findings, and what is wrong with one instruction.
+#![tactic(auto)]
+
 pub mod finding;
 pub mod glance;
 pub mod judge;
