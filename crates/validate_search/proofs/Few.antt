@@ -1,9 +1,9 @@
--- There are at most as many findings as the maximum and one more: of a chunk at most 10,001 (`findings-few`).
+-- There are at most as many findings as the maximum and one more: of a chunk at most 10,001 (`findings_few`).
 -- Assumes nothing.
 use mathlib.Core.Path.{◌≡◌, refl}
 use mathlib.Core.Bool.{Bool, true, false, cond}
 use mathlib.Core.List.{List, [], ◌∷◌, ◌++◌}
-use Prim.Native.Nat.{ℕ, zero, suc, ◌+◌, ◌-◌, ◌≤◌, ◌<◌}
+use Prim.Native.Nat.{ℕ, ◌+◌, ◌-◌, ◌≤◌}
 use native.Mathlib.Omega.{arith}
 use lib.ListN.{length, length-append}
 use lib.Dec.{leb}
@@ -17,7 +17,7 @@ use Rattle.validate_rules.specs.declared.finding.Finding.{Finding}
 use Rattle.validate_search.specs.declared.scan.Code.{Code}
 use Rattle.validate_rules.proofs.FewFindings.{Few, few_code}
 use Rattle.format.specs.Reading.{Prototype, Reading}
-use Rattle.validate_rules.specs.Findings.{MAX-DIAGNOSTICS, bounds_of, code_groups, groups, Listing, ended, prepend, limited, chunk_findings}
+use Rattle.validate_rules.specs.Findings.{MAX-DIAGNOSTICS, bounds_of, code_groups, groups, ended, prepend, limited, chunk_findings}
 use Rattle.validate_rules.specs.declared.finding.OptionFinding.{OptionFinding}
 use Rattle.validate_rules.specs.declared.finding.OptionFinding.TheVariants as finding
 use Rattle.validate_search.specs.declared.search.Position.{Position}

@@ -19,7 +19,7 @@ use Rattle.read_next.specs.declared.Row.{Row}
 use Rattle.read_next.specs.Inner.Rows.{any_row}
 use Rattle.validate_rules.specs.Rules.{instruction}
 use Rattle.validate_rules.specs.Inner.Judged.{as_list}
-use Rattle.validate_rules.specs.Findings.{code_groups, Listing, ended, prepend, limited}
+use Rattle.validate_rules.specs.Findings.{code_groups, ended, prepend, limited}
 use Rattle.validate_search.specs.Inner.Position.{on_word, words_at, code_left, code_at, skip, row_bounds, next_number, row_groups, any_left}
 use Rattle.validate_rules.specs.declared.finding.Finding.{Finding}
 use Rattle.validate_rules.specs.declared.finding.OptionFinding.{OptionFinding}

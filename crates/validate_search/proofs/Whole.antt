@@ -1,8 +1,8 @@
 -- The first position stands for all findings of a chunk that is read.
 -- Assumes nothing.
-use mathlib.Core.Path.{◌≡◌, refl, sym, ap, ◌∙◌}
-use mathlib.Core.List.{List, [], ◌∷◌, ◌++◌}
-use Prim.Native.Nat.{ℕ, zero, suc, ◌+◌, ◌-◌, ◌≤◌, ◌<◌}
+use mathlib.Core.Path.{◌≡◌, refl, ap, ◌∙◌}
+use mathlib.Core.List.{List, [], ◌∷◌}
+use Prim.Native.Nat.{ℕ, zero, suc, ◌+◌, ◌≤◌}
 use native.Mathlib.Omega.{arith}
 use lib.ListN.{length, drop}
 use borrow.Author.Tests.{lt-ltb}
@@ -11,7 +11,7 @@ use Rattle.format.specs.declared.limits.ResourceLimits.{ResourceLimits}
 use Rattle.format.specs.Form.{Bytes, All}
 use Rattle.format.specs.Reading.{Prototype, Reading}
 use Rattle.format.specs.GrammarChunk.{Where}
-use Rattle.format.specs.Read.{Read, ok, refused, Reader, next, give, many}
+use Rattle.format.specs.Read.{Read, ok, refused, next, give, many}
 use Rattle.format.specs.ReadFields.{field}
 use Rattle.format.specs.ReadChunk.{function}
 use Rattle.format.proofs.Exact.{never}
@@ -19,12 +19,10 @@ use Rattle.format.proofs.ExactFields.{exact_field}
 use Rattle.format.proofs.Left.{left}
 use Rattle.format.proofs.Located.{Located}
 use Rattle.read_field.specs.Shown.{u32_result}
-use Rattle.read_next.specs.Inner.Rows.{chunk_rows}
-use Rattle.read_next.proofs.RowLaws.{at-start}
+use Rattle.read_next.proofs.RowLaws.{at_start}
 use Rattle.read_next.proofs.Agreement.{rows_for, all_rows}
-use Rattle.validate_rules.specs.Findings.{bounds_of, code_groups, groups, Listing, limited, MAX-DIAGNOSTICS, chunk_findings}
-use Rattle.validate_search.specs.Inner.Position.{on_word, words_at, code_left, next_number, row_groups, out_of, start_position}
-use Rattle.validate_rules.specs.declared.finding.Finding.{Finding}
+use Rattle.validate_rules.specs.Findings.{code_groups, groups, MAX-DIAGNOSTICS, chunk_findings}
+use Rattle.validate_search.specs.Inner.Position.{on_word, words_at, code_left, row_groups, out_of, start_position}
 
 -- ## The words of a list that was read
 module _ (s : Bytes) where
@@ -63,4 +61,4 @@ module _ (L : ResourceLimits) (s : Bytes) where
       → out_of L s MAX-DIAGNOSTICS (start_position at (length r.warnings)) ≡ chunk_findings r
   unfolding out_of start_position chunk_findings code_left code_groups words_at
   whole r located few n deep w top at e =
-      rw (at-start L s _ at refl, all_rows L s n deep w top at e, groups_are 0 r.functions located (omega arith))
+      rw (at_start L s _ at refl, all_rows L s n deep w top at e, groups_are 0 r.functions located (omega arith))

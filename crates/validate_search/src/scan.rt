@@ -9,7 +9,7 @@ use validate_rules::glance::{fine_at_a_glance, glance_of};
 use validate_rules::judge::{Judged, judge};
 
 // Where in a function's instructions a search stands: at the instruction `pc`.
-#[derive(Drop)]
+#[derive(Clone, Copy)]
 pub struct Code {
     pub bounds: Bounds,
     pub function: usize,
@@ -17,7 +17,7 @@ pub struct Code {
     pub pc: u32,
 }
 
-#[derive(Drop)]
+#[derive(Clone, Copy)]
 pub enum Scanned {
     // The findings of an instruction, and the code behind it.
     Found(Finding, OptionFinding, Code),

@@ -13,7 +13,7 @@ use slice::cursor::Cursor;
 use validate_rules::finding::{Bounds, Finding, OptionFinding, Rule};
 
 // The state of a search.
-#[derive(Drop)]
+#[derive(Clone, Copy)]
 pub struct Position {
     // The functions left at each level, the level here, and the place behind the last head that was read.
     pub left: Levels,
@@ -28,14 +28,14 @@ pub struct Position {
     pub waiting: OptionFinding,
 }
 
-#[derive(Drop)]
+#[derive(Clone, Copy)]
 pub enum State {
     Found,
     // There are no more; true: there are so many that the search stopped.
     Done(bool),
 }
 
-#[derive(Drop)]
+#[derive(Clone, Copy)]
 pub struct Step {
     pub finding: Finding,
     pub state: State,
@@ -230,6 +230,7 @@ fn stops(s: &[u8], limits: ResourceLimits, max: u32, p: Position) -> bool
 }
 
 // The position before everything: main is left at the top level, at a place, behind so many diagnostics.
+#[tactic(auto, unfolding(crate::specs::Inner::Position::start_position))]
 pub fn start(place: Cursor, kept: u64) -> Position
     ensures { result ≡ start_position place.at kept }
 {

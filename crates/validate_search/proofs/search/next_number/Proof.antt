@@ -1,8 +1,0 @@
--- `validate_search::search::next_number` meets its contract: by the test. Assumes nothing.
-use borrow.Author.Rules.{rules}
-use borrow.Author.Tests.{lt-ltb, le-ltb}
-use Rattle.validate_search.proofs.search.next_number.Statement.{statement}
-use Rattle.validate_search.proofs.search.next_number.Tie as tie
-
-pub next-number-spec : {M : Type 1} → statement M
-next-number-spec = tie.close (tie.spec (λ c. search rules) (λ c. rw (lt-ltb _ _ c.if1.true)) (λ c. rw (le-ltb _ _ c.if1.false)))
