@@ -2,18 +2,17 @@
 -- Assumes nothing.
 use mathlib.Core.Path.{◌≡◌, refl, sym, ap, ◌∙◌}
 use mathlib.Core.List.{List, [], ◌∷◌}
-use Prim.Native.Nat.{ℕ, ◌+◌, ◌≤◌, ◌<◌}
+use Prim.Native.Nat.{ℕ, ◌≤◌, ◌<◌}
 use native.Mathlib.Omega.{arith}
-use lib.ListN.{length, drop}
+use lib.ListN.{length}
 use Rattle.format.specs.Limits.{DEEPEST, MOST, Walkable}
 use Rattle.format.specs.declared.limits.ResourceLimits.{ResourceLimits}
-use Rattle.format.specs.declared.refusal.Refusal.{Refusal}
 use Rattle.format.specs.declared.header.Warning.{Warning}
 use Rattle.format.specs.Form.{Bytes, All}
-use Rattle.format.specs.Reading.{Prototype, Reading}
+use Rattle.format.specs.Reading.{Reading}
 use Rattle.format.specs.GrammarChunk.{outermost, Loaded, reading}
 use Rattle.format.specs.Read.{Read, ok, refused}
-use Rattle.format.specs.ReadChunk.{function, main, outcome, Outcome, shown, refusal, read}
+use Rattle.format.specs.ReadChunk.{main, outcome, shown, read}
 use Rattle.format.proofs.Located.{Located, all_located}
 use Rattle.format.proofs.ReadChunkLaws.{read_sound, main_complete, read-within}
 use Rattle.read_chunk.specs.declared.summary.Summary.{Summary}
@@ -22,24 +21,17 @@ use Rattle.read_chunk.specs.Decoded.{shown_warnings, summary_of}
 use Rattle.read_chunk.specs.Inner.Decoded.{judged_result}
 use Rattle.read_chunk.proofs.Summaries.{in_ceilings}
 use Rattle.read_chunk.proofs.MainAt as main-at
-use Rattle.read_chunk.proofs.MainAt.{WasShown, was_shown, was_refused, MainAt, two-warnings}
+use Rattle.read_chunk.proofs.MainAt.{was_shown, MainAt, two-warnings}
 use Rattle.validate_verdict.specs.declared.verdict.TotalsResult.TheVariants as totals
 use Rattle.validate_rules.specs.Findings.{MAX-DIAGNOSTICS, chunk_findings}
 use Rattle.validate_search.specs.Inner.Position.{out_of, start_position}
-use Rattle.validate_verdict.specs.declared.tally.Totals.{Totals}
-use Rattle.validate_verdict.specs.declared.verdict.VerdictAnswer.TheVariants as verdicts
-use Rattle.validate_verdict.specs.declared.verdict.CountAnswer.TheVariants as counts
-use Rattle.validate_verdict.specs.Inner.Totals.{tallied, verdict_shown}
-use Rattle.validate_verdict.specs.Answers.{shownVerdict, shownCount}
+use Rattle.validate_verdict.specs.Inner.Totals.{tallied}
 use Rattle.validate_verdict.specs.Inner.Counts.{totals_result, warning_count}
 use Rattle.validate_rules.specs.Rust.{validate}
 use Rattle.validate_rules.proofs.RustLaws.{validate-is}
 use Rattle.read_next.specs.Inner.Rows.{chunk_rows}
 use Rattle.read_next.proofs.Agreement.{rows_for, all_rows}
 use Rattle.validate_search.proofs.Whole.{whole}
-
-pub totals_refused : (o : Outcome) (q : Refusal) → judged.Err q ≡ judged_result o → totals.Err q ≡ totals_result o
-totals_refused o q e = sym (ap totals_result (was_refused o q e))
 
 kept-all : (ws : List Warning) → length ws ≤ 2 → warning_count (shown_warnings ws) ≡ length ws
 kept-all [] h = refl
@@ -104,12 +96,3 @@ module _ (L : ResourceLimits) (s : Bytes) (d : Summary) (e : judged.Ok d ≡ jud
 
   pub totals_shown : d.functions < 18446744073709551616 → totals.Ok (tallied (out_of L s MAX-DIAGNOSTICS (start_position 32 (warning_count d.warnings)))) ≡ totals_result (read L s)
   totals_shown few = ap (λ l. totals.Ok (tallied l)) (all-findings few) ∙ sym (ap totals_result was)
-
--- ## The verdict and the number, of what was counted
-pub verdict-refused : (o : Outcome) (q : Refusal) → totals.Err q ≡ totals_result o → (verdicts.Err q ≡ shownVerdict o) × (counts.Err q ≡ shownCount o)
-verdict-refused (shown r) q e = absurd (let z : ◌≡◌ {A = ℕ} 0 1 = cc in omega arith)
-verdict-refused (refusal p) q e = (cc, cc)
-
-pub verdict-shown : (o : Outcome) (t : Totals) → totals.Ok t ≡ totals_result o → (verdicts.Ok (verdict_shown t) ≡ shownVerdict o) × (counts.Ok t.count ≡ shownCount o)
-verdict-shown (shown r) t e = let same : t ≡ tallied (chunk_findings r) = cc in (ap (λ t. verdicts.Ok (verdict_shown t)) same, ap (λ t. counts.Ok t.count) same)
-verdict-shown (refusal q) t e = absurd (let z : ◌≡◌ {A = ℕ} 0 1 = cc in omega arith)

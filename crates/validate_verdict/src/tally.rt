@@ -11,7 +11,7 @@ use slice::cursor::Cursor;
 use validate_rules::finding::{Rule, Severity, Verdict};
 use validate_search::search::{Position, State, advance, start};
 
-#[derive(Drop)]
+#[derive(Clone, Copy)]
 pub struct Totals {
     pub count: u64,
     pub errors: bool,

@@ -13,19 +13,19 @@ use read_header::OptionWarning;
 use slice::cursor::Cursor;
 use validate_rules::finding::{MAX_DIAGNOSTICS, Verdict};
 
-#[derive(Drop)]
+#[derive(Clone, Copy)]
 enum TotalsResult {
     Ok(Totals),
     Err(Refusal),
 }
 
-#[derive(Drop)]
+#[derive(Clone, Copy)]
 pub enum VerdictAnswer {
     Ok(Verdict),
     Err(Refusal),
 }
 
-#[derive(Drop)]
+#[derive(Clone, Copy)]
 pub enum CountAnswer {
     Ok(u64),
     Err(Refusal),

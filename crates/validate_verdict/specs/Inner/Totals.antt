@@ -1,5 +1,5 @@
 -- What is counted of a listing, and the verdict on that.
-use Rattle.std.specs.Prelude.{Bool, true, false, ◌||◌, cond, ℕ, ◌+◌, length}
+use Rattle.std.specs.Prelude.{Bool, ◌||◌, cond, ℕ, ◌+◌, length}
 use Rattle.validate_rules.specs.declared.finding.Verdict.{Verdict}
 use Rattle.validate_rules.specs.declared.finding.Verdict.TheVariants.{ValidForAnalysis, Invalid, Incomplete}
 use Rattle.validate_verdict.specs.declared.tally.Totals.{Totals}
