@@ -3,12 +3,12 @@
 use mathlib.Core.Path.{◌≡◌, refl, sym, ap, ◌∙◌}
 use mathlib.Core.Bool.{Bool, true, false, cond}
 use mathlib.Core.List.{List, []}
-use Prim.Native.Nat.{ℕ, ◌≤◌, ◌<◌}
+use Prim.Native.Nat.{ℕ, ◌≤◌}
 use native.Mathlib.Omega.{arith}
 use lib.Dec.{leb}
 use lib.ListN.{length}
 use lib.Seq.{take-length}
-use borrow.Author.Tests.{leb-true, lt-leb, le-leb}
+use borrow.Author.Tests.{leb-true}
 use Rattle.format.specs.Limits.{MOST}
 use Rattle.format.specs.declared.limits.ResourceLimits.{ResourceLimits}
 use Rattle.format.specs.declared.refusal.Refusal.{Refusal}
@@ -18,11 +18,8 @@ use Rattle.format.specs.Reading.{Reading}
 use Rattle.format.specs.ReadChunk.{shown, refusal, read}
 use Rattle.validate_rules.specs.Findings.{MAX-DIAGNOSTICS, Listing, chunk_findings, verdict}
 use Rattle.validate_search.specs.Inner.Position.{out_of}
-use Rattle.validate_verdict.specs.Inner.Totals.{tallied, verdict_shown}
 use Rattle.validate_rules.specs.declared.finding.Finding.{Finding}
-use Rattle.validate_rules.specs.declared.finding.Verdict.{Verdict}
 use Rattle.validate_search.specs.declared.search.Position.{Position}
-use Rattle.validate_verdict.specs.declared.tally.Totals.{Totals}
 use Rattle.validate_plan.specs.declared.FindingsAnswer.TheVariants as answer
 use Rattle.slice.specs.Over.{over}
 use Rattle.validate_plan.specs.Validated.{listing_answer, shown_findings, findings_written}
@@ -76,17 +73,3 @@ module _ (L : ResourceLimits) (s : Bytes) (room : ℕ) (start : Position) where
 
     pub plan_made : Planned L s room (plan_of all room start)
     plan_made = by_room (leb (length all.findings) room) refl
-
--- ## The plan, of what was counted
-module _ (l : Listing) (room : ℕ) (start first : Position) (begins : first ≡ start) (t : Totals) (counted : t ≡ tallied l) where
-  count-is : t.count ≡ length l.findings
-  count-is = ap (λ t. t.count) counted
-
-  pub too_many : room < t.count → refused_plan LentSpace first ≡ plan_of l room start
-  too_many h = let z : room < length l.findings = omega (arith, count-is) in ap (refused_plan LentSpace) begins ∙ rw (lt-leb (length l.findings) room z)
-
-  pub all_fit : t.count ≤ room → (v : Verdict) → v ≡ verdict_shown t → record { answer = answer.Ok v t.count; count = t.count; start = first } ≡ plan_of l room start
-  all_fit h v is-v =
-      let z : length l.findings ≤ room = omega (arith, count-is) in
-      let judged : v ≡ verdict l = is-v ∙ ap verdict_shown counted in
-      (λ i. record { answer = answer.Ok (judged i) (count-is i); count = count-is i; start = begins i }) ∙ rw (le-leb (length l.findings) room z)

@@ -1,4 +1,6 @@
 // What the writer goes by: every decision before it writes, and one step.
+#![tactic(auto)]
+
 ghost use Rattle.std.specs.Prelude.{◌≡◌, ◌<◌, ◌≤◌};
 ghost use Rattle.format.specs.Limits.{MOST};
 ghost use Rattle.format.specs.ReadChunk as format;
@@ -16,7 +18,7 @@ use validate_search::search::{Position, Step, advance, start};
 use validate_verdict::tally::{tally, verdict_of};
 use validate_verdict::verdict::kept_count;
 
-#[derive(Drop)]
+#[derive(Clone, Copy)]
 pub enum FindingsAnswer {
     // The verdict, and how many findings there are.
     Ok { verdict: Verdict, count: usize },
@@ -24,7 +26,7 @@ pub enum FindingsAnswer {
 }
 
 // The answer, how many findings are to be written, and the position before the first.
-#[derive(Drop)]
+#[derive(Clone, Copy)]
 pub struct Plan {
     pub answer: FindingsAnswer,
     pub count: usize,
