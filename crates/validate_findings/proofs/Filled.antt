@@ -5,7 +5,7 @@ use mathlib.Core.List.{List, ◌∷◌, ◌++◌, append_assoc}
 use Prim.Native.Nat.{ℕ, suc, ◌+◌, ◌<◌, ◌≤◌}
 use native.Mathlib.Numerals.{add-one}
 use native.Mathlib.Omega.{arith}
-use lib.ListN.{length, get_or, set, take, drop, length-append, length-drop}
+use lib.ListN.{length, get_or, set, take, drop}
 use lib.Seq.{take-suc, drop-cons, set_at, length-take-le}
 use Rattle.validate_rules.specs.Findings.{Listing}
 use Rattle.validate_rules.specs.declared.finding.Finding.{Finding}
@@ -17,10 +17,6 @@ module _ (l : Listing) (ys : List Finding) where
   written-zero = refl
 
   module _ (n : ℕ) where
-    pub written-length : n ≤ length l.findings → n ≤ length ys → length (written l n ys) ≡ length ys
-    unfolding written
-    written-length h k = rw (length-append, length-take-le n l.findings h, length-drop) (omega arith)
-
     pub written_next : (f : Finding) → n < length l.findings → n < length ys → f ≡ get_or l.findings n f → set (written l n ys) n f ≡ written l (n + 1) ys
     unfolding written
     written_next f h k e =

@@ -1,5 +1,1 @@
 pub mod Filled
-pub mod Rest
-pub mod Turn
-pub mod Fields
-pub mod ArrayLent

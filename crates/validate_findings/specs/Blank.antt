@@ -4,7 +4,7 @@ use Rattle.validate_rules.specs.Findings.{MAX-DIAGNOSTICS}
 use Rattle.validate_rules.specs.declared.finding.Finding.{Finding}
 use Rattle.validate_rules.specs.declared.finding.Rule.TheVariants.{Register}
 
--- the last instruction may add two: there are at most 10,001 findings (crates/validate_search/proofs/Few.antt, `findings-few`)
+-- the last instruction may add two: there are at most 10,001 findings (crates/validate_search/proofs/Few.antt, `findings_few`)
 abbrev pub LONGEST : ℕ
 LONGEST = MAX-DIAGNOSTICS + 1
 

@@ -1,4 +1,4 @@
-// The findings of a chunk by value: a list that is long enough for all that there can be, filled by `validate_findings::validate_chunk_lua54`. Who calls this needs no walk by hand.
+// The findings of a chunk by value: a list that is long enough for all that there can be, filled by `validate_findings::validate_chunk_lua54`, for callers that have no list of their own.
 ghost use Rattle.std.specs.Prelude.{◌≡◌};
 ghost use Rattle.format.specs.ReadChunk as format;
 ghost use Rattle.validate_plan.specs.Validated.{shown_findings, findings_written};
@@ -19,6 +19,7 @@ pub struct FindingArray {
 }
 
 // Records that mean nothing.
+#[tactic(auto, unfolding(crate::specs::Blank::blank_list))]
 fn blank() -> [Finding; LONGEST]
     ensures { result ≡ blank_list }
 {

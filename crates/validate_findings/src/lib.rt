@@ -1,4 +1,6 @@
 // validator.rs: the findings of a chunk, in a list of records that the caller lends. The core is crate `validate_verdict`, which goes by value; here is the thin writer over it.
+#![tactic(auto)]
+
 pub mod array;
 
 ghost use Rattle.std.specs.Prelude.{◌≡◌, length};
