@@ -13,7 +13,7 @@ use Rattle.format.specs.declared.limits.ResourceLimits.{ResourceLimits}
 use Rattle.format.specs.declared.refusal.Refusal.{Refusal}
 use Rattle.format.specs.declared.refusal.Refusal.TheVariants.{NoFunction, NoEntry}
 use Rattle.format.specs.Form.{Bytes}
-use Rattle.format.specs.Reading.{Prototype, Reading}
+use Rattle.format.specs.Reading.{Prototype}
 use Rattle.format.specs.Read.{Read, ok, Reader}
 use Rattle.format.specs.ReadChunk.{Outcome, shown, refusal, read}
 use Rattle.format.proofs.Located.{Found, Located}
@@ -21,7 +21,6 @@ use Rattle.slice.specs.declared.cursor.Cursor.{Cursor}
 use Rattle.slice.specs.Shown.{cursor_at}
 use Rattle.read_prototype.specs.Inner.Row.{row_of, list_at}
 use Rattle.show_row.specs.declared.place.EntryKind.{EntryKind}
-use Rattle.show_row.specs.declared.place.PlaceAnswer.{PlaceAnswer}
 use Rattle.show_row.specs.declared.place.PlaceAnswer.TheVariants as place
 use Rattle.show_row.specs.Asked.{Asked, found, refused, or_refuse, function_of, entry_in, entry_of}
 use Rattle.show_row.specs.Inner.Places.{list_of, place_in, shown_place}

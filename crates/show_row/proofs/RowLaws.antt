@@ -1,32 +1,28 @@
--- The row of a function by its number, and where its lists stand, in the code's terms.
+-- The row of a function by its number, in the code's terms.
 -- Assumes nothing.
 use mathlib.Core.Path.{◌≡◌, refl, sym, ◌∙◌, ap}
-use mathlib.Core.Bool.{Bool, true, false, cond}
+use mathlib.Core.Bool.{cond}
 use mathlib.Core.List.{List, [], ◌∷◌}
 use mathlib.Core.Option.{Option, none, some}
-use Prim.Native.Nat.{ℕ, zero, suc, ◌+◌, ◌≤◌, ◌<◌}
+use Prim.Native.Nat.{ℕ, zero, suc, ◌+◌}
 use native.Mathlib.Omega.{arith}
 use lib.ListN.{get_elem?}
-use borrow.Author.Tests.{lt-ltb, le-ltb, eq-eqb, ne_eqb}
-use lib.Dec.{eqb, ltb}
+use borrow.Author.Tests.{eq-eqb, ne_eqb}
 use Rattle.format.specs.declared.refusal.Refusal.{Refusal}
-use Rattle.format.specs.declared.refusal.Refusal.TheVariants.{NoFunction, NoEntry}
-use Rattle.format.specs.Reading.{Prototype, Reading}
+use Rattle.format.specs.declared.refusal.Refusal.TheVariants.{NoFunction}
+use Rattle.format.specs.Reading.{Prototype}
 use Rattle.format.specs.ReadChunk.{Outcome, shown, refusal}
-use Rattle.slice.specs.Shown.{cursor_at}
 use Rattle.read_prototype.specs.declared.row.FunctionRow.{FunctionRow}
 use Rattle.read_prototype.specs.declared.row.OptionRow.{OptionRow}
 use Rattle.read_prototype.specs.declared.row.OptionRow.TheVariants as option
-use Rattle.read_prototype.specs.Inner.Row.{row_of, shown_row, lookup}
+use Rattle.read_prototype.specs.Inner.Row.{shown_row, lookup}
 use Rattle.read_chunk.specs.declared.summary.Decoded.{Decoded}
 use Rattle.read_chunk.specs.declared.summary.DecodedResult.TheVariants as decoded
 use Rattle.read_chunk.specs.Inner.Decoded.{decoded_result}
 use Rattle.show_row.specs.declared.row.RowAnswer.{RowAnswer}
 use Rattle.show_row.specs.declared.row.RowAnswer.TheVariants as row
-use Rattle.show_row.specs.declared.place.EntryKind.{EntryKind}
-use Rattle.show_row.specs.declared.place.PlaceAnswer.TheVariants as place
-use Rattle.show_row.specs.Asked.{Asked, found, refused, or_refuse, function_of}
-use Rattle.show_row.specs.Inner.Places.{shown_row_answer, list_of, place_in, shown_place}
+use Rattle.show_row.specs.Asked.{or_refuse, function_of}
+use Rattle.show_row.specs.Inner.Places.{shown_row_answer}
 
 -- a function by its number is the item of that number
 lookup-from : (n k : ℕ) (ps : List Prototype) → lookup (k + n) k ps ≡ get_elem? ps n
@@ -64,19 +60,3 @@ module _ (f : ℕ) where
 
   pub row_some : (o : Outcome) (d : Decoded) → decoded.Ok d ≡ decoded_result f o → (x : FunctionRow) → d.row ≡ option.Some x → row.Ok x ≡ shown_row_answer (function_of f o)
   row_some o d e x is = sym (ap row_or is) ∙ by_row o d e
-
--- ## The lists
-module _ (k : EntryKind) (i : ℕ) where
-  pub place-refused : (a : Asked Prototype) (q : Refusal) → row.Err q ≡ shown_row_answer a → place.Err q ≡ shown_place k i a
-  place-refused (found p) q e = absurd (let z : ◌≡◌ {A = ℕ} 0 1 = cc in omega arith)
-  place-refused (refused p) q e = cc
-
-  in_row : (a : Asked Prototype) (x : FunctionRow) → row.Ok x ≡ shown_row_answer a → place_in (list_of k x) i ≡ shown_place k i a
-  in_row (found p) x e = let same : x ≡ row_of p = cc in ap (λ x. place_in (list_of k x) i) same
-  in_row (refused p) x e = absurd (let z : ◌≡◌ {A = ℕ} 0 1 = cc in omega arith)
-
-  pub place-there : (a : Asked Prototype) (x : FunctionRow) → row.Ok x ≡ shown_row_answer a → i < (list_of k x).count → place.Ok (cursor_at (list_of k x).place) ≡ shown_place k i a
-  place-there a x e h = sym (ap (λ b. cond b (place.Ok (cursor_at (list_of k x).place)) (place.Err NoEntry)) (lt-ltb i (list_of k x).count h)) ∙ in_row a x e
-
-  pub place_beyond : (a : Asked Prototype) (x : FunctionRow) → row.Ok x ≡ shown_row_answer a → (list_of k x).count ≤ i → place.Err NoEntry ≡ shown_place k i a
-  place_beyond a x e h = sym (ap (λ b. cond b (place.Ok (cursor_at (list_of k x).place)) (place.Err NoEntry)) (le-ltb i (list_of k x).count h)) ∙ in_row a x e

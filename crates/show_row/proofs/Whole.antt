@@ -2,16 +2,16 @@
 -- Assumes nothing.
 use mathlib.Core.Path.{◌≡◌, refl, sym, ◌∙◌, ap}
 use mathlib.Core.List.{List, [], ◌∷◌}
-use mathlib.Core.Option.{Option, none, some}
+use mathlib.Core.Option.{some}
 use Prim.Native.Nat.{ℕ, zero, suc}
 use native.Mathlib.Omega.{arith}
-use lib.ListN.{length, drop, get_elem?}
+use lib.ListN.{drop, get_elem?}
 use Rattle.format.specs.declared.limits.ResourceLimits.{ResourceLimits}
 use Rattle.format.specs.Form.{Bytes, All}
-use Rattle.format.specs.Reading.{Reading, Prototype}
+use Rattle.format.specs.Reading.{Reading}
 use Rattle.format.specs.GrammarChunk.{Loaded, reading}
 use Rattle.format.specs.Read.{Read, ok, refused}
-use Rattle.format.specs.ReadChunk.{main, outcome, Outcome, shown, refusal, read}
+use Rattle.format.specs.ReadChunk.{main, outcome, shown, read}
 use Rattle.format.proofs.ExactChunk.{exact_main}
 use Rattle.format.proofs.Left.{left}
 use Rattle.format.proofs.Located.{Located, all_located}

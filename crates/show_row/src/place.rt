@@ -11,7 +11,7 @@ use read_prototype::row::{FunctionRow, ListAt};
 use slice::cursor::Cursor;
 
 // The lists of a function that hold entries of their own.
-#[derive(Drop)]
+#[derive(Clone, Copy)]
 pub enum EntryKind {
     Instruction,
     Constant,
@@ -23,7 +23,7 @@ pub enum EntryKind {
 }
 
 // The cursor at the first entry of the list, or the refusal.
-#[derive(Drop)]
+#[derive(Clone, Copy)]
 pub enum PlaceAnswer {
     Ok(Cursor),
     Err(Refusal),

@@ -10,7 +10,7 @@ use read_chunk::summary::{DecodedResult, decode_chunk_lua54};
 use read_prototype::row::{FunctionRow, OptionRow};
 
 // The function's fields, and count and place of each of its lists; or the refusal.
-#[derive(Drop)]
+#[derive(Clone, Copy)]
 pub enum RowAnswer {
     Ok(FunctionRow),
     Err(Refusal),
