@@ -1,5 +1,5 @@
 -- What is shown of a function: the fields that 01 lists.
-use Rattle.std.specs.Prelude.{ℕ, length}
+use Rattle.std.specs.Prelude.{length}
 use Rattle.format.specs.Reading.{Prototype}
 use Rattle.read_field.specs.Shown.{option_string}
 use Rattle.show_chunk.specs.declared.fields.FunctionFields.{FunctionFields}
@@ -11,9 +11,9 @@ abbrev pub fields_of : Prototype → FunctionFields
 fields_of p = record {
   depth = p.depth;
   parent = p.parent;
-  source_name = option_string p.source-name;
-  line_defined = p.line-defined;
-  last_line_defined = p.last-line_defined;
+  source_name = option_string p.source_name;
+  line_defined = p.line_defined;
+  last_line_defined = p.last_line_defined;
   numparams = p.numparams;
   is_vararg = p.is_vararg;
   maxstacksize = p.maxstacksize;

@@ -12,7 +12,7 @@ use read_prototype::row::FunctionRow;
 use show_row::row::{RowAnswer, function_row};
 
 // How many entries each list has, in the order of the file.
-#[derive(Drop)]
+#[derive(Clone, Copy)]
 pub struct Counts {
     pub instructions: usize,
     pub constants: usize,
@@ -24,7 +24,7 @@ pub struct Counts {
     pub upvalue_names: usize,
 }
 
-#[derive(Drop)]
+#[derive(Clone, Copy)]
 pub struct FunctionFields {
     pub depth: usize,
     // The parent's number; 0 for main.
@@ -38,7 +38,7 @@ pub struct FunctionFields {
     pub counts: Counts,
 }
 
-#[derive(Drop)]
+#[derive(Clone, Copy)]
 pub enum FieldsAnswer {
     Ok(FunctionFields),
     Err(Refusal),

@@ -8,14 +8,14 @@ use format::limits::ResourceLimits;
 use format::refusal::Refusal;
 use read_chunk::summary::{SpeltResult, Summary, judge_spelling};
 
-#[derive(Drop)]
+#[derive(Clone, Copy)]
 pub struct ChunkSummary {
     pub summary: Summary,
     // How many of the chunk's numbers, string sizes and counts among them, are not in their shortest form.
     pub padded_numbers: usize,
 }
 
-#[derive(Drop)]
+#[derive(Clone, Copy)]
 pub enum SummaryAnswer {
     Ok(ChunkSummary),
     Err(Refusal),
