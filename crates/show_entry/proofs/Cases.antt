@@ -14,7 +14,6 @@ use Rattle.format.specs.Reading as reading
 use Rattle.format.specs.ReadChunk.{body, function, Outcome, read}
 use Rattle.format.proofs.Distinct.{distinct}
 use Rattle.read_field.specs.declared.string.OptionString.TheVariants as string
-use Rattle.read_entry.specs.declared.constant.ConstantValue.{ConstantValue}
 use Rattle.read_entry.specs.declared.constant.ConstantValue.TheVariants as constant
 use Rattle.show_row.specs.Asked.{found, entry_of}
 use Rattle.show_entry.specs.declared.WordAnswer.TheVariants as word-answer

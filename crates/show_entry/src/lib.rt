@@ -1,4 +1,6 @@
 // One entry of a function, by the function's number and its own.
+#![tactic(auto)]
+
 ghost use Rattle.std.specs.Prelude.{◌≡◌};
 ghost use Rattle.std.specs.Int.{w8};
 ghost use Rattle.std.proofs.Common.{to_z};
@@ -18,7 +20,7 @@ use read_nth::code::{UpvalueResult, nth_constant, nth_upvalue, nth_word};
 use read_nth::debug::{nth_anchor, nth_delta, nth_name};
 use show_row::place::{EntryKind, PlaceAnswer, entry_list};
 
-#[derive(Drop)]
+#[derive(Clone, Copy)]
 pub enum WordAnswer {
     Ok(u32),
     Err(Refusal),
@@ -44,7 +46,7 @@ pub fn instruction(s: &[u8], limits: ResourceLimits, function: usize, entry: usi
     }
 }
 
-#[derive(Drop)]
+#[derive(Clone, Copy)]
 pub enum ConstantAnswer {
     Ok(ConstantValue),
     Err(Refusal),
@@ -75,7 +77,7 @@ pub fn constant(s: &[u8], limits: ResourceLimits, function: usize, entry: usize)
     }
 }
 
-#[derive(Drop)]
+#[derive(Clone, Copy)]
 pub enum UpvalueAnswer {
     Ok(UpvalueDesc),
     Err(Refusal),
@@ -101,7 +103,7 @@ pub fn upvalue(s: &[u8], limits: ResourceLimits, function: usize, entry: usize) 
     }
 }
 
-#[derive(Drop)]
+#[derive(Clone, Copy)]
 pub enum DeltaAnswer {
     Ok(i8),
     Err(Refusal),
@@ -137,7 +139,7 @@ pub fn delta(s: &[u8], limits: ResourceLimits, function: usize, entry: usize) ->
     }
 }
 
-#[derive(Drop)]
+#[derive(Clone, Copy)]
 pub enum AnchorAnswer {
     Ok(AbsLineInfo),
     Err(Refusal),
@@ -163,7 +165,7 @@ pub fn anchor(s: &[u8], limits: ResourceLimits, function: usize, entry: usize) -
     }
 }
 
-#[derive(Drop)]
+#[derive(Clone, Copy)]
 pub enum NameAnswer {
     Ok(OptionString),
     Err(Refusal),
