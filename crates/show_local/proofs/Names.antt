@@ -1,7 +1,7 @@
 -- A local variable and its name, in the code's terms.
 -- Assumes nothing.
 use mathlib.Core.Path.{◌≡◌, refl, sym, ◌∙◌, ap}
-use mathlib.Core.Bool.{Bool, true, false, cond}
+use mathlib.Core.Bool.{true, false, cond}
 use mathlib.Core.List.{[], ◌∷◌, ◌++◌}
 use mathlib.Core.Option.{Option, none, some}
 use Prim.Native.Nat.{ℕ, ◌-◌, ◌≤◌, ◌<◌}
@@ -16,7 +16,7 @@ use Rattle.format.specs.declared.refusal.Refusal.TheVariants.{LentSpace}
 use Rattle.format.specs.Form.{Bytes}
 use Rattle.format.specs.GrammarFields.{LuaString}
 use Rattle.format.specs.Reading.{LocalVar}
-use Rattle.format.specs.Read.{Read, ok}
+use Rattle.format.specs.Read.{ok}
 use Rattle.format.specs.ReadChunk.{read}
 use Rattle.format.proofs.Located.{StandsIf}
 use Rattle.slice.specs.declared.cursor.Cursor.{Cursor}
@@ -31,13 +31,12 @@ use Rattle.read_entry.specs.Shown as lists
 use Rattle.slice.specs.Inner.Splice.{splice}
 use Rattle.slice.proofs.Splices.{splice_front, splice_set}
 use Rattle.read_nth.specs.Inner.Nth.{local_at}
-use Rattle.read_nth.proofs.Items.{LocalFound, local_nth}
+use Rattle.read_nth.proofs.Items.{local_nth}
 use Rattle.read_nth.proofs.Strings.{local_stands}
-use Rattle.show_local.specs.declared.LocalAnswer.{LocalAnswer}
 use Rattle.show_local.specs.declared.LocalAnswer.TheVariants as answer
 use Rattle.show_row.specs.declared.place.EntryKind.TheVariants as kind
 use Rattle.show_row.specs.declared.place.PlaceAnswer.TheVariants as place
-use Rattle.show_row.specs.Asked.{Asked, found, refused, function_of, entry_of}
+use Rattle.show_row.specs.Asked.{found, function_of, entry_of}
 use Rattle.show_local.specs.Locals.{shown_local, name_written}
 use Rattle.show_local.specs.Inner.Names.{name_length, name_bytes, Stands}
 use Rattle.show_row.specs.Inner.Places.{shown_place}

@@ -1,4 +1,6 @@
 // A local variable of a function: its name is copied into space that the caller lends.
+#![tactic(auto)]
+
 ghost use Rattle.std.specs.Prelude.{◌≡◌, ◌++◌, ◌≤◌, length, drop};
 ghost use Rattle.format.specs.ReadChunk.{read};
 ghost use Rattle.show_row.specs.Asked.{entry_of};
@@ -14,7 +16,7 @@ use show_row::place::{EntryKind, PlaceAnswer, entry_list};
 use slice::lent::copy_bytes;
 
 // The length of the name, which stands at the front of the lent space, and the instructions between which the variable lives.
-#[derive(Drop)]
+#[derive(Clone, Copy)]
 pub enum LocalAnswer {
     Ok {
         name_len: usize,
