@@ -1,4 +1,6 @@
 // The numbers of a function, stored.
+#![tactic(auto)]
+
 ghost use Rattle.std.specs.Prelude.{◌≡◌, [], ◌∷◌, ◌+◌, ◌*◌, ◌≤◌, length};
 ghost use Rattle.slice.specs.Inner.Splice.{splice};
 ghost use Rattle.index_row.specs.Inner.Stored.{COLUMNS, low, stored_head, stored_places, stored_tail};
