@@ -106,14 +106,14 @@ module _ (L : ResourceLimits) (few : L.max_total_prototypes ≤ MOST) where
       within_then within-here λ start h1.
       within_then any λ spelt _.
       within_then any λ line_defined _.
-      within_then any λ last-line_defined _.
+      within_then any λ last_line_defined _.
       within_then any λ numparams _.
       within_then any λ is_vararg _.
       within_then any λ maxstacksize _.
       within_then any λ size _.
       within_then any λ _ _.
       within_then any λ _ _.
-      within_then within-here λ instructions-at h11.
+      within_then within-here λ instructions_at h11.
       within_then (within-many size (takes_field 4 (omega arith))) λ instructions h2.
       within_then (within-counted_up_to L.max_constants_per_proto (takes_then (takes_field 1 (omega arith)))) λ constants h3.
       within_then (within-counted_up_to L.max_upvalues_per_proto (takes_then (takes_field 1 (omega arith)))) λ upvalues h4.

@@ -1,4 +1,6 @@
 // The index: a row of numbers for each function of a chunk, written into lent space.
+#![tactic(auto)]
+
 ghost use Rattle.std.specs.Prelude.{◌≡◌, length};
 ghost use Rattle.format.specs.ReadChunk as format;
 ghost use Rattle.index.specs.Index.{shown_index, index_written};
@@ -13,7 +15,7 @@ use read_walk::walk::Skimmed;
 use slice::cursor::Cursor;
 
 // The number of functions, or why there is no index.
-#[derive(Drop)]
+#[derive(Clone, Copy)]
 pub enum IndexAnswer {
     Ok(usize),
     Err(Refusal),
