@@ -1,4 +1,6 @@
 // One pass over a function's anchors: from where deltas are added, and whether a line is too large.
+#![tactic(auto)]
+
 ghost use Rattle.std.specs.Prelude.{◌≡◌, true, false, cond, drop};
 ghost use Rattle.format.specs.Read.{many};
 ghost use Rattle.format.specs.ReadChunk.{anchor};
@@ -10,14 +12,14 @@ use read_entry::debug::{AnchorResult, read_anchor};
 use slice::cursor::Cursor;
 
 // The anchor that has the pc for its number: how many are before it, or its line.
-#[derive(Drop)]
+#[derive(Clone, Copy)]
 pub enum Sought {
     Ahead(usize),
     At(usize),
 }
 
 // What the anchors so far have settled. `base` and `reset` are each a line, and the pc from which deltas are added to it.
-#[derive(Drop)]
+#[derive(Clone, Copy)]
 pub struct Scan {
     // A line is 2^62 or more.
     pub large: bool,
@@ -30,7 +32,7 @@ pub struct Scan {
     pub sought: Sought,
 }
 
-#[derive(Drop)]
+#[derive(Clone, Copy)]
 pub enum ScanResult {
     Ok(Scan),
     Err(Refusal),
