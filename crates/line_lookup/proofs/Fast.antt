@@ -57,10 +57,10 @@ module _ (ds : Bytes) where
   pub record Settled (anchors : List AbsLineInfo) (r : AbsLineInfo) : Type 0 where
     pub later : (j : ℕ) → r.pc ≤ j → get_or ds j 0 ≡ 128 → (z : ℤ) → line_at j anchors z ≡ z
     pub minus_128 : (i : ℕ) → r.pc ≡ suc i → get_or ds i 0 ≡ 128
-    pub line-is : (i : ℕ) → r.pc ≡ suc i → (z : ℤ) → line_at i anchors z ≡ pos r.line
+    pub line_is : (i : ℕ) → r.pc ≡ suc i → (z : ℤ) → line_at i anchors z ≡ pos r.line
 
   pub none_settled : Settled [] (record { pc = 0; line = 0 })
-  none_settled = record { later = λ j h e z. refl; minus_128 = λ i e. absurd (omega arith); line-is = λ i e z. absurd (omega arith) }
+  none_settled = record { later = λ j h e z. refl; minus_128 = λ i e. absurd (omega arith); line_is = λ i e z. absurd (omega arith) }
 
   -- ## One anchor more
   module _ (anchors : List AbsLineInfo) (r a : AbsLineInfo) (so : Settled anchors r) where
@@ -74,14 +74,14 @@ module _ (ds : Bytes) where
     stays other = record {
       later = λ j h e z. unmoved j z (other j h e) ∙ so.later j h e z;
       minus_128 = so.minus_128;
-      line-is = λ i e z. line_at-append i anchors (a ∷ []) z ∙ so.line-is i e (line_at i (a ∷ []) z);
+      line_is = λ i e z. line_at-append i anchors (a ∷ []) z ∙ so.line_is i e (line_at i (a ∷ []) z);
     }
 
     moves : get_or ds a.pc 0 ≡ 128 → r.pc ≤ a.pc → Settled one_more (record { pc = a.pc + 1; line = a.line })
     moves e h = record {
       later = λ j k f z. unmoved j z (λ p. omega arith) ∙ so.later j (omega arith) f z;
       minus_128 = λ i p. let same : i ≡ a.pc = omega arith in rw same e;
-      line-is = λ i p z.
+      line_is = λ i p z.
           let same : a.pc ≡ i = omega arith in
           line_at-append i anchors (a ∷ []) z
           ∙ ap (λ b. line_at i anchors (cond b (pos a.line) z)) (eq-eqb a.pc i same)
@@ -137,7 +137,7 @@ module _ (ds : Bytes) where
             let same = eqb-true k i t in
             let is : d ≡ 128 = sym (from-head k ds e) ∙ ap (λ n. get_or ds n 0) same ∙ so.minus_128 i p in
             ap (λ b. walked anchors (k + 1) (cond b (line_at k anchors z) (z +ℤ to_z w8 d)) xs) (eq-eqb d 128 is)
-            ∙ ap (λ y. walked anchors (k + 1) y xs) (ap (λ n. line_at n anchors z) same ∙ so.line-is i p z)
+            ∙ ap (λ y. walked anchors (k + 1) y xs) (ap (λ n. line_at n anchors z) same ∙ so.line_is i p z)
             ∙ ap (walked anchors (k + 1) (pos r.line)) (sym (next-is k ds e))
             ∙ ap (λ n. walked anchors (n + 1) (pos r.line) (drop (n + 1) ds)) same
         by false t go = go (less k i h (eqb-false k i t))

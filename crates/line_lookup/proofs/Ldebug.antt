@@ -2,7 +2,7 @@
 --     Compiled         the premises
 --     same_line        the theorem
 -- Assumes nothing.
-use mathlib.Core.Path.{◌≡◌, refl, sym, ◌∙◌, ap}
+use mathlib.Core.Path.{◌≡◌, refl, sym, ◌∙◌, ap, subst}
 use mathlib.Core.Bool.{Bool, true, false, cond}
 use mathlib.Core.List.{List, [], ◌∷◌}
 use mathlib.Core.Option
@@ -147,7 +147,8 @@ module _ (line_defined instructions : ℕ) (deltas : Bytes) (anchors : List AbsL
         let b = base a more e in
         let x = number (pos b.line) in
         let zero-plus : 0 + pc ≡ pc = omega arith in
-        let there : At pc (a ∷ more) = rw (e, zero-plus) at x.there in
+        let moved : At pc anchors = subst (λ n. At n anchors) zero-plus x.there in
+        let there : At pc (a ∷ more) = subst (At pc) e moved in
         let up = (rising a more e).1 in
         let begun : a.pc ≤ pc = from_on a.pc pc (a ∷ more) (omega arith, up) there in
         let least = base_last pc a more up pc there (omega arith) in

@@ -3,7 +3,7 @@
 --     sums_fit         so each line on the way through a file's deltas fits
 -- Assumes nothing.
 use mathlib.Core.Path.{◌≡◌, refl, sym, ◌∙◌}
-use mathlib.Core.Bool.{Bool, true, false, ◌||◌, or_false}
+use mathlib.Core.Bool.{Bool, true, false, ◌||◌, or-false}
 use mathlib.Core.List.{List, [], ◌∷◌}
 use Prim.Native.Nat.{ℕ, suc, ◌+◌, ◌-◌, ◌*◌, ◌^◌, ◌≤◌, ◌<◌}
 use native.Mathlib.Omega.{arith}
@@ -53,7 +53,7 @@ abbrev pub Low : AbsLineInfo → Type 0
 Low a = a.line < 2 ^ 62
 
 pub all-low : (line : ℕ) (anchors : List AbsLineInfo) → large line anchors ≡ false → (line < 2 ^ 62) × All Low anchors
-all-low line [] e = (leb-false (2 ^ 62) line (sym (or_false (leb (2 ^ 62) line)) ∙ e), tt)
+all-low line [] e = (leb-false (2 ^ 62) line (sym (or-false (leb (2 ^ 62) line)) ∙ e), tt)
 all-low line (a ∷ more) e = by (leb (2 ^ 62) line) refl e (all-low a.line more)
   where
     by : (t : Bool) → leb (2 ^ 62) line ≡ t → (t || large a.line more) ≡ false → (large a.line more ≡ false → Low a × All Low more) → (line < 2 ^ 62) × (Low a × All Low more)

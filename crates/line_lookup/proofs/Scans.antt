@@ -5,7 +5,7 @@
 --     scanned-small    else the base and the reset are below 2^62
 -- Assumes nothing.
 use mathlib.Core.Path.{◌≡◌, refl, sym, ◌∙◌, ap}
-use mathlib.Core.Bool.{Bool, true, false, cond, ◌||◌, or_false}
+use mathlib.Core.Bool.{Bool, true, false, cond, ◌||◌, or-false}
 use mathlib.Core.List.{List, [], ◌∷◌}
 use mathlib.Core.Option.{Option, none, some, map}
 use Prim.Native.Nat.{ℕ, zero, suc, ◌-◌, ◌^◌, ◌≤◌}
@@ -72,7 +72,7 @@ module _ (ds : Bytes) (pc : ℕ) where
   large_stays z (a ∷ more) e = large_stays (passed ds pc z a) more (ap (λ b. or_large b a.line) e)
 
   large-from : (line : ℕ) (z : Scan) (anchors : List AbsLineInfo) → z.large ≡ leb (2 ^ 62) line → (scanned ds pc z anchors).large ≡ large line anchors
-  large-from line z [] e = e ∙ sym (or_false (leb (2 ^ 62) line))
+  large-from line z [] e = e ∙ sym (or-false (leb (2 ^ 62) line))
   large-from line z (a ∷ more) e = by (leb (2 ^ 62) line) e (large-from a.line (passed ds pc z a) more)
     where
       by : (t : Bool) → z.large ≡ t → (or_large z.large a.line ≡ leb (2 ^ 62) a.line → (scanned ds pc (passed ds pc z a) more).large ≡ large a.line more)

@@ -15,7 +15,7 @@ use show_row::row::{RowAnswer, function_row};
 use slice::bytes::bytes_at;
 use slice::cursor::Cursor;
 
-#[derive(Drop)]
+#[derive(Clone, Copy)]
 pub enum LineAnswer {
     Ok(usize),
     Err(Refusal),
