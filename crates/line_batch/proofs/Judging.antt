@@ -5,7 +5,7 @@
 --     stop-.., go      what is decided, by the tests
 -- Assumes nothing.
 use mathlib.Core.Path.{◌≡◌, refl, sym, ◌∙◌, ap}
-use mathlib.Core.Bool.{Bool, true, false, ◌&&◌, ◌||◌, cond, or_false, and_true}
+use mathlib.Core.Bool.{Bool, true, false, ◌&&◌, ◌||◌, cond, or-false, and-true}
 use mathlib.Core.List.{List, [], ◌∷◌, map}
 use mathlib.Core.Option.{none}
 use Prim.Native.Nat.{ℕ, ◌+◌, ◌^◌, ◌≤◌, ◌<◌}
@@ -28,7 +28,7 @@ use Rattle.line_batch.specs.Inner.Judged.{still_rising, see_by, seen_of, start_s
 
 -- ## The anchors
 large-from : (z : Seen) (anchors : List AbsLineInfo) → (seen_of z anchors).large ≡ (z.large || any (leb (2 ^ 62)) (map (λ (a : AbsLineInfo). a.line) anchors))
-large-from z [] = sym (or_false z.large)
+large-from z [] = sym (or-false z.large)
 large-from z (a ∷ more) = large-from (see_by z a) more ∙ by z.large (any (leb (2 ^ 62)) (map (λ (a : AbsLineInfo). a.line) more))
   where
     by : (b later : Bool) → (or_large b a.line || later) ≡ (b || (leb (2 ^ 62) a.line || later))
@@ -40,7 +40,7 @@ seen_large line anchors = large-from (start_seen line) anchors
 
 -- behind the anchor b
 rising_from : (z : Seen) (b : AbsLineInfo) → z.any ≡ true → z.last ≡ b.pc → (anchors : List AbsLineInfo) → (seen_of z anchors).rising ≡ (z.rising && ordered_from below b anchors)
-rising_from z b one last [] = sym (and_true z.rising)
+rising_from z b one last [] = sym (and-true z.rising)
 rising_from z b one last (a ∷ more) = rising_from (see_by z a) a refl refl more ∙ by z.rising
   where
     by : (r : Bool) → (cond r (cond z.any (ltb z.last a.pc) true) false && ordered_from below a more) ≡ (r && (ltb b.pc a.pc && ordered_from below a more))

@@ -6,7 +6,7 @@
 --     read_distinct    as many as the list of all walks has distinct numbers
 -- Assumes nothing.
 use mathlib.Core.Path.{◌≡◌, refl, sym, ◌∙◌, ap, ap₂}
-use mathlib.Core.Bool.{Bool, true, false, ◌||◌, cond, or_assoc, or_false}
+use mathlib.Core.Bool.{Bool, true, false, ◌||◌, cond, or_assoc, or-false}
 use mathlib.Core.List.{List, [], ◌∷◌, ◌++◌, map}
 use mathlib.Core.Logic.{◌⊎◌, inl, inr, ⊎_elim}
 use mathlib.Core.Option.{Option, none, some, get_or}
@@ -213,7 +213,7 @@ count_distinct n (x ∷ xs) all = by (has xs x) refl (count_distinct n xs all.1)
 
     -- it does not
     new : (i : ℕ) → eqb x i ≡ within x (x + 1) i
-    new i = sym (or_false (eqb x i)) ∙ has-from (0 ∷ []) x i
+    new i = sym (or-false (eqb x i)) ∙ has-from (0 ∷ []) x i
 
     by : (t : Bool) → has xs x ≡ t → count_below n (has xs) ≡ length (distinct xs) → count_below n (has (x ∷ xs)) ≡ length (cond t (distinct xs) (x ∷ distinct xs))
     by true e rest = count_same n (has (x ∷ xs)) (has xs) (λ i h. again e i (eqb x i) refl) ∙ rest

@@ -45,7 +45,7 @@ module _ (anchors : List AbsLineInfo) where
   -- where passing is: so many anchors were passed, and the line is the last one's
   record At (left : List AbsLineInfo) (number line : ℕ) : Type 0 where
     left_is : left ≡ drop number anchors
-    line-is : (i : ℕ) → number ≡ suc i → line_there anchors i ≡ some line
+    line_is : (i : ℕ) → number ≡ suc i → line_there anchors i ≡ some line
 
   passes : (pc : ℕ) → pc < length anchors → (left : List AbsLineInfo) (number line : ℕ) → At left number line → number ≤ pc + 1
       → let z = pass_up pc left number line in At z.left z.number z.line × (z.number ≡ pc + 1)
@@ -58,7 +58,7 @@ module _ (anchors : List AbsLineInfo) where
       next : At more (number + 1) a.line
       next = record {
         left_is = one.1 ∙ ap (λ n. drop n anchors) (sym (add-one number));
-        line-is = λ i e. let same : i ≡ number = omega arith in ap (line_there anchors) same ∙ ap (Option.map (λ (a : AbsLineInfo). a.line)) one.0;
+        line_is = λ i e. let same : i ≡ number = omega arith in ap (line_there anchors) same ∙ ap (Option.map (λ (a : AbsLineInfo). a.line)) one.0;
       }
 
       by : (t : Bool) → leb number pc ≡ t
@@ -104,7 +104,7 @@ module _ (anchors : List AbsLineInfo) where
               let number = to.1 in
               let rest = go to.0 (omega arith) in
               let here : rule2 instructions anchors pc ≡ some (pass_to pc z).line =
-              ap (λ t. cond t (line_there anchors pc) none) same ∙ to.0.line-is pc (number ∙ add-one pc) in
+              ap (λ t. cond t (line_there anchors pc) none) same ∙ to.0.line_is pc (number ∙ add-one pc) in
               record {
                 front = pc ∷ rest.front;
                 back = rest.back;
@@ -118,5 +118,5 @@ module _ (anchors : List AbsLineInfo) where
     parts pcs s = by (eqb (length anchors) instructions) refl
       where
         by : (t : Bool) → eqb (length anchors) instructions ≡ t → Parts (cond t (numbered_from (length anchors) (none_passed anchors) pcs) []) pcs
-        by true e = numbered_parts e pcs 0 (none_passed anchors) (record { left_is = refl; line-is = λ i e. absurd (omega arith) }) (omega arith) (sym (falls_first pcs) ∙ s)
+        by true e = numbered_parts e pcs 0 (none_passed anchors) (record { left_is = refl; line_is = λ i e. absurd (omega arith) }) (omega arith) (sym (falls_first pcs) ∙ s)
         by false e = record { front = []; back = pcs; is = refl; given = refl; others = not_full e pcs }

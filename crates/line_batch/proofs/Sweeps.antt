@@ -93,7 +93,7 @@ module _ (line_defined : ℕ) (deltas : Bytes) (anchors : List AbsLineInfo) (up 
     pub low : b.pc ≤ above
     pub later : (q : ℕ) → above ≤ q + 1 → base q ≡ base_of q b z.left
     pub rising : RisingFrom above z.left
-    pub at-is : z.at ≡ b.pc + length (drop b.pc (take above deltas))
+    pub at_is : z.at ≡ b.pc + length (drop b.pc (take above deltas))
     pub from_is : z.from ≡ b.line
     pub sum_is : z.sum ≡ summed (pos 0) (drop b.pc (take above deltas))
 
@@ -101,7 +101,7 @@ module _ (line_defined : ℕ) (deltas : Bytes) (anchors : List AbsLineInfo) (up 
   first = record { left = anchors; at = 0; from = line_defined; sum = pos 0; read = 0 }
 
   pub at_first : Reached 0 (record { pc = 0; line = line_defined }) first
-  at_first = record { low = omega arith; later = λ q h. refl; rising = up; at-is = refl; from_is = refl; sum_is = refl }
+  at_first = record { low = omega arith; later = λ q h. refl; rising = up; at_is = refl; from_is = refl; sum_is = refl }
 
   -- ## One pc further
   module _ (above : ℕ) (b : AbsLineInfo) (z : Step) (here : Reached above b z) (q : ℕ) (h : above ≤ q + 1) where
@@ -119,19 +119,19 @@ module _ (line_defined : ℕ) (deltas : Bytes) (anchors : List AbsLineInfo) (up 
 
     -- where the new deltas begin: where the walk was, with the base it had; or at a new base, which is not before
     record From : Type 0 where
-      not-before : z.at ≤ took.at
+      not_before : z.at ≤ took.at
       base_at : c.pc ≤ took.at
       old_or_new : (b.pc ≡ c.pc) ⊎ (took.at ≡ c.pc)
       old_start : took.at ≡ z.at ⊎ took.at ≡ c.pc
-      at-is : took.at + length (drop took.at (take (q + 1) deltas)) ≡ c.pc + length (part q)
+      at_is : took.at + length (drop took.at (take (q + 1) deltas)) ≡ c.pc + length (part q)
       from_is : took.from ≡ c.line
       sum_is : summed took.sum (drop took.at (take (q + 1) deltas)) ≡ summed (pos 0) (part q)
 
     stands : z.at ≤ above
-    stands = let low = here.low in let at = here.at-is in let size : length (drop b.pc (take above deltas)) ≤ above - b.pc = simp (length-drop, length-take) (omega arith) in omega arith
+    stands = let low = here.low in let at = here.at_is in let size : length (drop b.pc (take above deltas)) ≤ above - b.pc = simp (length-drop, length-take) (omega arith) in omega arith
 
     reaches_base : b.pc ≤ z.at
-    reaches_base = let at = here.at-is in omega arith
+    reaches_base = let at = here.at_is in omega arith
 
     from : From
     from = ⊎_elim
@@ -139,16 +139,16 @@ module _ (line_defined : ℕ) (deltas : Bytes) (anchors : List AbsLineInfo) (up 
         let same : c ≡ b = is_base ∙ s.0 in
         let at = s.1 in
         let whole = resumed b.pc above (q + 1) deltas h in
-        let there : took.at ≡ b.pc + length (drop b.pc (take above deltas)) = at ∙ here.at-is in
+        let there : took.at ≡ b.pc + length (drop b.pc (take above deltas)) = at ∙ here.at_is in
         let split : part q ≡ drop b.pc (take above deltas) ++ drop took.at (take (q + 1) deltas) =
         ap (λ c. drop c.pc (take (q + 1) deltas)) same ∙ whole ∙ ap (λ n. drop b.pc (take above deltas) ++ drop n (take (q + 1) deltas)) (sym there) in
         let same-pc : c.pc ≡ b.pc = ap (λ c. c.pc) same in
         record {
-          not-before = omega arith;
+          not_before = omega arith;
           base_at = omega (arith, reaches_base);
           old_or_new = inl (sym same-pc);
           old_start = inl at;
-          at-is = omega (arith, simp length-append at (ap length split));
+          at_is = omega (arith, simp length-append at (ap length split));
           from_is = s.2 ∙ here.from_is ∙ ap (λ c. c.line) (sym same);
           sum_is =
               ap (λ y. summed y (drop took.at (take (q + 1) deltas))) (s.3 ∙ here.sum_is)
@@ -160,11 +160,11 @@ module _ (line_defined : ℕ) (deltas : Bytes) (anchors : List AbsLineInfo) (up 
         let over = s.0 in
         let first-at = s.1 in
         record {
-          not-before = omega (arith, stands);
+          not_before = omega (arith, stands);
           base_at = omega arith;
           old_or_new = inr new;
           old_start = inr new;
-          at-is = ap (λ n. n + length (drop n (take (q + 1) deltas))) new;
+          at_is = ap (λ n. n + length (drop n (take (q + 1) deltas))) new;
           from_is = s.2 ∙ ap (λ c. c.line) (sym is_base);
           sum_is = ap₂ (λ y n. summed y (drop n (take (q + 1) deltas))) s.3 new;
         })
@@ -175,7 +175,7 @@ module _ (line_defined : ℕ) (deltas : Bytes) (anchors : List AbsLineInfo) (up 
       low = omega (arith, base_low anchors up line_defined q);
       later = λ q' k. here.later q' (omega arith) ∙ t.later q' (omega arith) ∙ ap (λ c. base_of q' c took.left) (sym is_base);
       rising = t.rising;
-      at-is = from.at-is;
+      at_is = from.at_is;
       from_is = from.from_is;
       sum_is = from.sum_is;
     }
@@ -197,7 +197,7 @@ module _ (line_defined : ℕ) (deltas : Bytes) (anchors : List AbsLineInfo) (up 
         clamped n m a = omega arith
 
     has_here : (i : ℕ) → has (walk q) i ≡ within c.pc (forward deltas q z).at i
-    has_here i = has-from (part q) c.pc i ∙ ap (λ e. within c.pc e i) (sym from.at-is)
+    has_here i = has-from (part q) c.pc i ∙ ap (λ e. within c.pc e i) (sym from.at_is)
 
     -- what a test of the later lookups, which walk over nothing before this base, passes beside the new deltas
     module _ (any : ℕ → Bool) (none_before : (i : ℕ) → i < c.pc → any i ≡ false) where
@@ -229,7 +229,7 @@ module _ (line_defined : ℕ) (deltas : Bytes) (anchors : List AbsLineInfo) (up 
           by true t = in_walk (leb-true z.at i t) (leb c.pc i) refl (ltb i e) refl
           by false t =
               let low = leb-false z.at i t in
-              let before : i < took.at = omega (arith, from.not-before) in
+              let before : i < took.at = omega (arith, from.not_before) in
               sym (ap (λ b. b || cond (leb e i) (any i) false) (within_low took.at e i before) ∙ ap (λ b. cond b (any i) false) (lt-leb e i (omega arith)))
 
       pub count-here : count_below (length deltas) (λ i. cond (leb z.at i) (has (walk q) i || any i) false)
@@ -245,7 +245,7 @@ module _ (line_defined : ℕ) (deltas : Bytes) (anchors : List AbsLineInfo) (up 
     -- never more than the deltas before the next one, nor than there are
     read_low : z.read ≤ min z.at (length deltas) → (forward deltas q z).read ≤ min (forward deltas q z).at (length deltas)
     read_low k =
-        let over = from.not-before in
+        let over = from.not_before in
         let size : length (drop took.at (take (q + 1) deltas)) ≡ min (q + 1) (length deltas) - took.at = simp (length-drop, length-take) refl in
         rw (read_here, size) (low z.read z.at took.at (q + 1) (length deltas) k over)
       where

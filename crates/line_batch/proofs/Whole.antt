@@ -25,7 +25,7 @@ use Rattle.line_lookup.proofs.Range.{all-low, base_low}
 use Rattle.line_lookup.proofs.Rising.{RisingFrom, Rising}
 use Rattle.line_batch.specs.Batch.{numbers_from, unless_given, walked_by, has, walked_by_any, count_below, deltas_read, ordered_from, below, rises, never_falls, refusal_of}
 use Rattle.line_batch.specs.Inner.Numbered.{none_passed, numbered_from}
-use Rattle.line_batch.specs.Inner.Walk.{Step, lines_from, end_of}
+use Rattle.line_batch.specs.Inner.Walk.{Step, lines_from, end_of, forward}
 use Rattle.line_batch.specs.Inner.Steps.{Writable}
 use Rattle.line_batch.proofs.Counts.{count_same}
 use Rattle.line_batch.proofs.Judging.{falls_first}
@@ -130,7 +130,7 @@ module _ (instructions line : ℕ) (deltas : Bytes) (anchors : List AbsLineInfo)
 -- without deltas every line is 0
 no_deltas : (instructions line : ℕ) (anchors : List AbsLineInfo) (z : Step) (back : List ℕ) → All (λ pc. rule2 instructions anchors pc ≡ none) back → lines_from [] z back ≡ map (line_of instructions line [] anchors) back
 no_deltas instructions line anchors z [] all = refl
-no_deltas instructions line anchors z (q ∷ back) all = ap₂ (λ x xs. x ∷ xs) (by anchors all.0) (no_deltas instructions line anchors _ back all.1)
+no_deltas instructions line anchors z (q ∷ back) all = ap₂ (λ x xs. x ∷ xs) (by anchors all.0) (no_deltas instructions line anchors (forward [] q z) back all.1)
   where
     by : (xs : List AbsLineInfo) → rule2 instructions xs q ≡ none → 0 ≡ line_of instructions line [] xs q
     by [] e = refl

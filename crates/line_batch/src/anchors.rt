@@ -7,13 +7,13 @@ use read_entry::debug::{AnchorResult, read_anchor};
 use slice::cursor::Cursor;
 
 // The next anchor, and how many are left.
-#[derive(Drop)]
+#[derive(Clone, Copy)]
 pub struct Anchors {
     pub next: Cursor,
     pub left: usize,
 }
 
-#[derive(Drop)]
+#[derive(Clone, Copy)]
 pub enum NextAnchor {
     None,
     Some { anchor: AbsLineInfo, rest: Anchors },

@@ -10,7 +10,7 @@ use format::refusal::Refusal;
 use line_anchors::or_large;
 
 // What the anchors so far have settled.
-#[derive(Drop)]
+#[derive(Clone, Copy)]
 pub struct Seen {
     // A line is 2^62 or more.
     pub large: bool,
@@ -21,7 +21,7 @@ pub struct Seen {
     pub last: usize,
 }
 
-#[derive(Drop)]
+#[derive(Clone, Copy)]
 pub enum Judged {
     Go,
     Stop(Refusal),

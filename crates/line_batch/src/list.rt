@@ -20,7 +20,7 @@ use slice::bytes::bytes_at;
 use slice::cursor::Cursor;
 
 // How many deltas were read, or the refusal.
-#[derive(Drop)]
+#[derive(Clone, Copy)]
 pub enum LinesAnswer {
     Ok(usize),
     Err(Refusal),

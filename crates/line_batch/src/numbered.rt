@@ -7,7 +7,7 @@ ghost use Rattle.line_batch.specs.Inner.Numbered.{passed_by, pass_to, numbered_f
 use crate::anchors::{Anchors, NextAnchor, next_anchor};
 
 // How many anchors were passed, those that are left, and the line of the last one passed.
-#[derive(Drop)]
+#[derive(Clone, Copy)]
 pub struct Numbered {
     pub rest: Anchors,
     pub number: usize,

@@ -10,7 +10,7 @@ use crate::anchors::{Anchors, NextAnchor, next_anchor};
 use line_lookup::deltas::{add_deltas, raise, up_to};
 
 // Where the walk is.
-#[derive(Drop)]
+#[derive(Clone, Copy)]
 pub struct Walk {
     // The anchors that are not taken yet.
     pub rest: Anchors,
