@@ -1,4 +1,6 @@
 // The stricter reading (02, item 7), which reads as Lua's own loader does: a pass judges the chunk by the stricter grammar, and keeps nothing; where it accepts, the ordinary reading shows the same reading (format_strict/proofs/StrictLaws.antt).
+#![tactic(auto)]
+
 ghost use Rattle.std.specs.Prelude.{◌≡◌, ◌≤◌};
 ghost use Rattle.format.specs.Limits.{DEEPEST, Walkable};
 ghost use Rattle.format_strict.specs.ReadStrict.{strict_main, strict_read};
