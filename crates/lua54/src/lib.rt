@@ -1,4 +1,5 @@
 // Every call on chunks and words, with its types, under one name: for callers in Rattle. Each stands, with its contract, in the crate behind it.
+#![tactic(auto)]
 
 // Limits; refusals and warnings, with number and place.
 pub use format::header::{Header, Warning, WarningCode, WarningReport};
