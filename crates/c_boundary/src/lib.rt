@@ -1,4 +1,6 @@
 // What every call behind C uses: limits, refusals and signed numbers as numbers of 64 bits.
+#![tactic(auto)]
+
 pub mod signed;
 
 ghost use Rattle.std.specs.Prelude.{◌≡◌, [], ◌∷◌};
