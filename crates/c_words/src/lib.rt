@@ -1,4 +1,6 @@
 // The numbers of instruction words, as the calls behind C put them into their arrays (include/lafzimdo.h).
+#![tactic(auto)]
+
 ghost use Rattle.std.specs.Prelude.{◌≡◌};
 ghost use Rattle.word_opcodes.specs.Table.{mode_number};
 ghost use Rattle.c_words.specs.Words.{mode_or_none, word_numbers, spelt};
