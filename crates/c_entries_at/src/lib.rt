@@ -2,6 +2,8 @@
 // array for its answer, and returns 0, or a refusal as one number (specs/Status.antt of crate c_boundary); the array is then as it was.
 // Each tests 21 and 22 first, as every call on a chunk does. No pass over the chunk: each costs what its entry costs. Where no such entry begins at the place, the answer is what the bytes there spell; behind the end of the
 // chunk there are none.
+#![tactic(auto)]
+
 ghost use Rattle.std.specs.Prelude.{◌≡◌};
 ghost use Rattle.c_boundary.specs.Status.{status, written};
 ghost use Rattle.c_entries_at.specs.EntryNumbers.{up_to, delta_number, local_numbers_at, word_at, constant_at, upvalue_at, delta_at, anchor_at, local_at, string_at};
