@@ -1,4 +1,6 @@
 // A verdict as a number; one finding as four numbers, stored into a list that is lent: what crate `c_findings` writes for each finding of a chunk.
+#![tactic(auto)]
+
 ghost use Rattle.std.specs.Prelude.{◌≡◌, ◌+◌, ◌≤◌, length};
 ghost use Rattle.slice.specs.Inner.Splice.{splice};
 ghost use Rattle.c_finding.specs.FindingNumbers.{verdict_number, rule_number, offending_number, finding_numbers};
