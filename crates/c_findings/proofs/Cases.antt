@@ -5,7 +5,7 @@
 -- Told apart: verdict and count exchanged, findings in another order, room counted in numbers or rounded up, the list touched behind the findings or on a refusal.
 -- Assumes nothing.
 use mathlib.Core.Path.{◌≡◌, refl}
-use mathlib.Core.List.{List, [], ◌∷◌, ◌++◌, map}
+use mathlib.Core.List.{[], ◌∷◌, ◌++◌, map}
 use Prim.Native.Nat.{ℕ}
 use lib.IntN.{pos}
 use lib.ListN.{replicate}

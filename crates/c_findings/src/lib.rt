@@ -1,4 +1,6 @@
 // The findings of a chunk as numbers, four each, in a list that the caller lends: what crate `lafzimdo` exports as `lafzimdo_findings`.
+#![tactic(auto)]
+
 ghost use Rattle.std.specs.Prelude.{◌≡◌, ◌*◌, ◌/◌, ◌<◌, ◌≤◌, length, take};
 ghost use Rattle.format.specs.Limits.{MOST};
 ghost use Rattle.format.specs.ReadChunk.{read};
