@@ -30,7 +30,6 @@ use Rattle.read_entry.specs.declared.constant.ConstantValue.TheVariants as value
 use Rattle.show_row.specs.Asked.{function_of}
 use Rattle.validate_rules.specs.declared.finding.Verdict.TheVariants.{ValidForAnalysis, Invalid, Incomplete}
 use Rattle.show_chunk.specs.declared.summary.SummaryAnswer.TheVariants as summary
-use Rattle.show_chunk.specs.declared.fields.FunctionFields.{FunctionFields}
 use Rattle.show_chunk.specs.Fields.{shown_fields}
 use Rattle.show_chunk.specs.Summaries.{shown_summary}
 use Rattle.show_entry.specs.declared.WordAnswer.TheVariants as word
