@@ -1,0 +1,20 @@
+// The stricter reading.
+ghost use Rattle.std.specs.Prelude.{◌≡◌};
+ghost use Rattle.format_spelling.specs.ReadSpelling.{spelling};
+ghost use Rattle.format_strict.specs.ReadStrict.{strict_read};
+ghost use Rattle.show_chunk.specs.Summaries.{shown_summary};
+ghost use Rattle.c_boundary.specs.Status.{limits_of, status, written};
+ghost use Rattle.lafzimdo.specs.Answers.{ofSummary};
+
+// Reads a chunk under limits as Lua's own loader does, and shows what `lafzimdo_summary` shows.
+#[unsafe(no_mangle)]
+pub extern "C" fn lafzimdo_strict_summary(
+    chunk: &[u8],
+    limits: &[u64; 9],
+    out: &mut [u64; 15],
+) -> u64
+    ensures value { result ≡ status (ofSummary (shown_summary (spelling (limits_of limits.now) chunk.now) (strict_read (limits_of limits.now) chunk.now))) }
+    ensures out_after { out.new ≡ written (ofSummary (shown_summary (spelling (limits_of limits.now) chunk.now) (strict_read (limits_of limits.now) chunk.now))) out.old }
+{
+    lafzimdo::stricter::lafzimdo_strict_summary(chunk, limits, out)
+}

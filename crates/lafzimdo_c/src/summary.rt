@@ -1,0 +1,17 @@
+// A chunk's summary.
+ghost use Rattle.std.specs.Prelude.{◌≡◌};
+ghost use Rattle.format.specs.ReadChunk.{read};
+ghost use Rattle.format_spelling.specs.ReadSpelling.{spelling};
+ghost use Rattle.show_chunk.specs.Summaries.{shown_summary};
+ghost use Rattle.c_boundary.specs.Status.{limits_of, status, written};
+ghost use Rattle.lafzimdo.specs.Answers.{ofSummary};
+
+// Reads a chunk under limits, and shows what it is: its header, its totals, its warnings, and how many of its numbers
+// are padded.
+#[unsafe(no_mangle)]
+pub extern "C" fn lafzimdo_summary(chunk: &[u8], limits: &[u64; 9], out: &mut [u64; 15]) -> u64
+    ensures value { result ≡ status (ofSummary (shown_summary (spelling (limits_of limits.now) chunk.now) (read (limits_of limits.now) chunk.now))) }
+    ensures out_after { out.new ≡ written (ofSummary (shown_summary (spelling (limits_of limits.now) chunk.now) (read (limits_of limits.now) chunk.now))) out.old }
+{
+    lafzimdo::summary::lafzimdo_summary(chunk, limits, out)
+}
