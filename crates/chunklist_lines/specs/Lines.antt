@@ -3,7 +3,7 @@
 --     first_line            a chunk that is read
 --     refusal_line          one that is not
 use Rattle.std.specs.Prelude.{cond, ℕ, zero, suc, ◌/◌, ◌%◌, List, [], ◌∷◌, ◌++◌, ltb}
-use Rattle.io.specs.Digits.{hex_digit_ascii}
+use Rattle.text_print.specs.Digits.{hex_digit_ascii}
 use Rattle.format.specs.Ascii.{ascii}
 use Rattle.format.specs.declared.refusal.Refusal.{Refusal}
 use Rattle.format.specs.declared.refusal.Place.{Place}
