@@ -1,7 +1,7 @@
 -- The output that 01 prints: files and their listings in a list, and one theorem over the list, which antt computes.
 -- Assumes nothing.
 use mathlib.Core.Path.{◌≡◌, refl}
-use mathlib.Core.List.{List, [], ◌∷◌, ◌++◌, map}
+use mathlib.Core.List.{List, [], ◌∷◌, map}
 use Prim.Native.Nat.{ℕ}
 use lib.ListN.{replicate, take}
 use Rattle.format.specs.Ascii.{ascii}

@@ -1,15 +1,15 @@
--- What is listed of a chunk, in the code's terms: by what the first pass showed, and by the verdict.
+-- What is listed of a chunk, in the code's terms: by what the first pass showed.
 -- Assumes nothing.
-use mathlib.Core.Path.{◌≡◌, refl, sym, ap, ◌∙◌}
+use Rattle.std.specs.Prelude.{Option, Result, IfOk}
+use mathlib.Core.Path.{◌≡◌, refl, sym, ap, subst, ◌∙◌}
 use mathlib.Core.List.{List, [], ◌∷◌, ◌++◌}
 use Prim.Native.Nat.{ℕ, ◌+◌}
-use native.Mathlib.Omega.{arith}
 use lib.ListN.{length}
 use Rattle.format.specs.declared.limits.ResourceLimits.{ResourceLimits}
 use Rattle.format.specs.declared.refusal.Refusal.{Refusal}
 use Rattle.format.specs.Form.{Bytes}
-use Rattle.format.specs.Reading.{Prototype, Reading}
-use Rattle.format.specs.ReadChunk.{Outcome, shown, refusal, read}
+use Rattle.format.specs.Reading.{Prototype}
+use Rattle.format.specs.ReadChunk.{Outcome, read}
 use Rattle.read_chunk.specs.declared.summary.Summary.{Summary}
 use Rattle.read_chunk.specs.declared.summary.JudgedResult.TheVariants as judged
 use Rattle.read_chunk.specs.Inner.Decoded.{judged_result}
@@ -17,28 +17,16 @@ use Rattle.read_chunk.proofs.MainAt.{was_refused}
 use Rattle.read_next.specs.Inner.Rows.{chunk_rows}
 use Rattle.read_next.proofs.Agreement.{rows_for}
 use Rattle.validate_rules.specs.declared.finding.Verdict.{Verdict}
-use Rattle.validate_verdict.specs.declared.verdict.VerdictAnswer.TheVariants as verdicts
-use Rattle.validate_rules.specs.Findings.{chunk_findings, verdict}
-use Rattle.validate_verdict.specs.Answers.{shownVerdict}
 use Rattle.validate_verdict.proofs.Chunk.{r, shows, was, rows_shown}
-use Rattle.text_print.specs.Output.{Waiting, puts}
-use Rattle.chunklist_lines.specs.Lines.{first_line, refusal_line}
+use Rattle.text_print.specs.Output.{Waiting, waiting, puts, Printed}
+use Rattle.chunklist_lines.specs.Lines.{first_line}
 use Rattle.chunklist_lines.specs.Inner.Rows.{row_line}
-use Rattle.chunklist_listing.specs.Listing.{function_line, function_lines, chunk_lines, listed}
+use Rattle.chunklist_listing.specs.Listing.{function_line, function_lines}
 use Rattle.chunklist_listing.specs.Inner.Rows.{lines_of, row_lines}
-use Rattle.chunklist_lines.proofs.Laws.{then}
+use Rattle.chunklist_lines.proofs.Laws.{then_ok}
 
--- ## By the verdict
-pub refused-listed : (bytes : ℕ) (o : Outcome) (q : Refusal) → verdicts.Err q ≡ shownVerdict o → refusal_line q ≡ listed bytes o
-refused-listed bytes (shown r) q e = absurd (let z : ◌≡◌ {A = ℕ} 0 1 = cc in omega arith)
-refused-listed bytes (refusal p) q e = let same : q ≡ p = cc in ap refusal_line same
-
-pub read-listed : (bytes : ℕ) (o : Outcome) (v : Verdict) → verdicts.Ok v ≡ shownVerdict o → lines_of bytes v o ≡ listed bytes o
-read-listed bytes (shown r) v e = let same : v ≡ verdict (chunk_findings r) = cc in ap (λ v. chunk_lines bytes v r) same
-read-listed bytes (refusal q) v e = absurd (let z : ◌≡◌ {A = ℕ} 0 1 = cc in omega arith)
-
--- ## By what the first pass showed
-pub refused-lines : (bytes : ℕ) (v : Verdict) (o : Outcome) (q : Refusal) → judged.Err q ≡ judged_result o → [] ≡ lines_of bytes v o
+pub refused-lines : (bytes : ℕ) (v : Verdict) (o : Outcome) (q : Refusal) → judged.Err q ≡ judged_result o → []
+    ≡ lines_of bytes v o
 refused-lines bytes v o q e = sym (ap (lines_of bytes v) (was_refused o q e))
 
 row_lines_lem : (k : ℕ) (ps : List Prototype) → row_lines k (rows_for ps) ≡ function_lines k ps
@@ -52,14 +40,27 @@ as_many (p ∷ ps) = rw (as_many ps)
 
 module _ (L : ResourceLimits) (s : Bytes) (d : Summary) (e : judged.Ok d ≡ judged_result (read L s)) where
   pub all-counted : length (chunk_rows L s 32) ≡ d.functions
-  all-counted = ap length (rows_shown L s d e) ∙ as_many (r L s d e).functions ∙ sym (ap (λ k. k.functions) (shows L s d e))
+  all-counted = ap length (rows_shown L s d e) ∙ as_many (r L s d e).functions ∙ sym
+      (ap (λ k. k.functions) (shows L s d e))
 
-  lines_are : (v : Verdict) → first_line (length s) d.functions d.trailing_len v ++ row_lines 0 (chunk_rows L s 32) ≡ lines_of (length s) v (read L s)
+  pub lines_are : (v : Verdict) → first_line (length s) d.functions d.trailing_len v ++ row_lines 0 (chunk_rows L s 32)
+      ≡ lines_of (length s) v (read L s)
   lines_are v =
       ap (λ k. first_line (length s) k.functions k.trailing_len v ++ row_lines 0 (chunk_rows L s 32)) (shows L s d e)
-      ∙ ap (λ l. first_line (length s) (length (r L s d e).functions) (length (r L s d e).trailing) v ++ l) (ap (row_lines 0) (rows_shown L s d e) ∙ row_lines_lem 0 (r L s d e).functions)
+      ∙ ap (λ l. first_line (length s) (length (r L s d e).functions) (length (r L s d e).trailing) v ++ l)
+      (ap (row_lines 0) (rows_shown L s d e) ∙ row_lines_lem 0 (r L s d e).functions)
       ∙ sym (ap (lines_of (length s) v) (was L s d e))
 
-  pub chunk_put : (v : Verdict) (w : Waiting) {w₁ w₂ : Waiting} → w₁ ≡ puts (first_line (length s) d.functions d.trailing_len v) w
-      → w₂ ≡ puts (row_lines 0 (chunk_rows L s 32)) w₁ → w₂ ≡ puts (lines_of (length s) v (read L s)) w
-  chunk_put v w {w₁} {w₂} a b = then (first_line (length s) d.functions d.trailing_len v) _ w a b ∙ ap (λ l. puts l w) (lines_are v)
+  module _ {E : Type 0} (v : Verdict) (out : List ℕ) (result : Result ℕ E) where
+    pub chunk_put_ok : (w : Waiting) {w₁ : Waiting} → w₁ ≡ puts (first_line (length s) d.functions d.trailing_len v) w
+        → IfOk result (λ after. waiting out after ≡ puts (row_lines 0 (chunk_rows L s 32)) w₁) → IfOk result
+        (λ after. waiting out after ≡ puts (lines_of (length s) v (read L s)) w)
+    chunk_put_ok w a b =
+        subst (λ l. IfOk result (λ after. waiting out after ≡ puts l w)) (lines_are v)
+        (then_ok (first_line (length s) d.functions d.trailing_len v)
+        (row_lines 0 (chunk_rows L s 32)) w out result a b)
+
+    pub lines_printed : (o n : Option (List ℕ)) (waits : List ℕ) → Printed o n
+        (waits ++ (first_line (length s) d.functions d.trailing_len v ++ row_lines 0 (chunk_rows L s 32))) out result
+        → Printed o n (waits ++ lines_of (length s) v (read L s)) out result
+    lines_printed o n waits = subst (λ l. Printed o n (waits ++ l) out result) (lines_are v)

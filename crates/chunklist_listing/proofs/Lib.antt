@@ -1,3 +1,4 @@
 pub mod Prints
 pub mod Chunks
 pub mod Cases
+pub mod ReadLaws

@@ -8,11 +8,9 @@
 --     chains_hold      functions within each other, 14 deep: all are listed; 15 deep: refused where the last one begins (02, item 5)
 -- Told apart: two columns exchanged, the number of a function left out, another word for a verdict, a limit of one byte more or less, ` at ` and a place where there is none.
 -- Assumes nothing.
-use mathlib.Core.Path.{◌≡◌, refl, ap, ◌∙◌}
-use mathlib.Core.Bool.{Bool, true, false}
-use mathlib.Core.List.{List, [], ◌∷◌, ◌++◌, map}
-use Prim.Native.Nat.{ℕ, ◌<◌}
-use lib.Dec.{leb}
+use mathlib.Core.Path.{◌≡◌, refl}
+use mathlib.Core.List.{[], ◌∷◌, ◌++◌, map}
+use Prim.Native.Nat.{◌<◌}
 use lib.ListN.{length, replicate, take}
 use borrow.Author.Tests.{lt-leb}
 use Rattle.format.specs.declared.refusal.Refusal.TheVariants as refuses
@@ -70,6 +68,6 @@ longest_holds : listing (small ++ replicate 49106 0) ≡ ascii "chunk 49152 func
 unfolding small read body function code_groups groups limited chunk_findings digits_up_to first_line refusal_line
 longest_holds = refl
 
-longer_refused : (s : Bytes) → 49152 < length s → listing s ≡ ascii "refused 22\n"
+pub longer_refused : (s : Bytes) → 49152 < length s → listing s ≡ ascii "refused 22\n"
 unfolding read refusal_line digits_up_to
 longer_refused s h = rw (lt-leb (length s) 49152 h)

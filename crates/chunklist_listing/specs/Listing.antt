@@ -17,7 +17,7 @@ function_line k p =
     decimal k ++ spaced (
     p.depth
     ∷ p.line_defined
-    ∷ p.last-line_defined
+    ∷ p.last_line_defined
     ∷ p.numparams
     ∷ p.is_vararg
     ∷ p.maxstacksize

@@ -1,9 +1,11 @@
 // What `chunklist` prints of a file: a line for the chunk and one for each of its functions, or a refusal.
+#![tactic(auto)]
+
 pub mod file;
 
-ghost use Rattle.std.specs.Prelude.{◌≡◌, ◌≤◌, length};
+ghost use Rattle.std.specs.Prelude.{◌≡◌, ◌++◌, ◌≤◌, length, take, IfOk};
 ghost use Rattle.format.specs.Limits.{MOST};
-ghost use Rattle.text_print.specs.Output.{Fits, waiting, puts};
+ghost use Rattle.text_print.specs.Output.{Fits, waiting, puts, Printed};
 ghost use Rattle.format.specs.ReadChunk.{read};
 ghost use Rattle.read_next.specs.Inner.Rows.{chunk_rows};
 ghost use Rattle.chunklist_listing.specs.Listing as listings;
@@ -15,6 +17,8 @@ use read_chunk::MAIN_AT;
 use read_chunk::summary::{JudgedResult, judge_chunk};
 use read_next::{COUNTS, Met, go_down, next_function};
 use slice::cursor::Cursor;
+use std::io;
+use std::io::Write;
 use text_print::Out;
 use validate_rules::finding::Verdict;
 use validate_verdict::verdict::{VerdictAnswer, chunk_verdict};
@@ -40,18 +44,22 @@ fn list_limits() -> ResourceLimits
 }
 
 // A line for each of the n functions, of which the first begins at a place.
-fn function_lines(
+fn function_lines<W: Write>(
     s: &[u8],
     limits: ResourceLimits,
     start: Cursor,
     n: usize,
+    to: &mut W,
     out: &mut Out,
     used: usize,
-) -> usize
+) -> io::Result<usize>
     requires max_total_instructions_bound { (limits.max_total_instructions ≤ MOST) × (length (chunk_rows limits s.now start.at) ≡ n) }
     requires fits { Fits used }
-    ensures fits_2 { Fits result }
-    ensures result_after { waiting out.new result ≡ puts (row_lines 0 (chunk_rows limits s.now start.at)) (waiting out.old used) }
+    ensures fits_2 { IfOk result (λ after. Fits after) }
+    ensures result_after { IfOk result (λ after. waiting out.new after
+        ≡ puts (row_lines 0 (chunk_rows limits s.now start.at)) (waiting out.old used)) }
+    ensures given { Printed (W.contents to.old) (W.contents to.new)
+        (take used out.old ++ row_lines 0 (chunk_rows limits s.now start.at)) out.new result }
 {
     let mut left = [0; COUNTS];
     left[0] = 1;
@@ -61,9 +69,9 @@ fn function_lines(
     let mut used = used;
     loop {
         let Met::Function(row, d, first) = next_function(s, limits, &left, depth, at) else {
-            return used;
+            return Ok(used);
         };
-        used = function_line(out, used, number, row);
+        used = function_line(to, out, used, number, row)?;
         go_down(&mut left, d, row.protos);
         depth = d + 1;
         at = first;
@@ -72,40 +80,47 @@ fn function_lines(
 }
 
 // All that is printed of a file. Ruled out: trailing bytes not counted, every function shown at depth 0.
-pub fn listing(s: &[u8], out: &mut Out, used: usize) -> usize
+pub fn listing<W: Write>(s: &[u8], to: &mut W, out: &mut Out, used: usize) -> io::Result<usize>
     requires { Fits used }
-    ensures fits { Fits result }
-    ensures result_after { waiting out.new result ≡ puts (listings.listing s.now) (waiting out.old used) }
+    ensures fits { IfOk result (λ after. Fits after) }
+    ensures result_after { IfOk result (λ after. waiting out.new after
+        ≡ puts (listings.listing s.now) (waiting out.old used)) }
+    ensures given { Printed (W.contents to.old) (W.contents to.new)
+        (take used out.old ++ listings.listing s.now) out.new result }
 {
     let limits = list_limits();
     let answer = chunk_verdict(s, limits);
     match answer {
-        VerdictAnswer::Err(why) => refusal_line(out, used, why),
-        VerdictAnswer::Ok(verdict) => chunk_lines(s, limits, verdict, out, used),
+        VerdictAnswer::Err(why) => refusal_line(to, out, used, why),
+        VerdictAnswer::Ok(verdict) => chunk_lines(s, limits, verdict, to, out, used),
     }
 }
 
 // A chunk that is read, and the verdict on it.
-fn chunk_lines(
+fn chunk_lines<W: Write>(
     s: &[u8],
     limits: ResourceLimits,
     verdict: Verdict,
+    to: &mut W,
     out: &mut Out,
     used: usize,
-) -> usize
+) -> io::Result<usize>
     requires { Fits used }
-    ensures fits { Fits result }
-    ensures result_after { waiting out.new result ≡ puts (lines_of (length s.now) verdict (read limits s.now)) (waiting out.old used) }
+    ensures fits { IfOk result (λ after. Fits after) }
+    ensures result_after { IfOk result (λ after. waiting out.new after
+        ≡ puts (lines_of (length s.now) verdict (read limits s.now)) (waiting out.old used)) }
+    ensures given { Printed (W.contents to.old) (W.contents to.new)
+        (take used out.old ++ lines_of (length s.now) verdict (read limits s.now)) out.new result }
 {
     let judged = judge_chunk(s, limits);
     match judged {
         // Never: it was read for the verdict.
-        JudgedResult::Err(_) => used,
+        JudgedResult::Err(_) => Ok(used),
         JudgedResult::Ok(summary) => {
             let n = summary.functions;
-            let used = first_line(out, used, s.len(), n, summary.trailing_len, verdict);
+            let used = first_line(to, out, used, s.len(), n, summary.trailing_len, verdict)?;
             let start = Cursor { at: MAIN_AT };
-            function_lines(s, limits, start, n, out, used)
+            function_lines(s, limits, start, n, to, out, used)
         }
     }
 }
