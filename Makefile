@@ -25,15 +25,17 @@ STATIC := target/lib/liblafzimdo.a
 SHARED := target/lib/liblafzimdo.so.$(VERSION)
 PROGRAM := target/rust/release/lafzimdo
 HEADERS := include/lafzimdo.h include/lafzimdo_text.h
-RATTLE := crates.txt $(shell find crates -name '*.rt' -o -name '*.antt' | sort)
+RATTLE := crates.txt $(shell find crates -name out -prune -o \( -name '*.rt' -o -name '*.antt' \) -print | sort)
 RUST := $(shell find bindings/rust/src -type f | sort) bindings/rust/build.rs bindings/rust/Cargo.toml
 
 .PHONY: all check install uninstall clean
 all: $(STATIC) $(SHARED) $(PROGRAM)
 
-# What is unchanged in target/ is not proved again.
+# The static library of crate lafzimdo_c, under the name by which it is linked. What `rt check` or `rt lib` kept in crates/*/out is not proved again.
 target/staticlib/liblafzimdo.a: $(RATTLE)
-	rt staticlib lafzimdo
+	cd crates/lafzimdo_c && rt lib
+	mkdir -p target/staticlib
+	cp crates/lafzimdo_c/out/liblafzimdo_c.a $@
 
 target/lib/lafzimdo_text.o: bindings/c/lafzimdo_text.c include/lafzimdo_text.h
 	mkdir -p target/lib
@@ -45,12 +47,13 @@ $(STATIC): $(LIBRARY) target/lib/lafzimdo_text.o
 	$(AR) rs $@.new target/lib/lafzimdo_text.o
 	mv $@.new $@
 
-# Only what the headers declare is to be seen from outside.
+# Only what the headers declare is to be seen from outside. Its other names are copies, since `rt ci` wants no links in a
+# checkout.
 $(SHARED): $(STATIC)
 	echo '{ global: lafzimdo_*; local: *; };' > target/lib/exported
 	$(CC) -shared -Wl,-soname,liblafzimdo.so.$(SOVERSION) -Wl,--version-script,target/lib/exported -Wl,-z,defs -Wl,--whole-archive $(STATIC) -Wl,--no-whole-archive -o $@
-	ln -sf $(notdir $@) target/lib/liblafzimdo.so.$(SOVERSION)
-	ln -sf liblafzimdo.so.$(SOVERSION) target/lib/liblafzimdo.so
+	cp $@ target/lib/liblafzimdo.so.$(SOVERSION)
+	cp $@ target/lib/liblafzimdo.so
 
 $(PROGRAM): $(STATIC) $(RUST)
 	cd bindings/rust && LAFZIMDO_LIB=$(CURDIR)/target/lib $(CARGO) build --release --offline

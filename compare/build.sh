@@ -6,7 +6,7 @@ set -eu
 here=$(cd "$(dirname "$0")" && pwd)
 top=$(dirname "$here")
 library=${LAFZIMDO_LIB:-$top/target/staticlib}
-[ -f "$library/liblafzimdo.a" ] || { echo "compare/build.sh: no liblafzimdo.a in $library; run rt staticlib lafzimdo" >&2; exit 1; }
+[ -f "$library/liblafzimdo.a" ] || { echo "compare/build.sh: no liblafzimdo.a in $library; run make target/staticlib/liblafzimdo.a" >&2; exit 1; }
 
 case $1 in
 answers)

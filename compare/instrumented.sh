@@ -1,35 +1,38 @@
 #!/bin/sh
-# Makes target/fuzz/tree/target/staticlib/liblafzimdo.a: the library as `rt staticlib lafzimdo` compiles it, with coverage for libFuzzer. rt is run with a folder
-# of links to its kit, in which clang is told to put coverage in, and in a folder of links to this repository, so that target/staticlib is left as it is.
-# What is proved in target/ is not proved again.
+# Makes target/fuzz/lib/liblafzimdo.a: the library as `rt lib` compiles it, with coverage for libFuzzer. rt is run
+# from a folder of links to its kit, in which clang is told to put coverage in. What rt kept in crates/*/out is not
+# proved again. Another crate may be named, to try this script.
 set -eu
 here=$(cd "$(dirname "$0")" && pwd)
 top=$(dirname "$here")
+crate=${1:-lafzimdo_c}
 kit=$(cd "$(dirname "$(readlink -f "$(command -v rt)")")/.." && pwd)
-own=on/$(uname -m)
-shadow=$top/target/fuzz/kit
-tree=$top/target/fuzz/tree
+room=$(mktemp -d)
+trap 'rm -rf "$room"' EXIT
+shadow=$room/kit
+mkdir -p "$shadow/bin" "$shadow/toolchain/bin" "$top/target/fuzz/lib"
 
-rm -rf "$shadow" "$tree"
-mkdir -p "$shadow/$own/toolchain/bin" "$tree/target"
-# Links to everything in a folder but one of its entries.
+# Links to everything in a folder but some of its entries.
 links() {
-    for entry in "$kit/$1"/*; do
-        [ "$(basename "$entry")" = "$2" ] || ln -s "$entry" "$shadow/$1/"
+    folder=$1
+    shift
+    for entry in "$kit/$folder"/*; do
+        case " $* " in *" $(basename "$entry") "*) ;; *) ln -s "$entry" "$shadow/$folder/" ;; esac
     done
 }
-links . on
-links "$own" toolchain
-links "$own/toolchain" bin
-links "$own/toolchain/bin" clang
-cat > "$shadow/$own/toolchain/bin/clang" <<END
+links . bin toolchain
+links toolchain bin
+# (rt takes the folder above its own file for its kit, so these are copies)
+links bin rt rtlib.py
+cp "$kit/bin/rt" "$kit/bin/rtlib.py" "$shadow/bin/"
+links toolchain/bin clang
+cat > "$shadow/toolchain/bin/clang" <<END
 #!/bin/sh
-exec "$kit/$own/toolchain/bin/clang" -fsanitize-coverage=inline-8bit-counters,pc-table,trace-cmp "\$@"
+exec "$kit/toolchain/bin/clang" -fsanitize-coverage=inline-8bit-counters,pc-table,trace-cmp "\$@"
 END
-chmod +x "$shadow/$own/toolchain/bin/clang"
+chmod +x "$shadow/toolchain/bin/clang"
 
-mkdir -p "$top/target/rlib" "$top/target/stamp"
-ln -s "$top/crates.txt" "$top/crates" "$tree/"
-ln -s "$top/target/rlib" "$top/target/stamp" "$tree/target/"
-cd "$tree"
-RATTLE_HOME=$shadow rt staticlib lafzimdo
+# The archive goes to target/fuzz, and nothing stays that could be taken for the plain one.
+cd "$top/crates/$crate"
+"$shadow/bin/rt" lib
+mv "out/lib$crate.a" "$top/target/fuzz/lib/liblafzimdo.a"

@@ -1,7 +1,7 @@
 #!/usr/bin/env python3
 # Asks the static library what crates/vectors/stdin asks, and compares, as the program `vectors` does: kept.py prints its differences and its totals, which must be crates/vectors/stdout. Then the same
 # requests in the text of docs/PROTOCOL.md, by answers.c: functions and entries once by their numbers and once by the parts at their places, held against the same lines. Exit status 1 on a difference.
-# kept.py self-test [SEED] alters 1,000 lines by chance, asks target/bin/vectors them too where it is there (rt check vectors), then alters 20,000 answers in text, and says how many are found. Needs `rt staticlib lafzimdo` (or a library in the folder LAFZIMDO_LIB) and a C compiler.
+# kept.py self-test [SEED] alters 1,000 lines by chance, asks crates/vectors/out/vectors them too where it is there (`rt ci` leaves it, or `rt run` in crates/vectors), then alters 20,000 answers in text, and says how many are found. Needs `make target/staticlib/liblafzimdo.a` (or a library in the folder LAFZIMDO_LIB) and a C compiler.
 import collections
 import random
 import subprocess
@@ -14,7 +14,7 @@ HERE = Path(__file__).resolve().parent
 TOP = HERE.parent
 BUILT = TOP / "target/compare"
 KEPT = TOP / "crates/vectors"
-VECTORS = TOP / "target/bin/vectors"
+VECTORS = TOP / "crates/vectors/out/vectors"
 sys.path.insert(0, str(TOP / "oracle"))
 
 from calls import Library

@@ -2,8 +2,8 @@
 # Measures the stack that each call of include/lafzimdo.h takes on functions nested to the ceiling, and that the program chunklist takes where it is built:
 #     compare/stack.py            a table; exit status 1 where a call takes more than it may, for a level or in all, or more than the header says
 #     compare/stack.py header     the same, and writes what was measured into the header's line
-# Every declaration of the header is measured; one that cannot be called from what is known here is a failure. Needs `rt staticlib lafzimdo` (or a library in
-# the folder LAFZIMDO_LIB) and a C compiler.
+# Every declaration of the header is measured; one that cannot be called from what is known here is a failure. Needs `make target/staticlib/liblafzimdo.a` (or a library
+# in the folder LAFZIMDO_LIB) and a C compiler.
 import ctypes
 import os
 import pathlib
@@ -17,7 +17,7 @@ top = here.parent
 header = top / "include/lafzimdo.h"
 out = top / "target/compare"
 library = pathlib.Path(os.environ.get("LAFZIMDO_LIB", top / "target/staticlib")) / "liblafzimdo.a"
-program = top / "target/bin/chunklist"
+program = top / "crates/chunklist/out/chunklist"
 
 # The second of the header's ceilings is that of nesting.
 CEILING = int(re.search(r"#define LAFZIMDO_CEILINGS \{\d+, (\d+),", header.read_text())[1])

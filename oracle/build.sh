@@ -1,6 +1,7 @@
 #!/bin/sh
 # Builds the judge: target/oracle/oracle, from the Rust sources at LUAD_SRC (default: shared/docs/src beside the repository).
-# Nothing is fetched and nothing of the sources is kept: they are linked into target/oracle and compiled where they lie.
+# Nothing is fetched and nothing of the sources is kept: they are copied into target/oracle and compiled there. (A link
+# would do, but `rt ci` wants none in a checkout.)
 # Into another folder (ORACLE_LIB), without the program, it is compiled for a fuzzer with more words for rustc (LUAD_FLAGS), and for bench/run without overflow
 # checks (ORACLE_OVERFLOW=off).
 set -eu
@@ -18,8 +19,11 @@ src=${LUAD_SRC:-$top/../shared/docs/src}
 [ -d "$src/crates" ] || fail "no Rust sources at $src; set LUAD_SRC"
 src=$(cd "$src" && pwd)
 mkdir -p "$out" "$lib"
-ln -sfn "$src/crates/luad-core/src" "$out/luad-core"
-ln -sfn "$src/crates/luad-dialect-lua54/src" "$out/luad-dialect-lua54"
+for part in luad-core luad-dialect-lua54; do
+    rm -rf "${out:?}/$part"
+    cp -R "$src/crates/$part/src" "$out/$part"
+    chmod -R u+w "$out/$part"
+done
 
 # The copy of the validator whose list of findings is not shortened: it lacks one line, the one call that shortens the list.
 validator=$out/luad-dialect-lua54/validator.rs

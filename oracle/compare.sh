@@ -1,12 +1,12 @@
 #!/bin/sh
 # Asks the judge and the library the same: compare.sh GENERATOR ARGUMENT .., a program of this folder that prints requests. Says how many answers there are of
 # which kind, and that all are alike; or, with status 1, the first request whose answers differ, in short. The library is asked by compare/answers.c, in text; where
-# target/bin/vectors is there (rt check vectors), it is asked too, by the lines that are made of the judge's answers. VECTORS= before the command leaves it out.
-# Needs a C compiler and liblafzimdo.a (rt staticlib lafzimdo).
+# crates/vectors/out/vectors is there (`rt ci` leaves it, or `rt run` in crates/vectors), it is asked too, by the lines that are made of the judge's answers. VECTORS= before the command leaves it out.
+# Needs a C compiler and liblafzimdo.a (`make target/staticlib/liblafzimdo.a`).
 set -eu
 here=$(cd "$(dirname "$0")" && pwd)
 top=$(dirname "$here")
-vectors=${VECTORS-$top/target/bin/vectors}
+vectors=${VECTORS-$top/crates/vectors/out/vectors}
 
 "$here/build.sh"
 "$top/compare/build.sh" answers

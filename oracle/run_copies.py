@@ -3,7 +3,7 @@
 # padded, another format, another byte 31, a source in every function, trailing bytes. lua runs each copy, and what it prints must be what it prints of
 # luac's own chunk. A sample whose functions nest deeper than the ceiling has no copy: it must be refused with 19, and each that is not so deep must be copied.
 # The last line says how many ran alike; the status is 1 where one did not. Needs luac5.4 and lua5.4, a C compiler and
-# liblafzimdo.a (rt staticlib lafzimdo); where one of them is missing it says so, and the status is 2.
+# liblafzimdo.a (`make target/staticlib/liblafzimdo.a`); where one of them is missing it says so, and the status is 2.
 import os
 import shutil
 import subprocess

@@ -2,7 +2,7 @@
 # Runs full copies of joined scripts (samples/joined: NAME.1.lua, NAME.2.lua, .. are one script, as `luac a.lua b.lua` makes it), each of which fails at its end: lua must print of the full copy what it prints of luac's own
 # chunk, with the same names in its messages. So it must of the full copy of the same chunk spelt otherwise: numbers padded, another format, another byte 31, a source spelt in every function, trailing bytes. The archive copy has
 # other names, so that a copy without the sources would be found. Besides, of these and of every sample that is not nested too deep: the full copy is what Lua's own dumper writes of what it loaded (`string.dump` of `load`: lua_dump of lua_load).
-# The last line says how many did; the status is 1 where one did not. Needs luac5.4 and lua5.4, a C compiler and liblafzimdo.a (rt staticlib lafzimdo); where one of them is missing it says so, and the status is 2.
+# The last line says how many did; the status is 1 where one did not. Needs luac5.4 and lua5.4, a C compiler and liblafzimdo.a (`make target/staticlib/liblafzimdo.a`); where one of them is missing it says so, and the status is 2.
 import ctypes
 import os
 import subprocess

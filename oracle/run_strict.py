@@ -7,7 +7,7 @@
 #     1, an int is cut short                   the loader says 'integer overflow' as soon as it has grown too large
 #     the memory of a state is at an end       Lua says so before it looks for what a count claims
 # `run_strict.py self-test` shows that each of these tests can fail. The last line says how many disagree; the status is 1 where one does. Needs lua5.4's library and headers (Debian: liblua5.4-dev), a C compiler with address
-# sanitizer, and liblafzimdo.a (rt staticlib lafzimdo); where one of them is missing it says so, and the status is 2.
+# sanitizer, and liblafzimdo.a (`make target/staticlib/liblafzimdo.a`); where one of them is missing it says so, and the status is 2.
 import ctypes
 import os
 import random

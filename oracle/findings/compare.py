@@ -1,6 +1,6 @@
 #!/usr/bin/env python3
 # Compares the lent list of findings with the unchanged Rust: on every chunk of chunks.py and large.py the refusal with its place, the verdict, how many findings there are, and the
-# findings (of a list of more than 200 some of them). Needs the judge (oracle/build.sh), `rt staticlib lafzimdo` (or the library in the folder LAFZIMDO_LIB) and a C compiler; builds target/findings-answers.
+# findings (of a list of more than 200 some of them). Needs the judge (oracle/build.sh), `make target/staticlib/liblafzimdo.a` (or the library in the folder LAFZIMDO_LIB) and a C compiler; builds target/findings-answers.
 import os
 import pathlib
 import subprocess

@@ -1,4 +1,4 @@
-// luad-core: the module list over the unchanged files, which build.sh links into target/oracle/luad-core.
+// luad-core: the module list over the unchanged files, which build.sh copies into target/oracle/luad-core.
 #[path = "../../target/oracle/luad-core/diagnostic.rs"]
 pub mod diagnostic;
 #[path = "../../target/oracle/luad-core/dialect.rs"]

@@ -1,4 +1,4 @@
-// luad-dialect-lua54: the module list over the unchanged files, which build.sh links into target/oracle/luad-dialect-lua54.
+// luad-dialect-lua54: the module list over the unchanged files, which build.sh copies into target/oracle/luad-dialect-lua54.
 #[path = "../../target/oracle/luad-dialect-lua54/chunk.rs"]
 pub mod chunk;
 #[path = "../../target/oracle/luad-dialect-lua54/header.rs"]
