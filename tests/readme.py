@@ -59,20 +59,16 @@ def in_rust(folder):
 
 
 def in_rattle(folder):
-    """README's program over crate lua54: proved beside the repository's crates, compiled, and run on the sample. What is proved already is taken over."""
+    """README's program over crate lua54: proved beside the repository's crates, compiled, and run on the sample. What rt
+    keeps of these crates on this machine it takes over."""
     where = folder / "rattle"
-    shutil.copytree(top / "crates", where / "crates")
-    for kept in ("rlib", "stamp"):
-        if (top / "target" / kept).exists():
-            shutil.copytree(top / "target" / kept, where / "target" / kept, symlinks=True)
+    shutil.copytree(top / "crates", where / "crates", ignore=shutil.ignore_patterns("out", "must-fail"))
     program = where / "crates/readme"
     (program / "src").mkdir(parents=True)
     (program / "src/main.rt").write_text(blocks(readme, "rust")[1])
-    (program / "stdout").write_text("7")
-    shutil.copy(top / "samples/recentre.luac", program / "stdin")
-    (where / "crates.txt").write_text((top / "crates.txt").read_text() + "readme: format read_chunk show_chunk lua54 io libc\n")
-    told = run("rt", "check", "readme", cwd=where)
-    assert "readme ran" in told, told[-2000:]
+    (where / "crates.txt").write_text((top / "crates.txt").read_text() + "readme: format read_chunk show_chunk lua54\n")
+    with open(top / "samples/recentre.luac") as sample:
+        assert run("rt", "run", cwd=program, stdin=sample) == "7\n"
 
 
 def listing():
@@ -92,15 +88,22 @@ def commands(folder):
     sample = (top / "samples/recentre.luac").read_bytes()
     (where / "archive/a.luac").write_bytes(sample)
     (where / "archive/half.luac").write_bytes(sample[:1000])
-    for around, more in (("one", b"1"), ("two", b"2")):
-        (where / "archive" / around).mkdir()
-        (where / "archive" / around / "init.luac").write_bytes(sample + more)
     damaged = bytearray(sample)
     at = sample.index(0x800007B8.to_bytes(4, "little"))
     damaged[at:at + 4] = 0xFFFFFFB8.to_bytes(4, "little")
     (where / "damaged.luac").write_bytes(damaged)
     (where / "odd.luac").write_bytes(sample[:5] + b"\1" + sample[6:])
     typed = {line.split("#")[0].strip() for line in readme.splitlines() if line.startswith("    ") and "lafzimdo" in line}
+    flat = "find . -name '*.luac' -print0 | lafzimdo copy --into copies --files-from -"
+    assert flat in typed, flat
+    run("sh", "-c", flat, status=1, cwd=where)
+    assert sorted(path.name for path in (where / "copies").iterdir()) == ["a.luac", "damaged.luac", "odd.luac"]
+    for path in (where / "copies").iterdir():
+        path.unlink()
+    # Two files of one name, in two folders.
+    for around, more in (("one", b"1"), ("two", b"2")):
+        (where / "archive" / around).mkdir()
+        (where / "archive" / around / "init.luac").write_bytes(sample + more)
     expected = {
         "lafzimdo check archive/*.luac": (1, "archive/a.luac: verdict valid-for-analysis findings 0 warnings 0\narchive/half.luac: refused 1 at "),
         "lafzimdo check damaged.luac": (4, "verdict invalid\nfindings 1\nwarnings 0\nerror in function 0 at pc 51 (recentre.lua:64, JMP 16777216): "),

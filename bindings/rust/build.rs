@@ -16,7 +16,7 @@ fn main() {
     println!("cargo:rerun-if-changed={}", library.display());
     if !library.is_file() {
         eprintln!("There is no {}.", library.display());
-        eprintln!("Run `rt staticlib lafzimdo` at the top of the repository, or install the library (`make install`; pkg-config must find lafzimdo {}),", env!("CARGO_PKG_VERSION"));
+        eprintln!("Run `make target/staticlib/liblafzimdo.a` at the top of the repository, or install the library (`make install`; pkg-config must find lafzimdo {}),", env!("CARGO_PKG_VERSION"));
         eprintln!("or name the folder that holds liblafzimdo.a in LAFZIMDO_LIB.");
         exit(1);
     }
