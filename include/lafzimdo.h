@@ -1,5 +1,5 @@
 /* Lafzimdo: compiled Lua 5.4 scripts (chunks), read by proved code. Link liblafzimdo (`make install`, then `pkg-config --cflags --libs lafzimdo`), or target/staticlib/liblafzimdo.a, made by
- * `rt staticlib lafzimdo`; x86-64, Linux. Texts for refusals and names of opcodes: lafzimdo_text.h. Examples: examples/.
+ * `make target/staticlib/liblafzimdo.a`; x86-64, Linux. Texts for refusals and names of opcodes: lafzimdo_text.h. Examples: examples/.
  *
  * A call on a chunk takes the chunk, its length and the nine limits, asks nothing else, and fills the array `out` of the length that its declaration gives; some fill the front of
  * memory that is lent beside it. It returns 0, or a refusal as one number, and then `out` and lent memory are as they were. What each call promises is its contract in crates/lafzimdo/src.
