@@ -2,6 +2,7 @@
 --     refusals_hold    told apart: two refusals with one number (24 given as 23), two numbers exchanged, a place left out, a place where 01 gives none (2, 3 and 21 to 30)
 --     warnings_hold    told apart: the two codes exchanged, a place left out
 -- Assumes nothing.
+use Rattle.std.specs.Prelude.{Some, None}
 use mathlib.Core.Path.{◌≡◌, refl}
 use mathlib.Core.List.{List, [], ◌∷◌, map}
 use Prim.Native.Nat.{ℕ}
@@ -41,7 +42,6 @@ use Rattle.format.specs.declared.refusal.Refusal.TheVariants.{
   IntOverflow,
   NullString,
 }
-use Rattle.format.specs.declared.refusal.Place.TheVariants.{At, None}
 use Rattle.format.specs.declared.refusal.Report.{Report}
 use Rattle.format.specs.declared.header.Warning.{Warning}
 use Rattle.format.specs.declared.header.Warning.TheVariants.{NonStandardFormat, TrailingBytes}
@@ -52,7 +52,7 @@ use Rattle.format.specs.Warnings.{warned}
 
 -- ## Refusals
 abbrev at : ℕ → ℕ → Report
-at place n = record { number = n; place = At place }
+at place n = record { number = n; place = Some place }
 
 abbrev alone : ℕ → Report
 alone n = record { number = n; place = None }

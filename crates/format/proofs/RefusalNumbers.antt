@@ -4,6 +4,7 @@
 --     places_exactly   all but 2, 3 and 21 to 30 have a place
 -- Refused by these: 24 reported as 23 (`told-apart`), a refusal of number 0 or 34 (`numbers`), a place left out (`places-exactly`).
 -- Assumes nothing.
+use Rattle.std.specs.Prelude.{Option, Some, None}
 use mathlib.Core.Path.{◌≡◌, refl, sym, ◌∙◌, ap}
 use mathlib.Core.Bool.{Bool, true, false, ◌||◌, cond}
 use Prim.Native.Nat.{ℕ, ◌≤◌}
@@ -11,8 +12,6 @@ use lib.Dec.{leb, eqb}
 use borrow.Author.Tests.{leb-true}
 use Rattle.format.specs.declared.refusal.Refusal.{Refusal}
 use Rattle.format.specs.declared.refusal.Refusal.TheVariants as q
-use Rattle.format.specs.declared.refusal.Place.{Place}
-use Rattle.format.specs.declared.refusal.Place.TheVariants.{At, None}
 use Rattle.format.specs.declared.refusal.Report.{Report}
 use Rattle.format.specs.Refusals.{reported}
 
@@ -32,12 +31,12 @@ without_place n =
     (cond (eqb n 24) q.NoEntry (cond (eqb n 25) q.LineTooLarge (cond (eqb n 26) q.LentSpace (cond (eqb n 27) q.FieldRange (cond (eqb n 28) q.NoOpcode
     (cond (eqb n 29) q.AnchorOrder q.PcOrder))))))))))
 
-abbrev refusal_of : ℕ → Place → Refusal
-refusal_of n (At at) = with_place n at
+abbrev refusal_of : ℕ → Option ℕ → Refusal
+refusal_of n (Some at) = with_place n at
 refusal_of n None = without_place n
 
-abbrev pub has_place : Place → Bool
-has_place (At at) = true
+abbrev pub has_place : Option ℕ → Bool
+has_place (Some at) = true
 has_place None = false
 
 -- ## The table

@@ -1,4 +1,5 @@
 -- 01's list of refusals ('Who can cause a refusal'), with those that 02 adds: the number and the place of each.
+use Rattle.std.specs.Prelude.{Some, None}
 use Rattle.std.specs.Prelude.{ℕ}
 use Rattle.format.specs.declared.refusal.Refusal.{Refusal}
 use Rattle.format.specs.declared.refusal.Refusal.TheVariants.{
@@ -36,13 +37,11 @@ use Rattle.format.specs.declared.refusal.Refusal.TheVariants.{
   IntOverflow,
   NullString,
 }
-use Rattle.format.specs.declared.refusal.Place.{Place}
-use Rattle.format.specs.declared.refusal.Place.TheVariants.{At, None}
 use Rattle.format.specs.declared.refusal.Report.{Report}
 
 -- a number with a place, and one without
 abbrev pub placed : ℕ → ℕ → Report
-placed n at = record { number = n; place = At at }
+placed n at = record { number = n; place = Some at }
 
 abbrev pub bare : ℕ → Report
 bare n = record { number = n; place = None }

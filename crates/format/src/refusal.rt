@@ -71,16 +71,9 @@ pub enum Refusal {
     NullString(usize),
 }
 
-// A place in the file, if there is one.
-#[derive(Clone, Copy)]
-pub enum Place {
-    At(usize),
-    None,
-}
-
 // A refusal's number and place.
 #[derive(Clone, Copy)]
 pub struct Report {
     pub number: u8,
-    pub place: Place,
+    pub place: Option<usize>,
 }

@@ -6,7 +6,7 @@ ghost use Rattle.format.specs.Refusals.{reported};
 ghost use Rattle.format.specs.Warnings.{warned};
 
 use format::header::{Warning, WarningCode, WarningReport};
-use format::refusal::{Place, Refusal, Report};
+use format::refusal::{Refusal, Report};
 
 // A refusal's number and place. Ruled out: two numbers exchanged, the place left out.
 pub fn report_refusal(refusal: Refusal) -> Report
@@ -15,135 +15,135 @@ pub fn report_refusal(refusal: Refusal) -> Report
     match refusal {
         Refusal::Truncated(at) => Report {
             number: 1,
-            place: Place::At(at),
+            place: Some(at),
         },
         Refusal::Overflow => Report {
             number: 2,
-            place: Place::None,
+            place: None,
         },
         Refusal::VarintOverflow => Report {
             number: 3,
-            place: Place::None,
+            place: None,
         },
         Refusal::Signature(at) => Report {
             number: 4,
-            place: Place::At(at),
+            place: Some(at),
         },
         Refusal::Version(at) => Report {
             number: 5,
-            place: Place::At(at),
+            place: Some(at),
         },
         Refusal::LuacData(at) => Report {
             number: 6,
-            place: Place::At(at),
+            place: Some(at),
         },
         Refusal::InstructionSize(at) => Report {
             number: 7,
-            place: Place::At(at),
+            place: Some(at),
         },
         Refusal::LuaIntegerSize(at) => Report {
             number: 8,
-            place: Place::At(at),
+            place: Some(at),
         },
         Refusal::LuaNumberSize(at) => Report {
             number: 9,
-            place: Place::At(at),
+            place: Some(at),
         },
         Refusal::LuacInt(at) => Report {
             number: 10,
-            place: Place::At(at),
+            place: Some(at),
         },
         Refusal::LuacNum(at) => Report {
             number: 11,
-            place: Place::At(at),
+            place: Some(at),
         },
         Refusal::ConstantTag(at) => Report {
             number: 12,
-            place: Place::At(at),
+            place: Some(at),
         },
         Refusal::StringBytes(at) => Report {
             number: 13,
-            place: Place::At(at),
+            place: Some(at),
         },
         Refusal::Instructions(at) => Report {
             number: 14,
-            place: Place::At(at),
+            place: Some(at),
         },
         Refusal::TotalInstructions(at) => Report {
             number: 15,
-            place: Place::At(at),
+            place: Some(at),
         },
         Refusal::Constants(at) => Report {
             number: 16,
-            place: Place::At(at),
+            place: Some(at),
         },
         Refusal::Upvalues(at) => Report {
             number: 17,
-            place: Place::At(at),
+            place: Some(at),
         },
         Refusal::Prototypes(at) => Report {
             number: 18,
-            place: Place::At(at),
+            place: Some(at),
         },
         Refusal::NestingDepth(at) => Report {
             number: 19,
-            place: Place::At(at),
+            place: Some(at),
         },
         Refusal::TotalPrototypes(at) => Report {
             number: 20,
-            place: Place::At(at),
+            place: Some(at),
         },
         Refusal::LimitAboveCeiling => Report {
             number: 21,
-            place: Place::None,
+            place: None,
         },
         Refusal::InputBytes => Report {
             number: 22,
-            place: Place::None,
+            place: None,
         },
         Refusal::NoFunction => Report {
             number: 23,
-            place: Place::None,
+            place: None,
         },
         Refusal::NoEntry => Report {
             number: 24,
-            place: Place::None,
+            place: None,
         },
         Refusal::LineTooLarge => Report {
             number: 25,
-            place: Place::None,
+            place: None,
         },
         Refusal::LentSpace => Report {
             number: 26,
-            place: Place::None,
+            place: None,
         },
         Refusal::FieldRange => Report {
             number: 27,
-            place: Place::None,
+            place: None,
         },
         Refusal::NoOpcode => Report {
             number: 28,
-            place: Place::None,
+            place: None,
         },
         Refusal::AnchorOrder => Report {
             number: 29,
-            place: Place::None,
+            place: None,
         },
         Refusal::PcOrder => Report {
             number: 30,
-            place: Place::None,
+            place: None,
         },
         Refusal::Format(at) => Report {
             number: 31,
-            place: Place::At(at),
+            place: Some(at),
         },
         Refusal::IntOverflow(at) => Report {
             number: 32,
-            place: Place::At(at),
+            place: Some(at),
         },
         Refusal::NullString(at) => Report {
             number: 33,
-            place: Place::At(at),
+            place: Some(at),
         },
     }
 }

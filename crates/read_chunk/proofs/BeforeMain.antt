@@ -5,6 +5,8 @@
 --     spelt-read           .. or is shown, with how the chunk is spelt: as main is, and all that nest in it
 --     decoded-read         .. or with one
 -- Assumes nothing.
+use Rattle.std.specs.Prelude.{Option, Ok, Err}
+use Rattle.read_prototype.specs.declared.row.FunctionRow.{FunctionRow}
 use mathlib.Core.Path.{◌≡◌, refl, sym, ◌∙◌, ap}
 use mathlib.Core.Bool.{Bool, true, false, cond}
 use mathlib.Core.List.{List, ◌++◌}
@@ -41,17 +43,11 @@ use Rattle.format_spelling.proofs.Sums.{same_join}
 use Rattle.slice.specs.Shown.{cursor_at}
 use Rattle.read_header.specs.Shown.{first_warning}
 use Rattle.read_prototype.specs.Inner.Row.{shown_row, lookup}
-use Rattle.read_prototype.specs.declared.row.OptionRow.{OptionRow}
 use Rattle.read_walk.specs.declared.walk.Skimmed.{Skimmed}
-use Rattle.read_walk.specs.declared.walk.SkimResult.TheVariants as skim
 use Rattle.read_walk.specs.Inner.Skim.{skimmed_of, skim_result}
 use Rattle.read_walk.proofs.OneFunction.{skim_err}
-use Rattle.read_find.specs.declared.find.FindResult.TheVariants as find
 use Rattle.read_find.specs.Inner.Find.{find_result}
 use Rattle.read_chunk.specs.declared.Opening.{Opening}
-use Rattle.read_chunk.specs.declared.OpeningResult.TheVariants as begins
-use Rattle.read_chunk.specs.declared.summary.DecodedResult.TheVariants as decoded
-use Rattle.read_chunk.specs.declared.summary.SpeltResult.TheVariants as spelt
 use Rattle.read_chunk.specs.Inner.Opening.{before_main, opened, opening_result}
 use Rattle.read_chunk.specs.Decoded.{shown_warnings, summary_of}
 use Rattle.read_chunk.specs.Inner.Decoded.{spelt_result, decoded_result, list_of, summary_shown}
@@ -171,13 +167,13 @@ unfolding read
 by_main L s p q = rw (p, q)
 
 -- apart from what is known where it is used: cc looks at all of that
-not-both : {f : Opening} {q : Refusal} → begins.Ok f ≡ begins.Err q → ⊥
+not-both : {f : Opening} {q : Refusal} → Ok f ≡ Err q → ⊥
 not-both e = let z : ◌≡◌ {A = ℕ} 0 1 = cc in omega arith
 
-pub was_opened : (L : ResourceLimits) (s : Bytes) (f : Opening) → begins.Ok f ≡ opening_result (opened L s) → Opened L s f
+pub was_opened : (L : ResourceLimits) (s : Bytes) (f : Opening) → Ok f ≡ opening_result (opened L s) → Opened L s f
 was_opened L s f e = by (within_ceilings L) (leb (length s) L.max_input_bytes) (before_main 0 s) refl refl refl e
   where
-    by : (a b : Bool) (o : Read Headed) → within_ceilings L ≡ a → leb (length s) L.max_input_bytes ≡ b → before_main 0 s ≡ o → begins.Ok f ≡ opening_result (opens a b o) → Opened L s f
+    by : (a b : Bool) (o : Read Headed) → within_ceilings L ≡ a → leb (length s) L.max_input_bytes ≡ b → before_main 0 s ≡ o → Ok f ≡ opening_result (opens a b o) → Opened L s f
     by true true (ok h to rest) p q is e =
         let all : f ≡ record { header = h.header; warning = first_warning h.warnings; next = cursor_at to } = cc in
         let w = was_before L s is in
@@ -196,18 +192,18 @@ was_opened L s f e = by (within_ceilings L) (leb (length s) L.max_input_bytes) (
     by true false o p q is e = absurd (not-both e)
     by false b o p q is e = absurd (not-both e)
 
-pub not_opened : (L : ResourceLimits) (s : Bytes) (q : Refusal) → begins.Err q ≡ opening_result (opened L s) → read L s ≡ refusal q
+pub not_opened : (L : ResourceLimits) (s : Bytes) (q : Refusal) → Err q ≡ opening_result (opened L s) → read L s ≡ refusal q
 unfolding read
 not_opened L s x e = by (within_ceilings L) (leb (length s) L.max_input_bytes) (before_main 0 s) refl refl refl e
   where
-    by : (a b : Bool) (o : Read Headed) → within_ceilings L ≡ a → leb (length s) L.max_input_bytes ≡ b → before_main 0 s ≡ o → begins.Err x ≡ opening_result (opens a b o) → read L s ≡ refusal x
+    by : (a b : Bool) (o : Read Headed) → within_ceilings L ≡ a → leb (length s) L.max_input_bytes ≡ b → before_main 0 s ≡ o → Err x ≡ opening_result (opens a b o) → read L s ≡ refusal x
     by true true (ok h to rest) p q is e = absurd (let z : ◌≡◌ {A = ℕ} 0 1 = cc in omega arith)
     by true true (refused y) p q is e = let same : y ≡ x = cc in by_main L s p q ∙ ap (outcome L) (before-refused L s is) ∙ ap refusal same
     by true false o p q is e = let same : InputBytes ≡ x = cc in rw (p, q) (ap refusal same)
     by false b o p q is e = let same : LimitAboveCeiling ≡ x = cc in rw p (ap refusal same)
 
 -- ## The whole
-module _ (L : ResourceLimits) (s : Bytes) (f : Opening) (e : begins.Ok f ≡ opening_result (opened L s)) where
+module _ (L : ResourceLimits) (s : Bytes) (f : Opening) (e : Ok f ≡ opening_result (opened L s)) where
   pub known : Opened L s f
   known = was_opened L s f e
 
@@ -239,41 +235,42 @@ module _ (L : ResourceLimits) (s : Bytes) (f : Opening) (e : begins.Ok f ≡ ope
           trailing_len = length (sym behind i);
         }
 
-  pub spelt-refused : (q : Refusal) → skim.Err q ≡ skim_result outermost functions → spelt.Err q ≡ spelt_result (spelling L s) (read L s)
+  pub spelt-refused : (q : Refusal) → Err q ≡ skim_result outermost functions → Err q ≡ spelt_result (spelling L s) (read L s)
   spelt-refused q e = sym (ap (spelt_result (spelling L s)) (functions-refused q (skim_err outermost functions q e)))
 
   -- counted from nothing on
-  pub spelt-read : (k : Skimmed) → skim.Ok k ≡ skim_result outermost functions → (t t' : List ℕ) → counts t ≡ same → Adds functions (functions_spelt L f.next.at (drop f.next.at s)) t t'
-      → spelt.Ok (summary_shown s L.max_diagnostics f k.next k.number) (counts t') ≡ spelt_result (spelling L s) (read L s)
+  pub spelt-read : (k : Skimmed) → Ok k ≡ skim_result outermost functions → (t t' : List ℕ) → counts t ≡ same → Adds functions (functions_spelt L f.next.at (drop f.next.at s)) t t'
+      → Ok ((summary_shown s L.max_diagnostics f k.next k.number), (counts t')) ≡ spelt_result (spelling L s) (read L s)
   spelt-read k e t t' none adds = by functions refl e
     where
-      by : (o : Read (List Prototype)) → functions ≡ o → skim.Ok k ≡ skim_result outermost o → spelt.Ok (summary_shown s L.max_diagnostics f k.next k.number) (counts t') ≡ spelt_result (spelling L s) (read L s)
+      by : (o : Read (List Prototype)) → functions ≡ o → Ok k ≡ skim_result outermost o → Ok ((summary_shown s L.max_diagnostics f k.next k.number), (counts t')) ≡ spelt_result (spelling L s) (read L s)
       by (ok ps to rest) is e =
           let all : k ≡ skimmed_of outermost ps to = cc in
           let counted : counts t' ≡ spelling L s = adds.adds is ∙ ap (λ a. a ⊕ functions_spelt L f.next.at (drop f.next.at s)) none ∙ same_join _ ∙ sym known.spelt in
-          (λ i. spelt.Ok (summary_shown s L.max_diagnostics f (all i).next (all i).number) (counted i))
-          ∙ ap (λ n. spelt.Ok (summary_shown s L.max_diagnostics f (cursor_at to) n) (spelling L s)) (zero-add (length ps))
-          ∙ ap (λ y. spelt.Ok y (spelling L s)) (sums ps to rest is)
+          (λ i. Ok ((summary_shown s L.max_diagnostics f (all i).next (all i).number), (counted i)))
+          ∙ ap (λ n. Ok ((summary_shown s L.max_diagnostics f (cursor_at to) n), (spelling L s))) (zero-add (length ps))
+          ∙ ap (λ y. Ok (y, (spelling L s))) (sums ps to rest is)
           ∙ sym (ap (spelt_result (spelling L s)) (shows ps to rest is))
       by (refused p) is e = absurd (let z : ◌≡◌ {A = ℕ} 0 1 = cc in omega arith)
 
   module _ (wanted : ℕ) where
-    pub decoded-refused : (q : Refusal) → find.Err q ≡ find_result wanted functions → decoded.Err q ≡ decoded_result wanted (read L s)
+    pub decoded-refused : (q : Refusal) → Err q ≡ find_result wanted functions → Err q ≡ decoded_result wanted (read L s)
     decoded-refused q e = by functions refl e
       where
-        by : (o : Read (List Prototype)) → functions ≡ o → find.Err q ≡ find_result wanted o → decoded.Err q ≡ decoded_result wanted (read L s)
+        by : (o : Read (List Prototype)) → functions ≡ o → Err q ≡ find_result wanted o → Err q ≡ decoded_result wanted (read L s)
         by (ok ps to rest) is e = absurd (let z : ◌≡◌ {A = ℕ} 0 1 = cc in omega arith)
-        by (refused p) is e = let same : q ≡ p = cc in ap decoded.Err same ∙ sym (ap (decoded_result wanted) (functions-refused p is))
+        by (refused p) is e = let same : q ≡ p = cc in ap Err same ∙ sym (ap (decoded_result wanted) (functions-refused p is))
 
-    pub decoded-read : (k : Skimmed) (row : OptionRow) → find.Ok k row ≡ find_result wanted functions → decoded.Ok (record { summary = summary_shown s L.max_diagnostics f k.next k.number; row = row }) ≡ decoded_result wanted (read L s)
+    pub decoded-read : (k : Skimmed) (row : Option FunctionRow) → Ok (k, row) ≡ find_result wanted functions → Ok (record { summary = summary_shown s L.max_diagnostics f k.next k.number; row = row }) ≡ decoded_result wanted (read L s)
     decoded-read k row e = by functions refl e
       where
-        by : (o : Read (List Prototype)) → functions ≡ o → find.Ok k row ≡ find_result wanted o → decoded.Ok (record { summary = summary_shown s L.max_diagnostics f k.next k.number; row = row }) ≡ decoded_result wanted (read L s)
+        by : (o : Read (List Prototype)) → functions ≡ o → Ok (k, row) ≡ find_result wanted o → Ok (record { summary = summary_shown s L.max_diagnostics f k.next k.number; row = row }) ≡ decoded_result wanted (read L s)
         by (ok ps to rest) is e =
-            let all : k ≡ skimmed_of outermost ps to = cc in
-            let its_row : row ≡ shown_row (lookup wanted 0 ps) = cc in
-            (λ i. decoded.Ok (record { summary = summary_shown s L.max_diagnostics f (all i).next (all i).number; row = its_row i }))
-            ∙ ap (λ n. decoded.Ok (record { summary = summary_shown s L.max_diagnostics f (cursor_at to) n; row = shown_row (lookup wanted 0 ps) })) (zero-add (length ps))
-            ∙ ap (λ t. decoded.Ok (record { summary = t; row = shown_row (lookup wanted 0 ps) })) (sums ps to rest is)
+            let both : ◌≡◌ {A = Skimmed × Option FunctionRow} (k, row) (skimmed_of outermost ps to, shown_row (lookup wanted 0 ps)) = cc in
+            let all : k ≡ skimmed_of outermost ps to = ap (λ p. p.0) both in
+            let its_row : row ≡ shown_row (lookup wanted 0 ps) = ap (λ p. p.1) both in
+            (λ i. Ok (record { summary = summary_shown s L.max_diagnostics f (all i).next (all i).number; row = its_row i }))
+            ∙ ap (λ n. Ok (record { summary = summary_shown s L.max_diagnostics f (cursor_at to) n; row = shown_row (lookup wanted 0 ps) })) (zero-add (length ps))
+            ∙ ap (λ t. Ok (record { summary = t; row = shown_row (lookup wanted 0 ps) })) (sums ps to rest is)
             ∙ sym (ap (decoded_result wanted) (shows ps to rest is))
         by (refused p) is e = absurd (let z : ◌≡◌ {A = ℕ} 0 1 = cc in omega arith)

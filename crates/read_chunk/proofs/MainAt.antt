@@ -5,6 +5,7 @@
 --     main_first       there is one: main
 --     two-warnings     a reading has at most two warnings
 -- Assumes nothing.
+use Rattle.std.specs.Prelude.{Option, Some, None, Ok, Err}
 use mathlib.Core.Path.{◌≡◌, refl, sym, ◌∙◌, ap}
 use mathlib.Core.List.{List, [], ◌∷◌, ◌++◌}
 use Prim.Native.Nat.{ℕ, zero, suc, ◌≤◌, ◌<◌}
@@ -21,15 +22,12 @@ use Rattle.format.specs.GrammarHeader.{Headed}
 use Rattle.format.specs.ReadChunk.{forest, function, main, Outcome, shown, refusal}
 use Rattle.format.proofs.Exact.{never}
 use Rattle.format.proofs.ExactChunk.{exact_main}
-use Rattle.read_header.specs.declared.OptionWarning.{OptionWarning}
-use Rattle.read_header.specs.declared.OptionWarning.TheVariants as option
 use Rattle.read_header.specs.Shown.{first_warning}
 use Rattle.read_prototype.specs.Parts.{Head, head, Tail, tail}
 use Rattle.read_prototype.specs.Inner.Whole.{prototype_of, inside}
 use Rattle.read_walk.specs.Inner.Skim.{entered}
 use Rattle.read_walk.proofs.OneFunction.{by_parts}
 use Rattle.read_chunk.specs.declared.summary.Summary.{Summary}
-use Rattle.read_chunk.specs.declared.summary.JudgedResult.TheVariants as judged
 use Rattle.read_chunk.specs.Decoded.{summary_of}
 use Rattle.read_chunk.specs.Inner.Decoded.{judged_result, list_of}
 use Rattle.read_chunk.specs.Inner.Opening.{before_main}
@@ -42,11 +40,11 @@ pub record WasShown (o : Outcome) (d : Summary) : Type 0 where
   pub is : o ≡ shown value
   pub shows : d ≡ summary_of value
 
-pub was_shown : (o : Outcome) (d : Summary) → judged.Ok d ≡ judged_result o → WasShown o d
+pub was_shown : (o : Outcome) (d : Summary) → Ok d ≡ judged_result o → WasShown o d
 was_shown (shown r) d e = record { value = r; is = refl; shows = cc }
 was_shown (refusal q) d e = absurd (let z : ◌≡◌ {A = ℕ} 0 1 = cc in omega arith)
 
-pub was_refused : (o : Outcome) (q : Refusal) → judged.Err q ≡ judged_result o → o ≡ refusal q
+pub was_refused : (o : Outcome) (q : Refusal) → Err q ≡ judged_result o → o ≡ refusal q
 was_refused (shown r) q e = absurd (let z : ◌≡◌ {A = ℕ} 0 1 = cc in omega arith)
 was_refused (refusal p) q e = cc
 
@@ -96,9 +94,9 @@ main-at L s {m} {to} {rest} e = by (before_main 0 s) refl
         two headed _ refl (sym (w.goes_on ∙ ap (λ at. next (function L L.max_nesting_depth outermost at (drop at s)) (load headed)) w.place) ∙ e)
 
 -- ## Warnings
-few_listed : (w : OptionWarning) → length (list_of w) ≤ 1
-few_listed option.None = omega arith
-few_listed (option.Some x) = omega arith
+few_listed : (w : Option Warning) → length (list_of w) ≤ 1
+few_listed None = omega arith
+few_listed (Some x) = omega arith
 
 take_shorter : (n : ℕ) (xs : List Warning) → length (take n xs) ≤ length xs
 take_shorter zero xs = omega arith

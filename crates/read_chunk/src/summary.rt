@@ -1,29 +1,28 @@
 // What a whole chunk shows: its summary, how it is spelt, and the row of one function.
+ghost use Rattle.std.specs.Prelude.{Some, None};
 ghost use Rattle.std.specs.Prelude.{◌≡◌, cond, ◌++◌, ltb, eqb, take};
 ghost use Rattle.format.specs.declared.header.Warning.TheVariants as code;
 ghost use Rattle.format.specs.ReadChunk as format;
 ghost use Rattle.format_spelling.specs.ReadSpelling.{spelling};
-ghost use Rattle.read_header.specs.declared.OptionWarning.TheVariants as option;
 ghost use Rattle.read_chunk.specs.Decoded.{shown_warnings};
 ghost use Rattle.read_chunk.specs.Inner.Decoded.{spelt_result, judged_result, decoded_result, list_of, summary_shown};
 
-use crate::{Opening, OpeningResult, open_chunk};
+use crate::{Opening, open_chunk};
 use format::header::{Header, Warning};
 use format::limits::ResourceLimits;
 use format::refusal::Refusal;
 use format::spelling::Spelling;
 use format_spelling::tally::spelling_of;
-use read_find::find::{FindResult, find_row};
-use read_header::OptionWarning;
-use read_prototype::row::OptionRow;
-use read_walk::walk::{SkimResult, Skimmed, skim_main};
+use read_find::find::find_row;
+use read_prototype::row::FunctionRow;
+use read_walk::walk::{Skimmed, skim_main};
 use slice::cursor::{Cursor, remaining};
 
 // The warnings of a reading, in their order: there are at most two.
 #[derive(Clone, Copy)]
 pub struct Warnings {
-    pub first: OptionWarning,
-    pub second: OptionWarning,
+    pub first: Option<Warning>,
+    pub second: Option<Warning>,
 }
 
 #[derive(Clone, Copy)]
@@ -39,66 +38,40 @@ pub struct Summary {
 #[derive(Clone, Copy)]
 pub struct Decoded {
     pub summary: Summary,
-    pub row: OptionRow,
-}
-
-#[derive(Clone, Copy)]
-pub enum DecodedResult {
-    Ok(Decoded),
-    Err(Refusal),
-}
-
-#[derive(Clone, Copy)]
-pub enum JudgedResult {
-    Ok(Summary),
-    Err(Refusal),
-}
-
-// The summary, and how the chunk is spelt.
-#[derive(Clone, Copy)]
-pub enum SpeltResult {
-    Ok {
-        summary: Summary,
-        spelling: Spelling,
-    },
-    Err(Refusal),
+    pub row: Option<FunctionRow>,
 }
 
 // The warning of this index, where the limit leaves room for it.
-fn kept(index: usize, limit: usize, warning: OptionWarning) -> OptionWarning
-    ensures { result ≡ cond (ltb index limit) warning option.None }
+fn kept(index: usize, limit: usize, warning: Option<Warning>) -> Option<Warning>
+    ensures { result ≡ cond (ltb index limit) warning None }
 {
-    if index < limit {
-        warning
-    } else {
-        OptionWarning::None
-    }
+    if index < limit { warning } else { None }
 }
 
 // The warnings of the header and of the trailing bytes, as many as the limit leaves.
-fn in_order(limit: usize, of_header: OptionWarning, of_trailing: OptionWarning) -> Warnings
+fn in_order(limit: usize, of_header: Option<Warning>, of_trailing: Option<Warning>) -> Warnings
     ensures { result ≡ shown_warnings (take limit (list_of of_header ++ list_of of_trailing)) }
 {
     match of_header {
-        OptionWarning::Some(_) => Warnings {
+        Some(_) => Warnings {
             first: kept(0, limit, of_header),
             second: kept(1, limit, of_trailing),
         },
-        OptionWarning::None => Warnings {
+        None => Warnings {
             first: kept(0, limit, of_trailing),
-            second: OptionWarning::None,
+            second: None,
         },
     }
 }
 
 // Trailing bytes are a warning, at the first of them.
-fn trailing_warning(at: usize, len: usize) -> OptionWarning
-    ensures { result ≡ cond (eqb len 0) option.None (option.Some (code.TrailingBytes at)) }
+fn trailing_warning(at: usize, len: usize) -> Option<Warning>
+    ensures { result ≡ cond (eqb len 0) None (Some (code.TrailingBytes at)) }
 {
     if len == 0 {
-        OptionWarning::None
+        None
     } else {
-        OptionWarning::Some(Warning::TrailingBytes(at))
+        Some(Warning::TrailingBytes(at))
     }
 }
 
@@ -128,84 +101,52 @@ fn summarised(
 
 // Judges a whole chunk under limits, in one pass, and shows how it is spelt, but no function: where it is read, main begins at byte 32 (proofs/MainAt.antt).
 // Ruled out: limits above their ceilings taken, trailing bytes that are shown and not warned of, how main alone is spelt.
-pub fn judge_spelling(s: &[u8], limits: ResourceLimits) -> SpeltResult
+pub fn judge_spelling(s: &[u8], limits: ResourceLimits) -> Result<(Summary, Spelling), Refusal>
     ensures { result ≡ spelt_result (spelling limits s.now) (format.read limits s.now) }
 {
-    let begins = open_chunk(s, limits);
-    match begins {
-        OpeningResult::Err(refusal) => SpeltResult::Err(refusal),
-        OpeningResult::Ok(opening) => {
-            let first = opening.next;
-            let from = Skimmed {
-                next: first,
-                number: 0,
-                instructions: 0,
-            };
-            let mut tally = [0usize; 4];
-            let functions = skim_main(s, limits, limits.max_nesting_depth, from, &mut tally);
-            match functions {
-                SkimResult::Err(refusal) => SpeltResult::Err(refusal),
-                SkimResult::Ok(skimmed) => {
-                    let next = skimmed.next;
-                    let summary = summarised(
-                        s,
-                        limits.max_diagnostics,
-                        opening,
-                        next,
-                        skimmed.number,
-                    );
-                    let spelling = spelling_of(&tally);
-                    SpeltResult::Ok {
-                        summary: summary,
-                        spelling: spelling,
-                    }
-                }
-            }
-        }
-    }
+    let opening = open_chunk(s, limits)?;
+    let from = Skimmed {
+        next: opening.next,
+        number: 0,
+        instructions: 0,
+    };
+    let mut tally = [0usize; 4];
+    let skimmed = skim_main(s, limits, limits.max_nesting_depth, from, &mut tally)?;
+    let summary = summarised(
+        s,
+        limits.max_diagnostics,
+        opening,
+        skimmed.next,
+        skimmed.number,
+    );
+    let spelling = spelling_of(&tally);
+    Ok((summary, spelling))
 }
 
 // The same, for callers that show nothing of the spelling. Ruled out: a chunk refused for how it is spelt.
-pub fn judge_chunk(s: &[u8], limits: ResourceLimits) -> JudgedResult
+pub fn judge_chunk(s: &[u8], limits: ResourceLimits) -> Result<Summary, Refusal>
     ensures { result ≡ judged_result (format.read limits s.now) }
 {
-    let spelt = judge_spelling(s, limits);
-    match spelt {
-        SpeltResult::Err(refusal) => JudgedResult::Err(refusal),
-        SpeltResult::Ok {
-            summary,
-            spelling: _,
-        } => JudgedResult::Ok(summary),
-    }
+    let (summary, _) = judge_spelling(s, limits)?;
+    Ok(summary)
 }
 
 // Judges a whole chunk: its summary and the row of the function that is wanted, or the refusal. Ruled out: a count of functions without main.
-pub fn decode_chunk_lua54(s: &[u8], limits: ResourceLimits, wanted: usize) -> DecodedResult
+pub fn decode_chunk_lua54(
+    s: &[u8],
+    limits: ResourceLimits,
+    wanted: usize,
+) -> Result<Decoded, Refusal>
     ensures { result ≡ decoded_result wanted (format.read limits s.now) }
 {
-    let begins = open_chunk(s, limits);
-    match begins {
-        OpeningResult::Err(refusal) => DecodedResult::Err(refusal),
-        OpeningResult::Ok(opening) => {
-            let first = opening.next;
-            let found = find_row(s, limits, wanted, first);
-            match found {
-                FindResult::Err(refusal) => DecodedResult::Err(refusal),
-                FindResult::Ok { walked, row } => {
-                    let next = walked.next;
-                    let summary = summarised(
-                        s,
-                        limits.max_diagnostics,
-                        opening,
-                        next,
-                        walked.number,
-                    );
-                    DecodedResult::Ok(Decoded {
-                        summary: summary,
-                        row: row,
-                    })
-                }
-            }
-        }
-    }
+    let opening = open_chunk(s, limits)?;
+    let (walked, row) = find_row(s, limits, wanted, opening.next)?;
+    let summary = summarised(
+        s,
+        limits.max_diagnostics,
+        opening,
+        walked.next,
+        walked.number,
+    );
+    Ok(Decoded { summary, row })
 }

@@ -1,10 +1,10 @@
 -- What the code shows of what was read behind a constant's tag is what the reader shows of the constant.
 -- Assumes nothing.
+use Rattle.std.specs.Prelude.{Result, Ok, Err}
 use mathlib.Core.Path.{◌≡◌, refl}
 use mathlib.Core.List.{[]}
 use mathlib.Core.Option.{Option, none, some, get_or}
 use Prim.Native.Nat.{ℕ}
-use native.Mathlib.Omega.{arith}
 use lib.ListN.{drop}
 use Rattle.format.specs.declared.refusal.Refusal.{Refusal}
 use Rattle.format.specs.Form.{Bytes}
@@ -15,22 +15,18 @@ use Rattle.format.specs.ReadFields.{field}
 use Rattle.format.specs.ReadChunk.{tagged, constant}
 use Rattle.format.proofs.ExactFields.{exact_field}
 use Rattle.slice.specs.declared.cursor.Cursor.{Cursor}
-use Rattle.read_field.specs.declared.field.U8Result.TheVariants as u8
-use Rattle.slice.specs.Shown.{cursor_at}
-use Rattle.read_field.specs.Shown.{u8_result, u64_result, string_result}
-use Rattle.read_field.proofs.Shows.{Showed, onward, u8_err, u8_ok}
+use Rattle.read_field.specs.Shown.{shown, string_result}
+use Rattle.read_field.proofs.Shows.{Showed, onward, shown_err, shown_ok, shown_as_err, shown_as_ok}
 use Rattle.read_entry.specs.declared.constant.ConstantValue as declared
-use Rattle.read_entry.specs.declared.constant.ConstantResult.{ConstantResult}
-use Rattle.read_entry.specs.declared.constant.ConstantResult.TheVariants as answer
 use Rattle.read_entry.specs.Shown.{constant_value, constant_result}
 use Rattle.read_entry.specs.Inner.Constants.{integer_of, float_of, short_string_of, long_string_of}
 
 -- ## Behind a tag
-pub integer-shown : (o : Read ℕ) → integer_of (u64_result o) ≡ constant_result (next o (λ n. give (integer n)))
+pub integer-shown : (o : Read ℕ) → integer_of (shown o) ≡ constant_result (next o (λ n. give (integer n)))
 integer-shown (ok n to rest) = refl
 integer-shown (refused q) = refl
 
-pub float-shown : (o : Read ℕ) → float_of (u64_result o) ≡ constant_result (next o (λ n. give (float n)))
+pub float-shown : (o : Read ℕ) → float_of (shown o) ≡ constant_result (next o (λ n. give (float n)))
 float-shown (ok n to rest) = refl
 float-shown (refused q) = refl
 
@@ -50,20 +46,16 @@ long-shown (refused q) = refl
 
 -- ## The tag
 module _ (s : Bytes) (limit at : ℕ) where
-  pub tag_refused : (q : Refusal) → u8.Err q ≡ u8_result (field 1 at (drop at s)) → answer.Err q ≡ constant_result (constant limit at (drop at s))
-  tag_refused q e = rw (u8_err (field 1 at (drop at s)) q e)
+  pub tag_refused : (q : Refusal) → Err q ≡ shown (field 1 at (drop at s)) → Err q ≡ constant_result (constant limit at (drop at s))
+  tag_refused q e = rw (shown_err (field 1 at (drop at s)) q e)
 
-  pub tag_read : (v : ℕ) (c : Cursor) → u8.Ok v c ≡ u8_result (field 1 at (drop at s)) → {r : ConstantResult} → r ≡ constant_result (tagged limit at v c.at (drop c.at s))
+  pub tag_read : (v : ℕ) (c : Cursor) → Ok (v, c) ≡ shown (field 1 at (drop at s)) → {r : Result (declared.ConstantValue × Cursor) Refusal} → r ≡ constant_result (tagged limit at v c.at (drop c.at s))
       → r ≡ constant_result (constant limit at (drop at s))
-  tag_read v c e f = rw (onward (exact_field 1) s at (u8_ok (field 1 at (drop at s)) v c e)) f
+  tag_read v c e f = rw (onward (exact_field 1) s at (shown_ok (field 1 at (drop at s)) v c e)) f
 
 -- ## From what was shown back to what was read
-pub constant_err : (o : Read ConstantValue) (q : Refusal) → answer.Err q ≡ constant_result o → o ≡ refused q
-constant_err (ok k to rest) q e = absurd (let z : ◌≡◌ {A = ℕ} 0 1 = cc in omega arith)
-constant_err (refused p) q e = cc
+pub constant_err : (o : Read ConstantValue) (q : Refusal) → Err q ≡ constant_result o → o ≡ refused q
+constant_err = shown_as_err constant_value
 
-pub constant-ok : (o : Read ConstantValue) (shown : declared.ConstantValue) (c : Cursor) → answer.Ok shown c ≡ constant_result o → Showed constant_value o shown c.at
-constant-ok (ok k to rest) shown c e =
-    let next : c ≡ cursor_at to = cc in
-    record { value = k; was = record { rest = rest; is = rw next }; shows = cc }
-constant-ok (refused p) shown c e = absurd (let z : ◌≡◌ {A = ℕ} 0 1 = cc in omega arith)
+pub constant-ok : (o : Read ConstantValue) (k : declared.ConstantValue) (c : Cursor) → Ok (k, c) ≡ constant_result o → Showed constant_value o k c.at
+constant-ok = shown_as_ok constant_value

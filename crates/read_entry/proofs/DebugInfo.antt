@@ -1,10 +1,12 @@
 -- The answers of `read_anchor` and `read_local`, in the code's terms: s is the slice, and each part was read at the cursor behind the part before.
 -- Assumes nothing.
+use Rattle.std.specs.Prelude as prelude
+use Rattle.std.specs.Prelude.{Ok, Err}
+use Rattle.read_field.specs.declared.string.StringAt.{StringAt}
 use mathlib.Core.Path.{◌≡◌, refl, ◌∙◌, ap}
 use mathlib.Core.List.{[], ◌∷◌}
 use mathlib.Core.Option.{Option, get_or}
 use Prim.Native.Nat.{ℕ}
-use native.Mathlib.Omega.{arith}
 use lib.ListN.{drop}
 use Rattle.format.specs.declared.refusal.Refusal.{Refusal}
 use Rattle.format.specs.declared.entry.AbsLineInfo.{AbsLineInfo}
@@ -16,40 +18,35 @@ use Rattle.format.specs.ReadFields.{number, string}
 use Rattle.format.specs.ReadChunk.{anchor, local}
 use Rattle.format.proofs.ExactFields.{exact_number, exact_string}
 use Rattle.slice.specs.declared.cursor.Cursor.{Cursor}
-use Rattle.read_field.specs.declared.field.U64Result.TheVariants as u64
-use Rattle.read_field.specs.declared.string.OptionString.{OptionString}
-use Rattle.read_field.specs.declared.string.StringResult.TheVariants as string-answer
-use Rattle.slice.specs.Shown.{cursor_at}
-use Rattle.read_field.specs.Shown.{u64_result, option_string, string_result}
-use Rattle.read_field.proofs.Shows.{Was, Showed, Passed, onward, u64_err, u64_ok, string_err, string-ok}
-use Rattle.read_entry.specs.declared.debug.AnchorResult.TheVariants as anchor-answer
-use Rattle.read_entry.specs.declared.debug.LocalResult.TheVariants as local-answer
+use Rattle.read_field.specs.Shown.{shown, option_string, string_result}
+use Rattle.read_field.proofs.Shows.{Was, Showed, Passed, onward, shown_err, shown_ok, string_err, string-ok, shown_as_err, shown_as_ok}
+use Rattle.read_entry.specs.declared.debug.LocalAt.{LocalAt}
 use Rattle.read_entry.specs.Readers.{RawLocal, raw_local}
 use Rattle.read_entry.specs.Inner.Counts.{named}
-use Rattle.read_entry.specs.Shown.{anchor_result, local_result}
+use Rattle.read_entry.specs.Shown.{anchor_result, local_at, local_result}
 
 -- ## Anchors
 module _ (s : Bytes) (at : ℕ) where
-  pub pc_refused : (q : Refusal) → u64.Err q ≡ u64_result (number at (drop at s)) → anchor-answer.Err q ≡ anchor_result (anchor at (drop at s))
-  pc_refused q e = rw (u64_err (number at (drop at s)) q e)
+  pub pc_refused : (q : Refusal) → Err q ≡ shown (number at (drop at s)) → Err q ≡ anchor_result (anchor at (drop at s))
+  pc_refused q e = rw (shown_err (number at (drop at s)) q e)
 
-  module _ (pc : ℕ) (c : Cursor) (e : u64.Ok pc c ≡ u64_result (number at (drop at s))) where
+  module _ (pc : ℕ) (c : Cursor) (e : Ok (pc, c) ≡ shown (number at (drop at s))) where
     from-line : anchor at (drop at s) ≡ next (number c.at (drop c.at s)) (λ line. give (record { pc = pc; line = line }))
-    from-line = rw (onward exact_number s at (u64_ok (number at (drop at s)) pc c e))
+    from-line = rw (onward exact_number s at (shown_ok (number at (drop at s)) pc c e))
 
-    pub line_refused : (q : Refusal) → u64.Err q ≡ u64_result (number c.at (drop c.at s)) → anchor-answer.Err q ≡ anchor_result (anchor at (drop at s))
-    line_refused q f = rw (from-line, u64_err (number c.at (drop c.at s)) q f)
+    pub line_refused : (q : Refusal) → Err q ≡ shown (number c.at (drop c.at s)) → Err q ≡ anchor_result (anchor at (drop at s))
+    line_refused q f = rw (from-line, shown_err (number c.at (drop c.at s)) q f)
 
-    pub anchor-read : (line : ℕ) (end : Cursor) → u64.Ok line end ≡ u64_result (number c.at (drop c.at s))
-        → anchor-answer.Ok (record { pc = pc; line = line }) end ≡ anchor_result (anchor at (drop at s))
-    anchor-read line end f = rw (from-line, (u64_ok (number c.at (drop c.at s)) line end f).is)
+    pub anchor-read : (line : ℕ) (end : Cursor) → Ok (line, end) ≡ shown (number c.at (drop c.at s))
+        → Ok ((record { pc = pc; line = line }), end) ≡ anchor_result (anchor at (drop at s))
+    anchor-read line end f = rw (from-line, (shown_ok (number c.at (drop c.at s)) line end f).is)
 
 -- ## Local variables
 module _ (s : Bytes) (limit at : ℕ) where
-  pub name-refused : (q : Refusal) → string-answer.Err q ≡ string_result (string limit at (drop at s)) → local-answer.Err q ≡ local_result (raw_local limit at (drop at s))
+  pub name-refused : (q : Refusal) → Err q ≡ string_result (string limit at (drop at s)) → Err q ≡ local_result (raw_local limit at (drop at s))
   name-refused q e = rw (string_err (string limit at (drop at s)) q e)
 
-  module _ (name : OptionString) (c : Cursor) (e : string-answer.Ok name c ≡ string_result (string limit at (drop at s))) where
+  module _ (name : prelude.Option StringAt) (c : Cursor) (e : Ok (name, c) ≡ string_result (string limit at (drop at s))) where
     spelt : Showed option_string (string limit at (drop at s)) name c.at
     spelt = string-ok (string limit at (drop at s)) name c e
 
@@ -59,19 +56,19 @@ module _ (s : Bytes) (limit at : ℕ) where
     from-startpc : raw_local limit at (drop at s) ≡ next (number c.at (drop c.at s)) (λ startpc. number >>= λ endpc. give (numbered startpc endpc))
     from-startpc = rw (onward (exact_string limit) s at spelt.was)
 
-    pub startpc-refused : (q : Refusal) → u64.Err q ≡ u64_result (number c.at (drop c.at s)) → local-answer.Err q ≡ local_result (raw_local limit at (drop at s))
-    startpc-refused q f = rw (from-startpc, u64_err (number c.at (drop c.at s)) q f)
+    pub startpc-refused : (q : Refusal) → Err q ≡ shown (number c.at (drop c.at s)) → Err q ≡ local_result (raw_local limit at (drop at s))
+    startpc-refused q f = rw (from-startpc, shown_err (number c.at (drop c.at s)) q f)
 
-    module _ (startpc : ℕ) (d : Cursor) (f : u64.Ok startpc d ≡ u64_result (number c.at (drop c.at s))) where
+    module _ (startpc : ℕ) (d : Cursor) (f : Ok (startpc, d) ≡ shown (number c.at (drop c.at s))) where
       from-endpc : raw_local limit at (drop at s) ≡ next (number d.at (drop d.at s)) (λ endpc. give (numbered startpc endpc))
-      from-endpc = rw (from-startpc, onward exact_number s c.at (u64_ok (number c.at (drop c.at s)) startpc d f))
+      from-endpc = rw (from-startpc, onward exact_number s c.at (shown_ok (number c.at (drop c.at s)) startpc d f))
 
-      pub endpc-refused : (q : Refusal) → u64.Err q ≡ u64_result (number d.at (drop d.at s)) → local-answer.Err q ≡ local_result (raw_local limit at (drop at s))
-      endpc-refused q g = rw (from-endpc, u64_err (number d.at (drop d.at s)) q g)
+      pub endpc-refused : (q : Refusal) → Err q ≡ shown (number d.at (drop d.at s)) → Err q ≡ local_result (raw_local limit at (drop at s))
+      endpc-refused q g = rw (from-endpc, shown_err (number d.at (drop d.at s)) q g)
 
-      pub local-read : (endpc : ℕ) (end : Cursor) → u64.Ok endpc end ≡ u64_result (number d.at (drop d.at s))
-          → local-answer.Ok name startpc endpc end ≡ local_result (raw_local limit at (drop at s))
-      local-read endpc end g = rw (from-endpc, (u64_ok (number d.at (drop d.at s)) endpc end g).is) (ap (λ n. local-answer.Ok n startpc endpc end) spelt.shows)
+      pub local-read : (endpc : ℕ) (end : Cursor) → Ok (endpc, end) ≡ shown (number d.at (drop d.at s))
+          → Ok ((record { name = name; startpc = startpc; endpc = endpc }), end) ≡ local_result (raw_local limit at (drop at s))
+      local-read endpc end g = rw (from-endpc, (shown_ok (number d.at (drop d.at s)) endpc end g).is) (ap (λ n. Ok ((record { name = n; startpc = startpc; endpc = endpc }), end)) spelt.shows)
 
 -- a local variable is one with its name as it is spelt, and `?` where it has none: behind the name, and behind each number
 module _ (name : Option LuaString) (behind : ℕ) where
@@ -104,31 +101,18 @@ local-named limit at s = go (string limit at s)
     go (refused q) = refl
 
 -- ## From what was shown back to what was read
-pub anchor_err : (o : Read AbsLineInfo) (q : Refusal) → anchor-answer.Err q ≡ anchor_result o → o ≡ refused q
-anchor_err (ok a to rest) q e = absurd (let z : ◌≡◌ {A = ℕ} 0 1 = cc in omega arith)
-anchor_err (refused p) q e = cc
+pub anchor_err : (o : Read AbsLineInfo) (q : Refusal) → Err q ≡ anchor_result o → o ≡ refused q
+anchor_err = shown_err
 
-pub anchor-ok : (o : Read AbsLineInfo) (a : AbsLineInfo) (c : Cursor) → anchor-answer.Ok a c ≡ anchor_result o → Was o a c.at
-anchor-ok (ok b to rest) a c e =
-    let value : a ≡ b = cc in
-    let next : c ≡ cursor_at to = cc in
-    record { rest = rest; is = rw (value, next) }
-anchor-ok (refused p) a c e = absurd (let z : ◌≡◌ {A = ℕ} 0 1 = cc in omega arith)
+pub anchor-ok : (o : Read AbsLineInfo) (a : AbsLineInfo) (c : Cursor) → Ok (a, c) ≡ anchor_result o → Was o a c.at
+anchor-ok = shown_ok
 
 -- of a local variable, with its name
 module _ (limit at : ℕ) (s : Bytes) where
-  local_err : (o : Read RawLocal) (q : Refusal) → local-answer.Err q ≡ local_result o → o ≡ refused q
-  local_err (ok l to rest) q e = absurd (let z : ◌≡◌ {A = ℕ} 0 1 = cc in omega arith)
-  local_err (refused p) q e = cc
+  pub local-refused : (q : Refusal) → Err q ≡ local_result (raw_local limit at s) → local limit at s ≡ refused q
+  local-refused q e = local-named limit at s ∙ rw (shown_as_err local_at (raw_local limit at s) q e)
 
-  pub local-refused : (q : Refusal) → local-answer.Err q ≡ local_result (raw_local limit at s) → local limit at s ≡ refused q
-  local-refused q e = local-named limit at s ∙ rw (local_err (raw_local limit at s) q e)
-
-  pub local-passed : (name : OptionString) (startpc endpc : ℕ) (c : Cursor) → local-answer.Ok name startpc endpc c ≡ local_result (raw_local limit at s) → Passed (local limit at s) c.at
-  local-passed name startpc endpc c e = go (raw_local limit at s) refl e
-    where
-      go : (o : Read RawLocal) → raw_local limit at s ≡ o → local-answer.Ok name startpc endpc c ≡ local_result o → Passed (local limit at s) c.at
-      go (ok l to rest) is e =
-          let next : c ≡ cursor_at to = cc in
-          record { value = named l; was = record { rest = rest; is = local-named limit at s ∙ rw (is, next) } }
-      go (refused p) is e = absurd (let z : ◌≡◌ {A = ℕ} 0 1 = cc in omega arith)
+  pub local-passed : (l : LocalAt) (c : Cursor) → Ok (l, c) ≡ local_result (raw_local limit at s) → Passed (local limit at s) c.at
+  local-passed l c e =
+      let w = shown_as_ok local_at (raw_local limit at s) l c e in
+      record { value = named w.value; was = record { rest = w.was.rest; is = local-named limit at s ∙ ap (λ o. next o (λ l. give (named l))) w.was.is } }

@@ -1,5 +1,8 @@
 -- A string that the copy fills where it is absent: counted by its size and, where it is absent, once more. It stands in a constant, and as the name of a local variable.
 -- Assumes nothing.
+use Rattle.std.specs.Prelude as prelude
+use Rattle.std.specs.Prelude.{Result, Ok, Err}
+use Rattle.read_field.specs.declared.string.StringAt.{StringAt}
 use mathlib.Core.Path.{◌≡◌, refl, sym, subst, ◌∙◌, ap}
 use mathlib.Core.List.{List, [], ◌∷◌}
 use mathlib.Core.Option.{Option, none, some, get_or}
@@ -24,10 +27,7 @@ use Rattle.format_spelling.proofs.Covers.{Covers, covers_few, between_join}
 use Rattle.format_spelling.proofs.Passing.{stepped}
 use Rattle.format_spelling.proofs.Tallies.{adds-all}
 use Rattle.slice.specs.declared.cursor.Cursor.{Cursor}
-use Rattle.slice.specs.declared.cursor.CursorResult.{CursorResult}
-use Rattle.slice.specs.declared.cursor.CursorResult.TheVariants as cursor
 use Rattle.slice.specs.Inner.Results.{cursor_result}
-use Rattle.read_field.specs.declared.string.OptionString.{OptionString}
 use Rattle.read_field.specs.Shown.{option_string}
 use Rattle.read_field.proofs.Shows.{Showed, cursor_err}
 use Rattle.read_entry.specs.Inner.Absent.{of_string}
@@ -41,7 +41,7 @@ or_else instead t place = get_or t (record { place = place; bytes = instead })
 abbrev filled : Bytes → Option LuaString → Reader LuaString
 filled instead t at s = ok (or_else instead t at) at s
 
-pub passes_filled : (limit : ℕ) (instead : Bytes) (at : ℕ) (s : Bytes) {n : Spelling} {a : CursorResult} {t t' : List ℕ} → Passes (string limit at s) n a t t' → Passes (always limit instead at s) n a t t'
+pub passes_filled : (limit : ℕ) (instead : Bytes) (at : ℕ) (s : Bytes) {n : Spelling} {a : Result Cursor Refusal} {t t' : List ℕ} → Passes (string limit at s) n a t t' → Passes (always limit instead at s) n a t t'
 passes_filled limit instead at s p = passes_value (or_else instead) (string limit at s) p
 
 pub covers_filled : (limit : ℕ) → Covers (string limit) (count.always limit)
@@ -52,7 +52,7 @@ filling-is : (t : Option LuaString) → of_string (option_string t) ≡ filling 
 filling-is none = refl
 filling-is (some t) = refl
 
-module _ (limit at : ℕ) (s : Bytes) {shown : OptionString} {to : ℕ} (w : Showed option_string (string limit at s) shown to) {t t₁ : List ℕ} (adds : Adds (string limit at s) (count.string at s) t t₁) where
+module _ (limit at : ℕ) (s : Bytes) {shown : prelude.Option StringAt} {to : ℕ} (w : Showed option_string (string limit at s) shown to) {t t₁ : List ℕ} (adds : Adds (string limit at s) (count.string at s) t t₁) where
   both : counts t₁ ⊕ of_string shown ≡ counts t ⊕ count.always limit at s
   both =
       ap (λ a. counts t₁ ⊕ a) (ap of_string w.shows ∙ filling-is w.value)
@@ -70,9 +70,9 @@ module _ (limit at : ℕ) (s : Bytes) {shown : OptionString} {to : ℕ} (w : Sho
 
 -- ## A local variable: its name, and what is behind it
 module _ (limit : ℕ) (s : Bytes) (at : ℕ) where
-  pub name_stop : {n : Spelling} {q : Refusal} {t t' : List ℕ} → cursor.Err q ≡ cursor_result (string limit at (drop at s)) → Passes (local limit at (drop at s)) n (cursor.Err q) t t'
+  pub name_stop : {n : Spelling} {q : Refusal} {t t' : List ℕ} → Err q ≡ cursor_result (string limit at (drop at s)) → Passes (local limit at (drop at s)) n (Err q) t t'
   name_stop {q = q} e = passes_stop (always limit (63 ∷ [])) numbers at (drop at s) (ap (λ o. next o (filled (63 ∷ []))) (cursor_err (string limit at (drop at s)) q e))
 
-  pub name-on : {k : Cursor} {a : CursorResult} {t t₁ t₂ : List ℕ} → Passes (string limit at (drop at s)) (count.always limit at (drop at s)) (cursor.Ok k) t t₁
+  pub name-on : {k : Cursor} {a : Result Cursor Refusal} {t t₁ t₂ : List ℕ} → Passes (string limit at (drop at s)) (count.always limit at (drop at s)) (Ok k) t t₁
       → ((name : LuaString) → Passes (numbers name k.at (drop k.at s)) (count.plus number count.number (λ startpc. count.number) k.at (drop k.at s)) a t₁ t₂) → Passes (local limit at (drop at s)) (count.local limit at (drop at s)) a t t₂
   name-on one two = passes_on (exact_always limit (63 ∷ [])) (count.always limit) numbers (λ name. count.plus number count.number λ startpc. count.number) s at (passes_filled limit (63 ∷ []) at (drop at s) one) two

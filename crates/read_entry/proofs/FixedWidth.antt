@@ -1,5 +1,6 @@
 -- Passing over fields of any width w without a loop: by how many there are.
 -- Assumes nothing.
+use Rattle.std.specs.Prelude.{Ok, Err}
 use mathlib.Core.Path.{◌≡◌, refl, sym, ◌∙◌}
 use mathlib.Core.List.{List, ◌∷◌}
 use Prim.Native.Nat.{ℕ, zero, suc, ◌+◌, ◌*◌, ◌≤◌, ◌<◌}
@@ -11,14 +12,13 @@ use Rattle.format.specs.Read.{Read, ok, refused, Reader, next, ◌>>=◌, give, 
 use Rattle.format.specs.ReadFields.{field}
 use Rattle.format.specs.ReadChunk.{upvalue}
 use Rattle.format.proofs.Steps.{field-short, field_enough}
-use Rattle.slice.specs.declared.cursor.CursorResult.TheVariants as cursor
 use Rattle.slice.specs.Shown.{cursor_at}
 use Rattle.slice.specs.Inner.Results.{cursor_result}
 use Rattle.read_entry.proofs.Turns.{same_end}
 
 module _ (w : ℕ) where
   -- n fields are there
-  pub fields_enough : (n at : ℕ) (s : Bytes) → n * w ≤ length s → cursor.Ok (cursor_at (at + n * w)) ≡ cursor_result (many n (field w) at s)
+  pub fields_enough : (n at : ℕ) (s : Bytes) → n * w ≤ length s → Ok (cursor_at (at + n * w)) ≡ cursor_result (many n (field w) at s)
   fields_enough zero at s h = let e : at + zero * w ≡ at = omega (arith, zero-mul w) in rw e
   fields_enough (suc n) at s h =
       let more = suc-mul n w in
@@ -27,7 +27,7 @@ module _ (w : ℕ) where
       (fields_enough n (at + w) (drop w s) (rw length-drop (omega arith)) ∙ sym (same_end _ (many n (field w) (at + w) (drop w s))))
 
   -- k are there, and not one more, of n that are wanted: the refusal is where the next would begin
-  pub fields_short : (k n at : ℕ) (s : Bytes) → k < n → k * w ≤ length s → length s < k * w + w → cursor.Err (short w (at + k * w)) ≡ cursor_result (many n (field w) at s)
+  pub fields_short : (k n at : ℕ) (s : Bytes) → k < n → k * w ≤ length s → length s < k * w + w → Err (short w (at + k * w)) ≡ cursor_result (many n (field w) at s)
   fields_short k zero at s l h m = absurd (omega arith)
   fields_short zero (suc n) at s l h m =
       let none = zero-mul w in
@@ -57,12 +57,12 @@ upvalues-bytes (suc n) at s =
     same_end _ (many n upvalue at s) ∙ upvalues-bytes n at s)
 
 module _ (n at : ℕ) (s : Bytes) where
-  pub upvalues_enough : n * 3 ≤ length s → cursor.Ok (cursor_at (at + n * 3)) ≡ cursor_result (many n upvalue at s)
+  pub upvalues_enough : n * 3 ≤ length s → Ok (cursor_at (at + n * 3)) ≡ cursor_result (many n upvalue at s)
   upvalues_enough h =
       let e : n * 3 * 1 ≡ n * 3 = omega arith in
       rw (upvalues-bytes n at s) (rw e at (fields_enough 1 (n * 3) at s (omega arith)))
 
-  pub upvalues-short : length s < n * 3 → cursor.Err (short 1 (at + length s)) ≡ cursor_result (many n upvalue at s)
+  pub upvalues-short : length s < n * 3 → Err (short 1 (at + length s)) ≡ cursor_result (many n upvalue at s)
   upvalues-short h =
       let e : length s * 1 ≡ length s = omega arith in
       rw (upvalues-bytes n at s) (rw e at (fields_short 1 (length s) (n * 3) at s h (omega arith) (omega arith)))

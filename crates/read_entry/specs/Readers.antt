@@ -4,7 +4,7 @@ use Rattle.std.specs.Prelude.{ℕ, ◌+◌}
 use Rattle.format.specs.declared.refusal.Refusal.TheVariants.{Instructions, TotalInstructions, Prototypes}
 use Rattle.format.specs.GrammarFields.{LuaString}
 use Rattle.format.specs.GrammarChunk.{Listed}
-use Rattle.format.specs.Read.{Reader, next, ◌>>=◌, ◌>>◌, give, here, at_most, run, many}
+use Rattle.format.specs.Read.{Reader, ◌>>=◌, ◌>>◌, give, here, at_most, run, many}
 use Rattle.format.specs.ReadFields.{field, number, string}
 
 -- ## A local variable

@@ -1,22 +1,19 @@
 -- What the code shows of what a reader gives, of an entry: the value and the cursor behind it, or the refusal.
+use Rattle.std.specs.Prelude.{Result}
+use Rattle.format.specs.declared.refusal.Refusal.{Refusal}
+use Rattle.read_entry.specs.declared.debug.LocalAt.{LocalAt}
+use Rattle.slice.specs.declared.cursor.Cursor.{Cursor}
 use Rattle.std.specs.Prelude.{length}
 use Rattle.std.specs.Int.{w64}
 use Rattle.std.proofs.Common.{to_z}
 use Rattle.format.specs.GrammarFields.{LuaString}
 use Rattle.format.specs.declared.entry.AbsLineInfo.{AbsLineInfo}
 use Rattle.format.specs.Reading as reading
-use Rattle.format.specs.Read.{Read, ok, refused}
+use Rattle.format.specs.Read.{Read}
 use Rattle.read_field.specs.declared.string.StringAt.{StringAt}
-use Rattle.slice.specs.Shown.{cursor_at}
-use Rattle.read_field.specs.Shown.{option_string}
+use Rattle.read_field.specs.Shown.{option_string, shown, shown_as}
 use Rattle.read_entry.specs.declared.constant.ConstantValue.{ConstantValue}
 use Rattle.read_entry.specs.declared.constant.ConstantValue.TheVariants as constant
-use Rattle.read_entry.specs.declared.constant.ConstantResult.{ConstantResult}
-use Rattle.read_entry.specs.declared.constant.ConstantResult.TheVariants as answer
-use Rattle.read_entry.specs.declared.debug.AnchorResult.{AnchorResult}
-use Rattle.read_entry.specs.declared.debug.AnchorResult.TheVariants as anchor
-use Rattle.read_entry.specs.declared.debug.LocalResult.{LocalResult}
-use Rattle.read_entry.specs.declared.debug.LocalResult.TheVariants as local
 use Rattle.read_entry.specs.Readers.{RawLocal}
 
 -- ## Constants
@@ -33,15 +30,15 @@ constant_value (reading.float n) = constant.Float n
 constant_value (reading.short_string t) = constant.ShortString (string_at t)
 constant_value (reading.long_string t) = constant.LongString (string_at t)
 
-abbrev pub constant_result : Read reading.ConstantValue → ConstantResult
-constant_result (ok k to rest) = answer.Ok (constant_value k) (cursor_at to)
-constant_result (refused q) = answer.Err q
+abbrev pub constant_result : Read reading.ConstantValue → Result (ConstantValue × Cursor) Refusal
+constant_result = shown_as constant_value
 
 -- ## Debug information
-abbrev pub anchor_result : Read AbsLineInfo → AnchorResult
-anchor_result (ok a to rest) = anchor.Ok a (cursor_at to)
-anchor_result (refused q) = anchor.Err q
+abbrev pub anchor_result : Read AbsLineInfo → Result (AbsLineInfo × Cursor) Refusal
+anchor_result = shown
 
-abbrev pub local_result : Read RawLocal → LocalResult
-local_result (ok l to rest) = local.Ok (option_string l.name) l.startpc l.endpc (cursor_at to)
-local_result (refused q) = local.Err q
+abbrev pub local_at : RawLocal → LocalAt
+local_at l = record { name = option_string l.name; startpc = l.startpc; endpc = l.endpc }
+
+abbrev pub local_result : Read RawLocal → Result (LocalAt × Cursor) Refusal
+local_result = shown_as local_at

@@ -6,76 +6,50 @@ ghost use Rattle.read_entry.specs.Shown.{anchor_result, local_result};
 
 use format::entry::AbsLineInfo;
 use format::refusal::Refusal;
-use read_field::field::U64Result;
-use read_field::string::{OptionString, StringResult, read_string_lua54};
+use read_field::string::{StringAt, read_string_lua54};
 use read_field::varint::read_value;
 use slice::cursor::Cursor;
 
+// A local variable as it is spelt: its name, if it has one, and the two numbers between which it is live.
 #[derive(Clone, Copy)]
-pub enum AnchorResult {
-    Ok { value: AbsLineInfo, next: Cursor },
-    Err(Refusal),
-}
-
-// The Rust's `LocalVar`, but that an absent name stays absent.
-#[derive(Clone, Copy)]
-pub enum LocalResult {
-    Ok {
-        name: OptionString,
-        startpc: usize,
-        endpc: usize,
-        next: Cursor,
-    },
-    Err(Refusal),
+pub struct LocalAt {
+    pub name: Option<StringAt>,
+    pub startpc: usize,
+    pub endpc: usize,
 }
 
 // Reads an anchor: its pc and its line. Ruled out: pc and line exchanged, the place behind pc given as the next.
-pub fn read_anchor(s: &[u8], cursor: Cursor) -> AnchorResult
+pub fn read_anchor(s: &[u8], cursor: Cursor) -> Result<(AbsLineInfo, Cursor), Refusal>
     ensures { result ≡ anchor_result (anchor cursor.at (drop cursor.at s.now)) }
 {
-    let pc = read_value(s, cursor);
-    match pc {
-        U64Result::Err(refusal) => AnchorResult::Err(refusal),
-        U64Result::Ok { value: first, next } => {
-            let line = read_value(s, next);
-            match line {
-                U64Result::Err(refusal) => AnchorResult::Err(refusal),
-                U64Result::Ok { value, next } => AnchorResult::Ok {
-                    value: AbsLineInfo {
-                        pc: first as usize,
-                        line: value as usize,
-                    },
-                    next: next,
-                },
-            }
-        }
-    }
+    let (pc, behind) = read_value(s, cursor)?;
+    let (line, next) = read_value(s, behind)?;
+    Ok((
+        AbsLineInfo {
+            pc: pc as usize,
+            line: line as usize,
+        },
+        next,
+    ))
 }
 
 // Reads a local variable: its name and the two numbers between which it is live. Ruled out: an absent name given as an empty one, startpc and endpc exchanged.
-pub fn read_local(s: &[u8], cursor: Cursor, max_string_bytes: usize) -> LocalResult
+pub fn read_local(
+    s: &[u8],
+    cursor: Cursor,
+    max_string_bytes: usize,
+) -> Result<(LocalAt, Cursor), Refusal>
     ensures { result ≡ local_result (raw_local max_string_bytes cursor.at (drop cursor.at s.now)) }
 {
-    let name = read_string_lua54(s, cursor, max_string_bytes);
-    match name {
-        StringResult::Err(refusal) => LocalResult::Err(refusal),
-        StringResult::Ok { string, next } => {
-            let startpc = read_value(s, next);
-            match startpc {
-                U64Result::Err(refusal) => LocalResult::Err(refusal),
-                U64Result::Ok { value: start, next } => {
-                    let endpc = read_value(s, next);
-                    match endpc {
-                        U64Result::Err(refusal) => LocalResult::Err(refusal),
-                        U64Result::Ok { value: end, next } => LocalResult::Ok {
-                            name: string,
-                            startpc: start as usize,
-                            endpc: end as usize,
-                            next: next,
-                        },
-                    }
-                }
-            }
-        }
-    }
+    let (name, behind) = read_string_lua54(s, cursor, max_string_bytes)?;
+    let (startpc, further) = read_value(s, behind)?;
+    let (endpc, next) = read_value(s, further)?;
+    Ok((
+        LocalAt {
+            name,
+            startpc: startpc as usize,
+            endpc: endpc as usize,
+        },
+        next,
+    ))
 }

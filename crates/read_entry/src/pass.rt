@@ -13,56 +13,52 @@ ghost use Rattle.read_entry.specs.Inner.Absent.{of_string};
 use format::refusal::Refusal;
 use format::spelling::Spelling;
 use format_spelling::tally::{Tally, add};
-use read_field::field::{U8Result, U64Result, read_u8, read_u64_le};
-use read_field::string::{OptionString, StringResult, tally_string};
+use read_field::field::{read_u8, read_u64_le};
+use read_field::string::{StringAt, tally_string};
 use read_field::varint::tally_varint;
-use slice::cursor::{Cursor, CursorResult};
+use slice::cursor::Cursor;
 
 // Eight bytes.
-fn pass_eight(s: &[u8], cursor: Cursor) -> CursorResult
+fn pass_eight(s: &[u8], cursor: Cursor) -> Result<Cursor, Refusal>
     ensures { result ≡ cursor_result (field 8 cursor.at (drop cursor.at s.now)) }
 {
-    let read = read_u64_le(s, cursor);
-    match read {
-        U64Result::Err(refusal) => CursorResult::Err(refusal),
-        U64Result::Ok { value: _, next } => CursorResult::Ok(next),
-    }
+    let (_, next) = read_u64_le(s, cursor)?;
+    Ok(next)
 }
 
 // A number.
-fn pass_number(s: &[u8], cursor: Cursor, tally: &mut Tally) -> CursorResult
+fn pass_number(s: &[u8], cursor: Cursor, tally: &mut Tally) -> Result<Cursor, Refusal>
     requires { Room tally.old cursor.at }
     ensures value { result ≡ cursor_result (number cursor.at (drop cursor.at s.now)) }
     ensures adds { Adds (number cursor.at (drop cursor.at s.now)) (count.number cursor.at (drop cursor.at s.now)) tally.old tally.new }
 {
-    let read = tally_varint(s, cursor, tally);
-    match read {
-        U64Result::Err(refusal) => CursorResult::Err(refusal),
-        U64Result::Ok { value: _, next } => CursorResult::Ok(next),
-    }
+    let (_, next) = tally_varint(s, cursor, tally)?;
+    Ok(next)
 }
 
 // A string that may be absent, as the name of an upvalue.
-fn pass_string(s: &[u8], cursor: Cursor, max_string_bytes: usize, tally: &mut Tally) -> CursorResult
+fn pass_string(
+    s: &[u8],
+    cursor: Cursor,
+    max_string_bytes: usize,
+    tally: &mut Tally,
+) -> Result<Cursor, Refusal>
     requires { Room tally.old cursor.at }
     ensures value { result ≡ cursor_result (string max_string_bytes cursor.at (drop cursor.at s.now)) }
     ensures adds { Adds (string max_string_bytes cursor.at (drop cursor.at s.now)) (count.string cursor.at (drop cursor.at s.now)) tally.old tally.new }
 {
-    let read = tally_string(s, cursor, max_string_bytes, tally);
-    match read {
-        StringResult::Err(refusal) => CursorResult::Err(refusal),
-        StringResult::Ok { string: _, next } => CursorResult::Ok(next),
-    }
+    let (_, next) = tally_string(s, cursor, max_string_bytes, tally)?;
+    Ok(next)
 }
 
 // Counts an absent string, which the copy fills. Ruled out: an empty string counted.
-fn add_absent(tally: &mut Tally, string: OptionString)
+fn add_absent(tally: &mut Tally, string: Option<StringAt>)
     requires { Fits (counts tally.old) (of_string string) }
     ensures { counts tally.new ≡ counts tally.old ⊕ of_string string }
 {
     match string {
-        OptionString::Some(_) => {}
-        OptionString::None => {
+        Some(_) => {}
+        None => {
             add(
                 tally,
                 Spelling {
@@ -77,19 +73,19 @@ fn add_absent(tally: &mut Tally, string: OptionString)
 }
 
 // A string that the copy fills where it is absent: a constant, or the name of a local variable. Ruled out: an absent one not counted.
-fn pass_filled(s: &[u8], cursor: Cursor, max_string_bytes: usize, tally: &mut Tally) -> CursorResult
+fn pass_filled(
+    s: &[u8],
+    cursor: Cursor,
+    max_string_bytes: usize,
+    tally: &mut Tally,
+) -> Result<Cursor, Refusal>
     requires { Room tally.old cursor.at }
     ensures value { result ≡ cursor_result (string max_string_bytes cursor.at (drop cursor.at s.now)) }
     ensures adds { Adds (string max_string_bytes cursor.at (drop cursor.at s.now)) (count.always max_string_bytes cursor.at (drop cursor.at s.now)) tally.old tally.new }
 {
-    let read = tally_string(s, cursor, max_string_bytes, tally);
-    match read {
-        StringResult::Err(refusal) => CursorResult::Err(refusal),
-        StringResult::Ok { string, next } => {
-            add_absent(tally, string);
-            CursorResult::Ok(next)
-        }
-    }
+    let (string, next) = tally_string(s, cursor, max_string_bytes, tally)?;
+    add_absent(tally, string);
+    Ok(next)
 }
 
 // What follows a tag, which stands at `place`.
@@ -100,18 +96,18 @@ fn pass_tagged(
     place: usize,
     tag: u8,
     tally: &mut Tally,
-) -> CursorResult
+) -> Result<Cursor, Refusal>
     requires { Room tally.old cursor.at }
     ensures value { result ≡ cursor_result (spec.tagged max_string_bytes place tag cursor.at (drop cursor.at s.now)) }
     ensures adds { Adds (spec.tagged max_string_bytes place tag cursor.at (drop cursor.at s.now)) (count.tagged max_string_bytes tag cursor.at (drop cursor.at s.now)) tally.old tally.new }
 {
     match tag {
-        0 => CursorResult::Ok(cursor),
-        1 => CursorResult::Ok(cursor),
-        17 => CursorResult::Ok(cursor),
+        0 => Ok(cursor),
+        1 => Ok(cursor),
+        17 => Ok(cursor),
         3 | 19 => pass_eight(s, cursor),
         4 | 20 => pass_filled(s, cursor, max_string_bytes, tally),
-        _ => CursorResult::Err(Refusal::ConstantTag(place)),
+        _ => Err(Refusal::ConstantTag(place)),
     }
 }
 
@@ -121,50 +117,39 @@ fn pass_constant(
     cursor: Cursor,
     max_string_bytes: usize,
     tally: &mut Tally,
-) -> CursorResult
+) -> Result<Cursor, Refusal>
     requires { Room tally.old cursor.at }
     ensures value { result ≡ cursor_result (spec.constant max_string_bytes cursor.at (drop cursor.at s.now)) }
     ensures adds { Adds (spec.constant max_string_bytes cursor.at (drop cursor.at s.now)) (count.constant max_string_bytes cursor.at (drop cursor.at s.now)) tally.old tally.new }
 {
-    let read = read_u8(s, cursor);
-    match read {
-        U8Result::Err(refusal) => CursorResult::Err(refusal),
-        U8Result::Ok { value, next } => {
-            pass_tagged(s, next, max_string_bytes, cursor.at, value, tally)
-        }
-    }
+    let (value, next) = read_u8(s, cursor)?;
+    pass_tagged(s, next, max_string_bytes, cursor.at, value, tally)
 }
 
 // An anchor: its pc and its line.
-fn pass_anchor(s: &[u8], cursor: Cursor, tally: &mut Tally) -> CursorResult
+fn pass_anchor(s: &[u8], cursor: Cursor, tally: &mut Tally) -> Result<Cursor, Refusal>
     requires { Room tally.old cursor.at }
     ensures value { result ≡ cursor_result (spec.anchor cursor.at (drop cursor.at s.now)) }
     ensures adds { Adds (spec.anchor cursor.at (drop cursor.at s.now)) (count.anchor cursor.at (drop cursor.at s.now)) tally.old tally.new }
 {
-    let pc = pass_number(s, cursor, tally);
-    match pc {
-        CursorResult::Err(refusal) => CursorResult::Err(refusal),
-        CursorResult::Ok(next) => pass_number(s, next, tally),
-    }
+    let next = pass_number(s, cursor, tally)?;
+    pass_number(s, next, tally)
 }
 
 // A local variable: its name, and the two numbers between which it is live.
-fn pass_local(s: &[u8], cursor: Cursor, max_string_bytes: usize, tally: &mut Tally) -> CursorResult
+fn pass_local(
+    s: &[u8],
+    cursor: Cursor,
+    max_string_bytes: usize,
+    tally: &mut Tally,
+) -> Result<Cursor, Refusal>
     requires { Room tally.old cursor.at }
     ensures value { result ≡ cursor_result (spec.local max_string_bytes cursor.at (drop cursor.at s.now)) }
     ensures adds { Adds (spec.local max_string_bytes cursor.at (drop cursor.at s.now)) (count.local max_string_bytes cursor.at (drop cursor.at s.now)) tally.old tally.new }
 {
-    let name = pass_filled(s, cursor, max_string_bytes, tally);
-    match name {
-        CursorResult::Err(refusal) => CursorResult::Err(refusal),
-        CursorResult::Ok(behind) => {
-            let startpc = pass_number(s, behind, tally);
-            match startpc {
-                CursorResult::Err(refusal) => CursorResult::Err(refusal),
-                CursorResult::Ok(next) => pass_number(s, next, tally),
-            }
-        }
-    }
+    let behind = pass_filled(s, cursor, max_string_bytes, tally)?;
+    let next = pass_number(s, behind, tally)?;
+    pass_number(s, next, tally)
 }
 
 // Passes over n constants. Ruled out: a constant passed over by its tag alone, the last one left out, the count of the last one only.
@@ -174,45 +159,34 @@ pub fn pass_constants(
     n: usize,
     max_string_bytes: usize,
     tally: &mut Tally,
-) -> CursorResult
+) -> Result<Cursor, Refusal>
     requires { Room tally.old cursor.at }
     ensures value { result ≡ cursor_result (many n (spec.constant max_string_bytes) cursor.at (drop cursor.at s.now)) }
     ensures adds { Adds (many n (spec.constant max_string_bytes) cursor.at (drop cursor.at s.now)) (count.many n (spec.constant max_string_bytes) (count.constant max_string_bytes) cursor.at (drop cursor.at s.now)) tally.old tally.new }
 {
     let mut next = cursor;
-    let mut constants = n;
-    while constants > 0 {
-        let passed = pass_constant(s, next, max_string_bytes, tally);
-        match passed {
-            CursorResult::Err(refusal) => return CursorResult::Err(refusal),
-            CursorResult::Ok(behind) => {
-                next = behind;
-            }
-        }
-        constants -= 1;
+    for _constant in 0..n {
+        next = pass_constant(s, next, max_string_bytes, tally)?;
     }
-    CursorResult::Ok(next)
+    Ok(next)
 }
 
 // Passes over n anchors. Ruled out: one number an anchor, the last anchor left out.
-pub fn pass_anchors(s: &[u8], cursor: Cursor, n: usize, tally: &mut Tally) -> CursorResult
+pub fn pass_anchors(
+    s: &[u8],
+    cursor: Cursor,
+    n: usize,
+    tally: &mut Tally,
+) -> Result<Cursor, Refusal>
     requires { Room tally.old cursor.at }
     ensures value { result ≡ cursor_result (many n spec.anchor cursor.at (drop cursor.at s.now)) }
     ensures adds { Adds (many n spec.anchor cursor.at (drop cursor.at s.now)) (count.many n spec.anchor count.anchor cursor.at (drop cursor.at s.now)) tally.old tally.new }
 {
     let mut next = cursor;
-    let mut left = n;
-    while left > 0 {
-        let passed = pass_anchor(s, next, tally);
-        match passed {
-            CursorResult::Err(refusal) => return CursorResult::Err(refusal),
-            CursorResult::Ok(behind) => {
-                next = behind;
-            }
-        }
-        left -= 1;
+    for _ in 0..n {
+        next = pass_anchor(s, next, tally)?;
     }
-    CursorResult::Ok(next)
+    Ok(next)
 }
 
 // Passes over n local variables. Ruled out: an absent name that is refused, the name passed over without its bytes.
@@ -222,24 +196,16 @@ pub fn pass_locals(
     n: usize,
     max_string_bytes: usize,
     tally: &mut Tally,
-) -> CursorResult
+) -> Result<Cursor, Refusal>
     requires { Room tally.old cursor.at }
     ensures value { result ≡ cursor_result (many n (spec.local max_string_bytes) cursor.at (drop cursor.at s.now)) }
     ensures adds { Adds (many n (spec.local max_string_bytes) cursor.at (drop cursor.at s.now)) (count.many n (spec.local max_string_bytes) (count.local max_string_bytes) cursor.at (drop cursor.at s.now)) tally.old tally.new }
 {
     let mut next = cursor;
-    let mut left = n;
-    while left > 0 {
-        let passed = pass_local(s, next, max_string_bytes, tally);
-        match passed {
-            CursorResult::Err(refusal) => return CursorResult::Err(refusal),
-            CursorResult::Ok(behind) => {
-                next = behind;
-            }
-        }
-        left -= 1;
+    for _ in 0..n {
+        next = pass_local(s, next, max_string_bytes, tally)?;
     }
-    CursorResult::Ok(next)
+    Ok(next)
 }
 
 // Passes over n strings. Ruled out: an absent string that takes no bytes, the limit tested against all strings together.
@@ -249,22 +215,14 @@ pub fn pass_strings(
     n: usize,
     max_string_bytes: usize,
     tally: &mut Tally,
-) -> CursorResult
+) -> Result<Cursor, Refusal>
     requires { Room tally.old cursor.at }
     ensures value { result ≡ cursor_result (many n (string max_string_bytes) cursor.at (drop cursor.at s.now)) }
     ensures adds { Adds (many n (string max_string_bytes) cursor.at (drop cursor.at s.now)) (count.many n (string max_string_bytes) count.string cursor.at (drop cursor.at s.now)) tally.old tally.new }
 {
     let mut next = cursor;
-    let mut left = n;
-    while left > 0 {
-        let passed = pass_string(s, next, max_string_bytes, tally);
-        match passed {
-            CursorResult::Err(refusal) => return CursorResult::Err(refusal),
-            CursorResult::Ok(behind) => {
-                next = behind;
-            }
-        }
-        left -= 1;
+    for _ in 0..n {
+        next = pass_string(s, next, max_string_bytes, tally)?;
     }
-    CursorResult::Ok(next)
+    Ok(next)
 }

@@ -4,8 +4,10 @@
 -- Assumes nothing.
 use mathlib.Core.Path.{◌≡◌, refl, sym, ◌∙◌, ap}
 use mathlib.Core.Bool.{Bool}
-use mathlib.Core.List.{List}
 use mathlib.Core.Option.{Option}
+use Rattle.std.specs.Prelude.{Result, Ok, Err}
+use Rattle.std.specs.Prelude as prelude
+use Rattle.read_field.specs.declared.string.StringAt.{StringAt}
 use Prim.Native.Nat.{ℕ}
 use native.Mathlib.Omega.{arith}
 use lib.ListN.{drop}
@@ -16,17 +18,9 @@ use Rattle.format.specs.Read.{Read, ok, refused, Reader, next, ◌>>◌}
 use Rattle.format.proofs.Exact.{Exact}
 use Rattle.format.proofs.Left.{left}
 use Rattle.slice.specs.declared.cursor.Cursor.{Cursor}
-use Rattle.slice.specs.declared.cursor.CursorResult.{CursorResult}
-use Rattle.slice.specs.declared.cursor.CursorResult.TheVariants as cursor
-use Rattle.read_field.specs.declared.field.U8Result.TheVariants as u8
-use Rattle.read_field.specs.declared.field.U32Result.TheVariants as u32
-use Rattle.read_field.specs.declared.field.U64Result.TheVariants as u64
-use Rattle.read_field.specs.declared.varint.NumberResult.TheVariants as number
-use Rattle.read_field.specs.declared.string.OptionString.{OptionString}
-use Rattle.read_field.specs.declared.string.StringResult.TheVariants as string
 use Rattle.slice.specs.Shown.{cursor_at}
 use Rattle.slice.specs.Inner.Results.{cursor_result, and_then}
-use Rattle.read_field.specs.Shown.{u8_result, u32_result, u64_result, number_result, option_string, string_result}
+use Rattle.read_field.specs.Shown.{shown, shown_as, number_result, option_string, string_result}
 
 -- what a reader gave, with the rest left open
 pub record Was {A : Type 0} (o : Read A) (x : A) (to : ℕ) : Type 0 where
@@ -44,62 +38,44 @@ pub onward : {A : Type 0} {r : Reader A} {F : Form A} → Exact r F → (s : Byt
 onward exact s at {x} {to} w = w.is ∙ ap (λ rest. ok x to rest) (left exact s at w.is)
 
 -- ## Each kind of answer
-pub u64_err : (o : Read ℕ) (q : Refusal) → u64.Err q ≡ u64_result o → o ≡ refused q
-u64_err (ok v to rest) q e = absurd (let z : ◌≡◌ {A = ℕ} 0 1 = cc in omega arith)
-u64_err (refused p) q e = cc
+pub shown_err : {A : Type 0} (o : Read A) (q : Refusal) → Err q ≡ shown o → o ≡ refused q
+shown_err (ok v to rest) q e = absurd (let z : ◌≡◌ {A = ℕ} 0 1 = cc in omega arith)
+shown_err (refused p) q e = cc
 
-pub u64_ok : (o : Read ℕ) (v : ℕ) (c : Cursor) → u64.Ok v c ≡ u64_result o → Was o v c.at
-u64_ok (ok w to rest) v c e =
-    let value : v ≡ w = cc in
-    let next : c ≡ cursor_at to = cc in
-    record { rest = rest; is = rw (value, next) }
-u64_ok (refused p) v c e = absurd (let z : ◌≡◌ {A = ℕ} 0 1 = cc in omega arith)
+pub shown_ok : {A : Type 0} (o : Read A) (v : A) (c : Cursor) → Ok (v, c) ≡ shown o → Was o v c.at
+shown_ok {A} (ok w to rest) v c e =
+    let both : ◌≡◌ {A = A × Cursor} (v, c) (w, cursor_at to) = cc in
+    record { rest = rest; is = rw (ap (λ p. p.0) both, ap (λ p. p.1) both) }
+shown_ok {A} (refused p) v c e = absurd (let z : ◌≡◌ {A = ℕ} 0 1 = cc in omega arith)
 
 -- of a number, whether it is padded too
-pub number_err : (padded : Bool) (o : Read ℕ) (q : Refusal) → number.Err q ≡ number_result padded o → o ≡ refused q
+pub number_err : (padded : Bool) (o : Read ℕ) (q : Refusal) → Err q ≡ number_result padded o → o ≡ refused q
 number_err padded (ok v to rest) q e = absurd (let z : ◌≡◌ {A = ℕ} 0 1 = cc in omega arith)
 number_err padded (refused p) q e = cc
 
-pub number_ok : (padded : Bool) (o : Read ℕ) (v : ℕ) (c : Cursor) (p : Bool) → number.Ok v c p ≡ number_result padded o → Was o v c.at × (p ≡ padded)
+pub number_ok : (padded : Bool) (o : Read ℕ) (v : ℕ) (c : Cursor) (p : Bool) → Ok (v, c, p) ≡ number_result padded o → Was o v c.at × (p ≡ padded)
 number_ok padded (ok w to rest) v c p e =
-    let value : v ≡ w = cc in
-    let next : c ≡ cursor_at to = cc in
-    (record { rest = rest; is = rw (value, next) }, cc)
+    let all : ◌≡◌ {A = ℕ × Cursor × Bool} (v, c, p) (w, cursor_at to, padded) = cc in
+    (record { rest = rest; is = rw (ap (λ q. q.0) all, ap (λ q. q.1) all) }, ap (λ q. q.2) all)
 number_ok padded (refused q) v c p e = absurd (let z : ◌≡◌ {A = ℕ} 0 1 = cc in omega arith)
 
-pub u8_err : (o : Read ℕ) (q : Refusal) → u8.Err q ≡ u8_result o → o ≡ refused q
-u8_err (ok v to rest) q e = absurd (let z : ◌≡◌ {A = ℕ} 0 1 = cc in omega arith)
-u8_err (refused p) q e = cc
+pub shown_as_err : {A B : Type 0} (of : A → B) (o : Read A) (q : Refusal) → Err q ≡ shown_as of o → o ≡ refused q
+shown_as_err of (ok t to rest) q e = absurd (let z : ◌≡◌ {A = ℕ} 0 1 = cc in omega arith)
+shown_as_err of (refused p) q e = cc
 
-pub u8_ok : (o : Read ℕ) (v : ℕ) (c : Cursor) → u8.Ok v c ≡ u8_result o → Was o v c.at
-u8_ok (ok w to rest) v c e =
-    let value : v ≡ w = cc in
-    let next : c ≡ cursor_at to = cc in
-    record { rest = rest; is = rw (value, next) }
-u8_ok (refused p) v c e = absurd (let z : ◌≡◌ {A = ℕ} 0 1 = cc in omega arith)
+pub shown_as_ok : {A B : Type 0} (of : A → B) (o : Read A) (v : B) (c : Cursor) → Ok (v, c) ≡ shown_as of o → Showed of o v c.at
+shown_as_ok {B} of (ok t to rest) v c e =
+    let both : ◌≡◌ {A = B × Cursor} (v, c) (of t, cursor_at to) = cc in
+    record { value = t; was = record { rest = rest; is = rw (ap (λ p. p.1) both) }; shows = ap (λ p. p.0) both }
+shown_as_ok {B} of (refused p) v c e = absurd (let z : ◌≡◌ {A = ℕ} 0 1 = cc in omega arith)
 
-pub u32_err : (o : Read ℕ) (q : Refusal) → u32.Err q ≡ u32_result o → o ≡ refused q
-u32_err (ok v to rest) q e = absurd (let z : ◌≡◌ {A = ℕ} 0 1 = cc in omega arith)
-u32_err (refused p) q e = cc
+pub string_err : (o : Read (Option LuaString)) (q : Refusal) → Err q ≡ string_result o → o ≡ refused q
+string_err = shown_as_err option_string
 
-pub u32_ok : (o : Read ℕ) (v : ℕ) (c : Cursor) → u32.Ok v c ≡ u32_result o → Was o v c.at
-u32_ok (ok w to rest) v c e =
-    let value : v ≡ w = cc in
-    let next : c ≡ cursor_at to = cc in
-    record { rest = rest; is = rw (value, next) }
-u32_ok (refused p) v c e = absurd (let z : ◌≡◌ {A = ℕ} 0 1 = cc in omega arith)
+pub string-ok : (o : Read (Option LuaString)) (t : prelude.Option StringAt) (c : Cursor) → Ok (t, c) ≡ string_result o → Showed option_string o t c.at
+string-ok = shown_as_ok option_string
 
-pub string_err : (o : Read (Option LuaString)) (q : Refusal) → string.Err q ≡ string_result o → o ≡ refused q
-string_err (ok t to rest) q e = absurd (let z : ◌≡◌ {A = ℕ} 0 1 = cc in omega arith)
-string_err (refused p) q e = cc
-
-pub string-ok : (o : Read (Option LuaString)) (shown : OptionString) (c : Cursor) → string.Ok shown c ≡ string_result o → Showed option_string o shown c.at
-string-ok (ok t to rest) shown c e =
-    let next : c ≡ cursor_at to = cc in
-    record { value = t; was = record { rest = rest; is = rw next }; shows = cc }
-string-ok (refused p) shown c e = absurd (let z : ◌≡◌ {A = ℕ} 0 1 = cc in omega arith)
-
-pub cursor_err : {A : Type 0} (o : Read A) (q : Refusal) → cursor.Err q ≡ cursor_result o → o ≡ refused q
+pub cursor_err : {A : Type 0} (o : Read A) (q : Refusal) → Err q ≡ cursor_result o → o ≡ refused q
 cursor_err (ok v to rest) q e = absurd (let z : ◌≡◌ {A = ℕ} 0 1 = cc in omega arith)
 cursor_err (refused p) q e = cc
 
@@ -108,7 +84,7 @@ pub record Passed {A : Type 0} (o : Read A) (to : ℕ) : Type 0 where
   pub value : A
   pub was : Was o value to
 
-pub cursor_ok : {A : Type 0} (o : Read A) (c : Cursor) → cursor.Ok c ≡ cursor_result o → Passed o c.at
+pub cursor_ok : {A : Type 0} (o : Read A) (c : Cursor) → Ok c ≡ cursor_result o → Passed o c.at
 cursor_ok (ok w to rest) c e =
     let next : c ≡ cursor_at to = cc in
     record { value = w; was = record { rest = rest; is = rw next } }
@@ -125,7 +101,7 @@ then_shown {r} exact f s at = go (r at (drop at s)) refl
 
 -- a chain of calls, each behind the one before: what they show is what the chain of readers gives
 module _ (s : Bytes) (at : ℕ) where
-  pub on : {A B : Type 0} {r : Reader A} {F : Form A} → Exact r F → (f : Reader B) {x y : CursorResult} → x ≡ cursor_result (r at (drop at s))
+  pub on : {A B : Type 0} {r : Reader A} {F : Form A} → Exact r F → (f : Reader B) {x y : Result Cursor Refusal} → x ≡ cursor_result (r at (drop at s))
       → y ≡ and_then x (λ to. cursor_result (f to (drop to s))) → y ≡ cursor_result ((r >> f) at (drop at s))
   on exact f e d = d ∙ ap (λ z. and_then z (λ to. cursor_result (f to (drop to s)))) e ∙ sym (then_shown exact f s at)
 

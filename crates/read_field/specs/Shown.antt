@@ -1,44 +1,31 @@
 -- What the code shows of what a reader of `format` gives: the value and the cursor behind it, or the refusal.
-use Rattle.std.specs.Prelude.{Bool, ℕ, length}
-use Rattle.std.proofs.Math.Option.{Option, none, some}
+use Rattle.std.specs.Prelude.{Bool, ℕ, length, Option, Some, None, Result, Ok, Err}
+use Rattle.std.proofs.Math.Option as maybe
+use Rattle.format.specs.declared.refusal.Refusal.{Refusal}
 use Rattle.format.specs.GrammarFields.{LuaString}
 use Rattle.format.specs.Read.{Read, ok, refused}
+use Rattle.slice.specs.declared.cursor.Cursor.{Cursor}
 use Rattle.slice.specs.Shown.{cursor_at}
-use Rattle.read_field.specs.declared.field.U8Result.{U8Result}
-use Rattle.read_field.specs.declared.field.U8Result.TheVariants as u8
-use Rattle.read_field.specs.declared.field.U32Result.{U32Result}
-use Rattle.read_field.specs.declared.field.U32Result.TheVariants as u32
-use Rattle.read_field.specs.declared.field.U64Result.{U64Result}
-use Rattle.read_field.specs.declared.field.U64Result.TheVariants as u64
-use Rattle.read_field.specs.declared.varint.NumberResult.{NumberResult}
-use Rattle.read_field.specs.declared.varint.NumberResult.TheVariants as number
-use Rattle.read_field.specs.declared.string.OptionString.{OptionString}
-use Rattle.read_field.specs.declared.string.OptionString.TheVariants as option
-use Rattle.read_field.specs.declared.string.StringResult.{StringResult}
-use Rattle.read_field.specs.declared.string.StringResult.TheVariants as string
+use Rattle.read_field.specs.declared.string.StringAt.{StringAt}
 
-abbrev pub u8_result : Read ℕ → U8Result
-u8_result (ok v to rest) = u8.Ok v (cursor_at to)
-u8_result (refused q) = u8.Err q
+-- of the value, what `of` shows of it
+abbrev pub shown_as : {A B : Type 0} → (A → B) → Read A → Result (B × Cursor) Refusal
+shown_as of (ok v to rest) = Ok (of v, cursor_at to)
+shown_as of (refused q) = Err q
 
-abbrev pub u32_result : Read ℕ → U32Result
-u32_result (ok v to rest) = u32.Ok v (cursor_at to)
-u32_result (refused q) = u32.Err q
-
-abbrev pub u64_result : Read ℕ → U64Result
-u64_result (ok v to rest) = u64.Ok v (cursor_at to)
-u64_result (refused q) = u64.Err q
+abbrev pub shown : {A : Type 0} → Read A → Result (A × Cursor) Refusal
+shown (ok v to rest) = Ok (v, cursor_at to)
+shown (refused q) = Err q
 
 -- of a number whether it is padded, too
-abbrev pub number_result : Bool → Read ℕ → NumberResult
-number_result padded (ok v to rest) = number.Ok v (cursor_at to) padded
-number_result padded (refused q) = number.Err q
+abbrev pub number_result : Bool → Read ℕ → Result (ℕ × Cursor × Bool) Refusal
+number_result padded (ok v to rest) = Ok (v, cursor_at to, padded)
+number_result padded (refused q) = Err q
 
 -- of a string its place and length
-abbrev pub option_string : Option LuaString → OptionString
-option_string none = option.None
-option_string (some t) = option.Some (record { place = t.place; len = length t.bytes })
+abbrev pub option_string : maybe.Option LuaString → Option StringAt
+option_string maybe.none = None
+option_string (maybe.some t) = Some (record { place = t.place; len = length t.bytes })
 
-abbrev pub string_result : Read (Option LuaString) → StringResult
-string_result (ok t to rest) = string.Ok (option_string t) (cursor_at to)
-string_result (refused q) = string.Err q
+abbrev pub string_result : Read (maybe.Option LuaString) → Result (Option StringAt × Cursor) Refusal
+string_result = shown_as option_string

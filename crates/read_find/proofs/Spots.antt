@@ -4,6 +4,9 @@
 --     main_stands, no_row_left         at the end of the file no function stands: where main stands, and a spot that was not found
 --     this_row                         the row at the spot that a walk leaves of a function is the function's
 -- Assumes nothing.
+use Rattle.std.specs.Prelude as prelude
+use Rattle.std.specs.Prelude.{Some, None, Ok, Err}
+use Rattle.read_field.specs.declared.string.StringAt.{StringAt}
 use mathlib.Core.Path.{◌≡◌, refl, sym, ◌∙◌, ap}
 use mathlib.Core.List.{List, [], append-nil}
 use mathlib.Core.Option.{Option, none, some}
@@ -20,12 +23,8 @@ use Rattle.format.specs.Read.{Read, ok}
 use Rattle.slice.specs.declared.cursor.Cursor.{Cursor}
 use Rattle.slice.specs.Shown.{cursor_at}
 use Rattle.read_field.specs.Shown.{option_string}
-use Rattle.read_field.specs.declared.string.OptionString.{OptionString}
 use Rattle.read_prototype.specs.declared.parts.Head as declared-head
-use Rattle.read_prototype.specs.declared.parts.HeadResult.TheVariants as head-answer
 use Rattle.read_prototype.specs.declared.parts.Tail as declared-tail
-use Rattle.read_prototype.specs.declared.parts.TailResult.TheVariants as tail-answer
-use Rattle.read_prototype.specs.declared.row.OptionRow.TheVariants as option
 use Rattle.read_prototype.specs.Parts as parts
 use Rattle.read_prototype.specs.Parts.{Head, Tail}
 use Rattle.read_prototype.specs.PartsShown.{head_of, tail_of, head_result, tail_result}
@@ -65,7 +64,7 @@ module _ (L : ResourceLimits) (s : Bytes) (l : List ℕ) where
   abbrev behind : ℕ
   behind = get_or l 1 0
 
-  abbrev source : OptionString
+  abbrev source : prelude.Option StringAt
   source = option_string (source_at L.max_string_bytes s (get_or l 5 0))
 
   abbrev head-there : Read Head
@@ -74,18 +73,18 @@ module _ (L : ResourceLimits) (s : Bytes) (l : List ℕ) where
   abbrev tail-there : Read Tail
   tail-there = parts.tail L.max_string_bytes behind (drop behind s)
 
-  pub no_head : (q : Refusal) → head-answer.Err q ≡ head_result head-there → option.None ≡ row_at L s l
+  pub no_head : (q : Refusal) → Err q ≡ head_result head-there → None ≡ row_at L s l
   no_head q e = λ i. row_from (get_or l 3 0) (get_or l 4 0) source start (e i) (tail_result tail-there)
 
-  pub no_tail : (h : declared-head.Head) (c₁ : Cursor) → head-answer.Ok h c₁ ≡ head_result head-there → (q : Refusal) → tail-answer.Err q ≡ tail_result tail-there → option.None ≡ row_at L s l
+  pub no_tail : (h : declared-head.Head) (c₁ : Cursor) → Ok (h, c₁) ≡ head_result head-there → (q : Refusal) → Err q ≡ tail_result tail-there → None ≡ row_at L s l
   no_tail h c₁ e₁ q e₃ = λ i. row_from (get_or l 3 0) (get_or l 4 0) source start (e₁ i) (e₃ i)
 
-  pub row_there : (h : declared-head.Head) (c₁ : Cursor) → head-answer.Ok h c₁ ≡ head_result head-there → (t : declared-tail.Tail) (c₃ : Cursor) → tail-answer.Ok t c₃ ≡ tail_result tail-there
-      → (own : OptionString) → own ≡ source → option.Some (row_shown (get_or l 3 0) (get_or l 4 0) own start h t c₃.at) ≡ row_at L s l
+  pub row_there : (h : declared-head.Head) (c₁ : Cursor) → Ok (h, c₁) ≡ head_result head-there → (t : declared-tail.Tail) (c₃ : Cursor) → Ok (t, c₃) ≡ tail_result tail-there
+      → (own : prelude.Option StringAt) → own ≡ source → Some (row_shown (get_or l 3 0) (get_or l 4 0) own start h t c₃.at) ≡ row_at L s l
   row_there h c₁ e₁ t c₃ e₃ own e = λ i. row_from (get_or l 3 0) (get_or l 4 0) (e i) start (e₁ i) (e₃ i)
 
 -- none at the end of the file
-pub no_row_left : (L : ResourceLimits) (s : Bytes) → row_at L s (replicate 6 (length s)) ≡ option.None
+pub no_row_left : (L : ResourceLimits) (s : Bytes) → row_at L s (replicate 6 (length s)) ≡ None
 no_row_left L s =
     ap (λ rest. row_from (length s) (length s) (option_string (source_at L.max_string_bytes s (length s))) (length s) (head_result (parts.head L (length s) (length s) rest)) (tail_result (parts.tail L.max_string_bytes (length s) (drop (length s) s)))) (nothing_left s)
 
@@ -108,7 +107,7 @@ row_shown_lem w at v t end = λ i. record {
 -- at the spot of a function
 pub this_row : (L : ResourceLimits) (s : Bytes) (a : Above) (k : Skimmed) (tail_at : ℕ) {h : Head} {c₁ : ℕ} {rest₁ : Bytes} {t : Tail} {c₃ : ℕ} {rest₃ : Bytes}
     → parts.head L k.instructions k.next.at (drop k.next.at s) ≡ ok h c₁ rest₁ → parts.tail L.max_string_bytes tail_at (drop tail_at s) ≡ ok t c₃ rest₃
-    → row_at L s (spot_of a k tail_at) ≡ option.Some (row_of (prototype_of (standing L s a k) k.next.at h t c₃))
+    → row_at L s (spot_of a k tail_at) ≡ Some (row_of (prototype_of (standing L s a k) k.next.at h t c₃))
 this_row L s a k tail_at {h} {t} {c₃} e₁ e₃ =
     sym (row_there L s (spot_of a k tail_at) (head_of h) _ (sym (ap head_result e₁)) (tail_of t) (cursor_at c₃) (sym (ap tail_result e₃)) _ refl)
-    ∙ ap option.Some (row_shown_lem (standing L s a k) k.next.at h t c₃)
+    ∙ ap Some (row_shown_lem (standing L s a k) k.next.at h t c₃)

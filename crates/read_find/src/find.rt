@@ -9,19 +9,17 @@ use crate::row::row_at;
 use crate::spot::{Above, find_function};
 use format::limits::ResourceLimits;
 use format::refusal::Refusal;
-use read_prototype::row::OptionRow;
-use read_walk::walk::{SkimResult, Skimmed};
+use read_prototype::row::FunctionRow;
+use read_walk::walk::Skimmed;
 use slice::cursor::Cursor;
 
-// Where the walk ended, and the row of the function that was wanted, if there is one of that number.
-#[derive(Clone, Copy)]
-pub enum FindResult {
-    Ok { walked: Skimmed, row: OptionRow },
-    Err(Refusal),
-}
-
 // Judges main and all functions that nest in it, and shows the row of one of them. Ruled out: main's row for every number, a row where there is no function of that number.
-pub fn find_row(s: &[u8], limits: ResourceLimits, wanted: usize, main_at: Cursor) -> FindResult
+pub fn find_row(
+    s: &[u8],
+    limits: ResourceLimits,
+    wanted: usize,
+    main_at: Cursor,
+) -> Result<(Skimmed, Option<FunctionRow>), Refusal>
     requires { Walkable limits × (limits.max_nesting_depth ≤ DEEPEST) }
     ensures { result ≡ find_result wanted (function limits limits.max_nesting_depth outermost main_at.at (drop main_at.at s.now)) }
 {
@@ -39,15 +37,7 @@ pub fn find_row(s: &[u8], limits: ResourceLimits, wanted: usize, main_at: Cursor
         instructions: 0,
     };
     let deepest = limits.max_nesting_depth;
-    let functions = find_function(s, limits, deepest, above, wanted, from, &mut spot);
-    match functions {
-        SkimResult::Err(refusal) => FindResult::Err(refusal),
-        SkimResult::Ok(walked) => {
-            let row = row_at(s, limits, &spot);
-            FindResult::Ok {
-                walked: walked,
-                row: row,
-            }
-        }
-    }
+    let walked = find_function(s, limits, deepest, above, wanted, from, &mut spot)?;
+    let row = row_at(s, limits, &spot);
+    Ok((walked, row))
 }

@@ -4,26 +4,26 @@ ghost use Rattle.read_find.specs.Inner.Spot.{inherit_shown, row_shown, row_at};
 
 use crate::spot::{Above, Spot};
 use format::limits::ResourceLimits;
-use read_field::string::OptionString;
-use read_prototype::parts::{Head, HeadResult, Tail, TailResult, read_head, read_tail};
-use read_prototype::row::{FunctionRow, Lists, OptionRow};
+use read_field::string::StringAt;
+use read_prototype::parts::{Head, Tail, read_head, read_tail};
+use read_prototype::row::{FunctionRow, Lists};
 use read_walk::source::source_at;
 use slice::cursor::Cursor;
 
 // An absent source is the parent's.
-fn inherited(spelt: OptionString, parent: OptionString) -> OptionString
+fn inherited(spelt: Option<StringAt>, parent: Option<StringAt>) -> Option<StringAt>
     ensures { result ≡ inherit_shown spelt parent }
 {
     match spelt {
-        OptionString::Some(_) => spelt,
-        OptionString::None => parent,
+        Some(_) => spelt,
+        None => parent,
     }
 }
 
 // The row of a function, of its parts.
 fn row_of(
     above: Above,
-    parent_source: OptionString,
+    parent_source: Option<StringAt>,
     start: usize,
     head: Head,
     tail: Tail,
@@ -66,34 +66,30 @@ fn row_of(
 }
 
 // The row of the function at a spot, read there: no row, where no function stands there. Ruled out: the source of the function's own start for the one it inherits.
-pub fn row_at(s: &[u8], limits: ResourceLimits, spot: &Spot) -> OptionRow
+pub fn row_at(s: &[u8], limits: ResourceLimits, spot: &Spot) -> Option<FunctionRow>
     ensures { result ≡ row_at limits s.now spot.now }
 {
     let start = spot[0];
     let mut unused = [0usize; 4];
     let begins = read_head(s, limits, spot[2], Cursor { at: start }, &mut unused);
-    match begins {
-        HeadResult::Err(_) => OptionRow::None,
-        HeadResult::Ok { head, next: _ } => {
-            let mut unused = [0usize; 4];
-            let ends = read_tail(
-                s,
-                limits.max_string_bytes,
-                Cursor { at: spot[1] },
-                &mut unused,
-            );
-            match ends {
-                TailResult::Err(_) => OptionRow::None,
-                TailResult::Ok { tail, next } => {
-                    let above = Above {
-                        depth: spot[3],
-                        parent: spot[4],
-                        source: spot[5],
-                    };
-                    let source = source_at(s, limits.max_string_bytes, above.source);
-                    OptionRow::Some(row_of(above, source, start, head, tail, next.at))
-                }
-            }
-        }
-    }
+    let Ok((head, _)) = begins else {
+        return None;
+    };
+    let mut unused = [0usize; 4];
+    let ends = read_tail(
+        s,
+        limits.max_string_bytes,
+        Cursor { at: spot[1] },
+        &mut unused,
+    );
+    let Ok((tail, next)) = ends else {
+        return None;
+    };
+    let above = Above {
+        depth: spot[3],
+        parent: spot[4],
+        source: spot[5],
+    };
+    let source = source_at(s, limits.max_string_bytes, above.source);
+    Some(row_of(above, source, start, head, tail, next.at))
 }

@@ -8,8 +8,8 @@ ghost use Rattle.read_find.specs.Inner.Spot.{spot_of, below_shown, standing, fun
 
 use format::limits::ResourceLimits;
 use format::refusal::Refusal;
-use read_prototype::pass::{HeadCountsResult, TailCountsResult, pass_head, pass_tail};
-use read_walk::walk::{SkimResult, Skimmed};
+use read_prototype::pass::{pass_head, pass_tail};
+use read_walk::walk::Skimmed;
 
 // Where a function begins, where it goes on behind the functions that nest in it, the instructions of all functions before it, its depth, its parent's number, and where the function begins whose source it inherits.
 pub type Spot = [usize; 6];
@@ -68,58 +68,30 @@ pub fn find_function(
     wanted: usize,
     from: Skimmed,
     spot: &mut Spot,
-) -> SkimResult
+) -> Result<Skimmed, Refusal>
     requires { Walkable limits × (from.number ≤ MOST) × (above.depth + left ≤ DEEPEST) }
     ensures value { result ≡ skim_result (standing limits s.now above from) (function_at limits s.now left above from) }
     ensures found { Found wanted from.number (function_at limits s.now left above from) (row_at limits s.now spot.old) (row_at limits s.now spot.new) }
 {
     let mut unused = [0usize; 4];
-    let begins = pass_head(s, limits, from.instructions, from.next, &mut unused);
-    match begins {
-        HeadCountsResult::Err(refusal) => SkimResult::Err(refusal),
-        HeadCountsResult::Ok {
-            counts,
-            next: behind,
-        } => {
-            let mut nested = Skimmed {
-                next: behind,
-                number: from.number + 1,
-                instructions: from.instructions + counts.instructions,
-            };
-            if counts.protos > 0 {
-                let nest = below(above, from, counts.named);
-                let inner = find_functions(
-                    s,
-                    limits,
-                    counts.protos,
-                    left,
-                    nest,
-                    wanted,
-                    nested,
-                    spot,
-                );
-                match inner {
-                    SkimResult::Err(refusal) => return SkimResult::Err(refusal),
-                    SkimResult::Ok(later) => {
-                        nested = later;
-                    }
-                }
-            }
-            unused = [0usize; 4];
-            let ends = pass_tail(s, limits.max_string_bytes, nested.next, &mut unused);
-            match ends {
-                TailCountsResult::Err(refusal) => SkimResult::Err(refusal),
-                TailCountsResult::Ok { counts: _, next } => {
-                    put_spot(spot, wanted, above, from, nested.next.at);
-                    SkimResult::Ok(Skimmed {
-                        next: next,
-                        number: nested.number,
-                        instructions: nested.instructions,
-                    })
-                }
-            }
-        }
+    let (counts, behind) = pass_head(s, limits, from.instructions, from.next, &mut unused)?;
+    let mut nested = Skimmed {
+        next: behind,
+        number: from.number + 1,
+        instructions: from.instructions + counts.instructions,
+    };
+    if counts.protos > 0 {
+        let nest = below(above, from, counts.named);
+        nested = find_functions(s, limits, counts.protos, left, nest, wanted, nested, spot)?;
     }
+    unused = [0usize; 4];
+    let (_, next) = pass_tail(s, limits.max_string_bytes, nested.next, &mut unused)?;
+    put_spot(spot, wanted, above, from, nested.next.at);
+    Ok(Skimmed {
+        next: next,
+        number: nested.number,
+        instructions: nested.instructions,
+    })
 }
 
 // The same of n functions one after the other, each nested in a function below which functions nest at most `left` deep.
@@ -133,29 +105,21 @@ fn find_functions(
     wanted: usize,
     from: Skimmed,
     spot: &mut Spot,
-) -> SkimResult
+) -> Result<Skimmed, Refusal>
     requires { Walkable limits × (above.depth + left ≤ DEEPEST + 1) }
     ensures value { result ≡ skim_result (standing limits s.now above from) (functions_at limits s.now n left above from) }
     ensures found { Found wanted from.number (functions_at limits s.now n left above from) (row_at limits s.now spot.old) (row_at limits s.now spot.new) }
 {
     let mut skimmed = from;
-    let mut more = n;
-    while more > 0 {
+    for _ in 0..n {
         let at = skimmed.next.at;
         if left == 0 {
-            return SkimResult::Err(Refusal::NestingDepth(at));
+            return Err(Refusal::NestingDepth(at));
         }
         if limits.max_total_prototypes < skimmed.number {
-            return SkimResult::Err(Refusal::TotalPrototypes(at));
+            return Err(Refusal::TotalPrototypes(at));
         }
-        let one = find_function(s, limits, left - 1, above, wanted, skimmed, spot);
-        match one {
-            SkimResult::Err(refusal) => return SkimResult::Err(refusal),
-            SkimResult::Ok(later) => {
-                skimmed = later;
-            }
-        }
-        more -= 1;
+        skimmed = find_function(s, limits, left - 1, above, wanted, skimmed, spot)?;
     }
-    SkimResult::Ok(skimmed)
+    Ok(skimmed)
 }

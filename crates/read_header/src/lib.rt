@@ -11,41 +11,19 @@ ghost use Rattle.read_header.specs.Inner.Results.{header_result, refusal_of};
 
 use format::header::{Header, Warning};
 use format::refusal::Refusal;
-use read_field::field::{U8Result, read_u8};
+use read_field::field::read_u8;
 use slice::bytes::same_bytes;
-use slice::cursor::{Cursor, CursorResult, read_exact};
-
-#[derive(Clone, Copy)]
-pub enum OptionWarning {
-    Some(Warning),
-    None,
-}
-
-#[derive(Clone, Copy)]
-pub enum HeaderResult {
-    Ok {
-        header: Header,
-        warning: OptionWarning,
-        next: Cursor,
-    },
-    Err(Refusal),
-}
+use slice::cursor::{Cursor, read_exact};
 
 // Passes over bytes that must be these.
-pub fn expect(s: &[u8], cursor: Cursor, bytes: &[u8], refusal: Refusal) -> CursorResult
+pub fn expect(s: &[u8], cursor: Cursor, bytes: &[u8], refusal: Refusal) -> Result<Cursor, Refusal>
     ensures { result ≡ cursor_result (spec.expect bytes.now (λ _. refusal) cursor.at (drop cursor.at s.now)) }
 {
-    let at = cursor.at;
-    let read = read_exact(s, cursor, bytes.len());
-    match read {
-        CursorResult::Err(short) => CursorResult::Err(short),
-        CursorResult::Ok(next) => {
-            if same_bytes(s, at, bytes) {
-                CursorResult::Ok(next)
-            } else {
-                CursorResult::Err(refusal)
-            }
-        }
+    let next = read_exact(s, cursor, bytes.len())?;
+    if same_bytes(s, cursor.at, bytes) {
+        Ok(next)
+    } else {
+        Err(refusal)
     }
 }
 
@@ -66,13 +44,13 @@ fn header_of(format: u8) -> Header
 }
 
 // The warning of a format byte at a place.
-fn format_warning(place: usize, format: u8) -> OptionWarning
+fn format_warning(place: usize, format: u8) -> Option<Warning>
     ensures { result ≡ first_warning (format_warnings place format) }
 {
     if format == 0 {
-        OptionWarning::None
+        None
     } else {
-        OptionWarning::Some(Warning::NonStandardFormat(place))
+        Some(Warning::NonStandardFormat(place))
     }
 }
 
@@ -106,30 +84,32 @@ fn refusal_of(part: Fixed, at: usize) -> Refusal
 }
 
 // Behind what was read, passes over bytes that must be these.
-fn and_expect(read: CursorResult, s: &[u8], bytes: &[u8], part: Fixed) -> CursorResult
+fn and_expect(
+    read: Result<Cursor, Refusal>,
+    s: &[u8],
+    bytes: &[u8],
+    part: Fixed,
+) -> Result<Cursor, Refusal>
     ensures { result ≡ and_then read (λ at. cursor_result (spec.expect bytes.now (refusal_of part) at (drop at s.now))) }
 {
-    let CursorResult::Ok(cursor) = read else {
-        return read;
-    };
-    let at = cursor.at;
-    expect(s, cursor, bytes, refusal_of(part, at))
+    let cursor = read?;
+    expect(s, cursor, bytes, refusal_of(part, cursor.at))
 }
 
 // What stands before the format byte.
-pub fn before_format(s: &[u8], cursor: Cursor) -> CursorResult
+pub fn before_format(s: &[u8], cursor: Cursor) -> Result<Cursor, Refusal>
     ensures { result ≡ cursor_result (spec.before_format cursor.at (drop cursor.at s.now)) }
 {
-    let read = CursorResult::Ok(cursor);
+    let read = Ok(cursor);
     let read = and_expect(read, s, b"\x1bLua", Fixed::Signature);
     and_expect(read, s, b"\x54", Fixed::Version)
 }
 
 // What stands behind the format byte.
-pub fn behind_format(s: &[u8], cursor: Cursor) -> CursorResult
+pub fn behind_format(s: &[u8], cursor: Cursor) -> Result<Cursor, Refusal>
     ensures { result ≡ cursor_result (spec.behind_format cursor.at (drop cursor.at s.now)) }
 {
-    let read = CursorResult::Ok(cursor);
+    let read = Ok(cursor);
     let read = and_expect(read, s, b"\x19\x93\r\n\x1a\n", Fixed::LuacData);
     let read = and_expect(read, s, b"\x04", Fixed::InstructionSize);
     let read = and_expect(read, s, b"\x08", Fixed::LuaIntegerSize);
@@ -140,28 +120,14 @@ pub fn behind_format(s: &[u8], cursor: Cursor) -> CursorResult
 
 // Reads the header: the parts that are the same in every file are compared, the format byte is shown, with a warning where it is not 0.
 // Ruled out: a format other than 0 refused, a refusal with the place of the first byte that differs instead of the part's.
-pub fn parse_header_lua54(s: &[u8], cursor: Cursor) -> HeaderResult
+pub fn parse_header_lua54(
+    s: &[u8],
+    cursor: Cursor,
+) -> Result<(Header, Option<Warning>, Cursor), Refusal>
     ensures { result ≡ header_result (spec.header cursor.at (drop cursor.at s.now)) }
 {
-    let front = before_format(s, cursor);
-    match front {
-        CursorResult::Err(refusal) => HeaderResult::Err(refusal),
-        CursorResult::Ok(place) => {
-            let format = read_u8(s, place);
-            match format {
-                U8Result::Err(refusal) => HeaderResult::Err(refusal),
-                U8Result::Ok { value, next } => {
-                    let back = behind_format(s, next);
-                    match back {
-                        CursorResult::Err(refusal) => HeaderResult::Err(refusal),
-                        CursorResult::Ok(end) => HeaderResult::Ok {
-                            header: header_of(value),
-                            warning: format_warning(place.at, value),
-                            next: end,
-                        },
-                    }
-                }
-            }
-        }
-    }
+    let place = before_format(s, cursor)?;
+    let (format, behind) = read_u8(s, place)?;
+    let next = behind_format(s, behind)?;
+    Ok((header_of(format), format_warning(place.at, format), next))
 }

@@ -6,7 +6,9 @@
 --     up-to-..         for `countedUpTo`
 --     ListAt, ..-list  what each list is made of
 -- Assumes nothing.
-use mathlib.Core.Path.{◌≡◌, refl, sym, ◌∙◌}
+use Rattle.std.specs.Prelude.{Result, Ok, Err}
+use Rattle.read_list.specs.declared.ListAt.{ListAt}
+use mathlib.Core.Path.{◌≡◌, refl, sym, ◌∙◌, ap}
 use mathlib.Core.Bool.{Bool, true, false}
 use mathlib.Core.List.{List}
 use Prim.Native.Nat.{ℕ, ◌<◌, ◌≤◌}
@@ -29,18 +31,13 @@ use Rattle.format_spelling.specs.Inner.Tally.{Adds}
 use Rattle.format_spelling.proofs.Tallies.{adds-value}
 use Rattle.format_spelling.proofs.Passing.{Ran, ran, past}
 use Rattle.slice.specs.declared.cursor.Cursor.{Cursor}
-use Rattle.slice.specs.declared.cursor.CursorResult.{CursorResult}
-use Rattle.read_field.specs.declared.field.U64Result.{U64Result}
-use Rattle.read_field.specs.declared.field.U64Result.TheVariants as u64
 use Rattle.slice.specs.Shown.{cursor_at}
 use Rattle.slice.specs.Inner.Results.{cursor_result}
-use Rattle.read_field.specs.Shown.{u64_result}
-use Rattle.read_field.proofs.Shows.{Was, onward, u64_err, u64_ok}
-use Rattle.read_list.specs.declared.ListResult.{ListResult}
-use Rattle.read_list.specs.declared.ListResult.TheVariants as list
+use Rattle.read_field.specs.Shown.{shown}
+use Rattle.read_field.proofs.Shows.{Was, onward, shown_err, shown_ok, shown_as_err, shown_as_ok}
 use Rattle.read_entry.specs.Readers.{line_info}
 use Rattle.read_entry.specs.Inner.Counts.{count_up_to}
-use Rattle.read_list.specs.Inner.Shown.{listed_of, list_result}
+use Rattle.read_list.specs.Inner.Shown.{listed_of, list_result, list_at}
 
 -- ## How many items are read
 pub record Sized {A : Type 0} (r : Reader (List A)) (n : ℕ) : Type 0 where
@@ -62,14 +59,14 @@ listed-shown n place (ok xs to rest) size = rw (size xs to rest refl)
 listed-shown n place (refused q) size = refl
 
 module _ {A : Type 0} {count : Reader ℕ} {F : Form ℕ} (exact : Exact count F) {r : ℕ → Reader (List A)} (sized : (n : ℕ) → Sized (r n) n) (s : Bytes) (at : ℕ) where
-  pub count-refused : {z : U64Result} {q : Refusal} → z ≡ u64.Err q → z ≡ u64_result (count at (drop at s)) → list.Err q ≡ list_result ((count >>= behind_count r) at (drop at s))
-  count-refused {q} told e = rw (u64_err (count at (drop at s)) q (sym told ∙ e))
+  pub count-refused : {z : Result (ℕ × Cursor) Refusal} {q : Refusal} → z ≡ Err q → z ≡ shown (count at (drop at s)) → Err q ≡ list_result ((count >>= behind_count r) at (drop at s))
+  count-refused {q} told e = rw (shown_err (count at (drop at s)) q (sym told ∙ e))
 
   -- x is what passing over the items showed
-  pub count-read : {z : U64Result} {v : ℕ} {c : Cursor} → z ≡ u64.Ok v c → z ≡ u64_result (count at (drop at s)) → {x : CursorResult} {y : ListResult} → x ≡ cursor_result (r v c.at (drop c.at s)) → y ≡ listed_of x v c.at
+  pub count-read : {z : Result (ℕ × Cursor) Refusal} {v : ℕ} {c : Cursor} → z ≡ Ok (v, c) → z ≡ shown (count at (drop at s)) → {x : Result Cursor Refusal} {y : Result (ListAt × Cursor) Refusal} → x ≡ cursor_result (r v c.at (drop c.at s)) → y ≡ listed_of x v c.at
       → y ≡ list_result ((count >>= behind_count r) at (drop at s))
   count-read {v} {c} told e p q =
-      rw (onward exact s at (u64_ok (count at (drop at s)) v c (sym told ∙ e)), q, p)
+      rw (onward exact s at (shown_ok (count at (drop at s)) v c (sym told ∙ e)), q, p)
       (listed-shown v c.at (r v c.at (drop c.at s)) (λ xs to rest d. (sized v).size c.at (drop c.at s) d))
 
 -- ## A count within a limit
@@ -90,25 +87,25 @@ held-is r f limit q at s {v} {to} {rest} e =
     let b : ok a.value a.mid a.left ≡ ok v to rest = past (leb (f a.value) limit) q (give a.value) a.mid a.left a.two in
     a.one ∙ b
 
-module _ {r : Reader ℕ} {F : Form ℕ} (exact : Exact r F) (f : ℕ → ℕ) (limit : ℕ) (q : Refusal) (s : Bytes) (at : ℕ) {n : Spelling} {t t' : List ℕ} {z : U64Result}
-    (e : (z ≡ u64_result (r at (drop at s))) × Adds (r at (drop at s)) n t t') where
-  abbrev Met : U64Result → Type 0
-  Met y = (y ≡ u64_result (held r f limit q at (drop at s))) × Adds (held r f limit q at (drop at s)) n t t'
+module _ {r : Reader ℕ} {F : Form ℕ} (exact : Exact r F) (f : ℕ → ℕ) (limit : ℕ) (q : Refusal) (s : Bytes) (at : ℕ) {n : Spelling} {t t' : List ℕ} {z : Result (ℕ × Cursor) Refusal}
+    (e : (z ≡ shown (r at (drop at s))) × Adds (r at (drop at s)) n t t') where
+  abbrev Met : Result (ℕ × Cursor) Refusal → Type 0
+  Met y = (y ≡ shown (held r f limit q at (drop at s))) × Adds (held r f limit q at (drop at s)) n t t'
 
   same : Adds (held r f limit q at (drop at s)) n t t'
   same = adds-value (r at (drop at s)) (λ n. at_most (f n) limit q >> give n) e.1
 
-  pub held-refused : {p : Refusal} → z ≡ u64.Err p → Met z
-  held-refused {p} told = (rw (u64_err (r at (drop at s)) p (sym told ∙ e.0)) told, same)
+  pub held-refused : {p : Refusal} → z ≡ Err p → Met (Err p)
+  held-refused {p} told = (rw (shown_err (r at (drop at s)) p (sym told ∙ e.0)), same)
 
-  module _ {v : ℕ} {c : Cursor} (told : z ≡ u64.Ok v c) where
+  module _ {v : ℕ} {c : Cursor} (told : z ≡ Ok (v, c)) where
     tested : held r f limit q at (drop at s) ≡ (at_most (f v) limit q >> give v) c.at (drop c.at s)
-    tested = rw (onward exact s at (u64_ok (r at (drop at s)) v c (sym told ∙ e.0)))
+    tested = rw (onward exact s at (shown_ok (r at (drop at s)) v c (sym told ∙ e.0)))
 
-    pub held_above : limit < f v → Met (u64.Err q)
+    pub held_above : limit < f v → Met (Err q)
     held_above h = (rw (tested, lt-leb (f v) limit h), same)
 
-    pub held-within : f v ≤ limit → Met (u64.Ok v c)
+    pub held-within : f v ≤ limit → Met (Ok (v, c))
     held-within h = (rw (tested, le-leb (f v) limit h), same)
 
 pub exact_count_up_to : (limit : ℕ) (refusal : Refusal) → Exact (count_up_to limit refusal) (Held Number (λ n. n) limit)
@@ -127,34 +124,33 @@ module _ {A : Type 0} {F : Form A} (limit : ℕ) (refusal : ℕ → Refusal) {r 
   up_to : counted_up_to limit refusal r at (drop at s) ≡ (count_up_to limit (refusal at) >>= behind_count (λ n. many n r)) at (drop at s)
   up_to = tested_then (λ n. leb n limit) (refusal at) (behind_count (λ n. many n r)) (number at (drop at s))
 
-  pub up_to_refused : {z : U64Result} {q : Refusal} → z ≡ u64.Err q → z ≡ u64_result (count_up_to limit (refusal at) at (drop at s)) → list.Err q ≡ list_result (counted_up_to limit refusal r at (drop at s))
+  pub up_to_refused : {z : Result (ℕ × Cursor) Refusal} {q : Refusal} → z ≡ Err q → z ≡ shown (count_up_to limit (refusal at) at (drop at s)) → Err q ≡ list_result (counted_up_to limit refusal r at (drop at s))
   up_to_refused told e = rw up_to (count-refused (exact_count_up_to limit (refusal at)) (many_sized exact) s at told e)
 
-  pub up_to_read : {z : U64Result} {v : ℕ} {c : Cursor} → z ≡ u64.Ok v c → z ≡ u64_result (count_up_to limit (refusal at) at (drop at s)) → {x : CursorResult} {y : ListResult} → x ≡ cursor_result (many v r c.at (drop c.at s)) → y ≡ listed_of x v c.at
+  pub up_to_read : {z : Result (ℕ × Cursor) Refusal} {v : ℕ} {c : Cursor} → z ≡ Ok (v, c) → z ≡ shown (count_up_to limit (refusal at) at (drop at s)) → {x : Result Cursor Refusal} {y : Result (ListAt × Cursor) Refusal} → x ≡ cursor_result (many v r c.at (drop c.at s)) → y ≡ listed_of x v c.at
       → y ≡ list_result (counted_up_to limit refusal r at (drop at s))
   up_to_read told e p q = rw up_to (count-read (exact_count_up_to limit (refusal at)) (many_sized exact) s at told e p q)
 
 -- ## Lists of each kind
 -- o is what a list gives: a reader of its count, which is a number, and of as many items
-pub record ListAt {A : Type 0} {first : Reader ℕ} {F : Form ℕ} (exact : Exact first F) (r : ℕ → Reader (List A)) (s : Bytes) (at : ℕ) (o : Read (Listed A)) : Type 0 where
+pub record CountThen {A : Type 0} {first : Reader ℕ} {F : Form ℕ} (exact : Exact first F) (r : ℕ → Reader (List A)) (s : Bytes) (at : ℕ) (o : Read (Listed A)) : Type 0 where
   pub own : {v to : ℕ} {rest : Bytes} → first at (drop at s) ≡ ok v to rest → number at (drop at s) ≡ ok v to rest
   pub sized : (n : ℕ) → Sized (r n) n
   pub whole : o ≡ (first >>= behind_count r) at (drop at s)
 
 module _ {A : Type 0} {F : Form A} {r : Reader A} (exact : Exact r F) (s : Bytes) (at : ℕ) where
-  pub counted_list : ListAt exact_number (λ n. many n r) s at (counted r at (drop at s))
+  pub counted_list : CountThen exact_number (λ n. many n r) s at (counted r at (drop at s))
   counted_list = record { own = λ e. e; sized = many_sized exact; whole = refl }
 
-  pub up_to_list : (limit : ℕ) (refusal : ℕ → Refusal) → ListAt (exact_count_up_to limit (refusal at)) (λ n. many n r) s at (counted_up_to limit refusal r at (drop at s))
+  pub up_to_list : (limit : ℕ) (refusal : ℕ → Refusal) → CountThen (exact_count_up_to limit (refusal at)) (λ n. many n r) s at (counted_up_to limit refusal r at (drop at s))
   up_to_list limit refusal = record { own = held-is number (λ n. n) limit (refusal at) at (drop at s); sized = many_sized exact; whole = up_to limit refusal exact s at }
 
-pub line_info_list : (s : Bytes) (at : ℕ) → ListAt exact_number run s at (line_info at (drop at s))
+pub line_info_list : (s : Bytes) (at : ℕ) → CountThen exact_number run s at (line_info at (drop at s))
 line_info_list s at = record { own = λ e. e; sized = run_sized; whole = refl }
 
 -- ## From what was shown back to what was read
-pub list_err : {A : Type 0} (o : Read (Listed A)) (q : Refusal) → list.Err q ≡ list_result o → o ≡ refused q
-list_err (ok l to rest) q e = absurd (let z : ◌≡◌ {A = ℕ} 0 1 = cc in omega arith)
-list_err (refused p) q e = cc
+pub list_err : {A : Type 0} (o : Read (Listed A)) (q : Refusal) → Err q ≡ list_result o → o ≡ refused q
+list_err = shown_as_err list_at
 
 pub record WasList {A : Type 0} (o : Read (Listed A)) (count place to : ℕ) : Type 0 where
   pub value : Listed A
@@ -162,8 +158,7 @@ pub record WasList {A : Type 0} (o : Read (Listed A)) (count place to : ℕ) : T
   pub counted : count ≡ length value.items
   pub placed : place ≡ value.place
 
-pub list_ok : {A : Type 0} (o : Read (Listed A)) (count place : ℕ) (c : Cursor) → list.Ok count place c ≡ list_result o → WasList o count place c.at
-list_ok (ok l to rest) count place c e =
-    let next : c ≡ cursor_at to = cc in
-    record { value = l; was = record { rest = rest; is = rw next }; counted = cc; placed = cc }
-list_ok (refused p) count place c e = absurd (let z : ◌≡◌ {A = ℕ} 0 1 = cc in omega arith)
+pub list_ok : {A : Type 0} (o : Read (Listed A)) (count place : ℕ) (c : Cursor) → Ok ((record { count = count; place = place }), c) ≡ list_result o → WasList o count place c.at
+list_ok o count place c e =
+    let w = shown_as_ok list_at o (record { count = count; place = place }) c e in
+    record { value = w.value; was = w.was; counted = ap (λ l. l.count) w.shows; placed = ap (λ l. l.place) w.shows }

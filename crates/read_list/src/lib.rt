@@ -7,7 +7,7 @@ ghost use Rattle.format.specs.ReadFields.{string};
 ghost use Rattle.format.specs.ReadChunk as spec;
 ghost use Rattle.format_spelling.specs.ReadSpelling as count;
 ghost use Rattle.format_spelling.specs.Inner.Tally.{Room, Adds};
-ghost use Rattle.read_field.specs.Shown.{u64_result};
+ghost use Rattle.read_field.specs.Shown.{shown};
 ghost use Rattle.read_entry.specs.Readers.{code, line_info, protos_count};
 ghost use Rattle.read_entry.specs.Inner.Counts.{count_up_to, code_count};
 ghost use Rattle.read_list.specs.Inner.Shown.{listed_of, list_result, count_result};
@@ -16,32 +16,25 @@ use format::refusal::Refusal;
 use format_spelling::tally::Tally;
 use read_entry::pass::{pass_anchors, pass_constants, pass_locals, pass_strings};
 use read_entry::runs::{skip_upvalues, skip_words};
-use read_field::field::U64Result;
 use read_field::varint::tally_varint;
-use slice::cursor::{Cursor, CursorResult, read_exact};
+use slice::cursor::{Cursor, read_exact};
 
+// A list of a function: how many entries it has, and the place of the first, just after the count.
 #[derive(Clone, Copy)]
-pub enum ListResult {
-    Ok {
-        count: usize,
-        place: usize,
-        next: Cursor,
-    },
-    Err(Refusal),
+pub struct ListAt {
+    pub count: usize,
+    pub place: usize,
 }
 
 // What a list shows, of what passing over its items showed.
-pub fn listed(items: CursorResult, count: usize, place: usize) -> ListResult
+pub fn listed(
+    items: Result<Cursor, Refusal>,
+    count: usize,
+    place: usize,
+) -> Result<(ListAt, Cursor), Refusal>
     ensures { result ≡ listed_of items count place }
 {
-    match items {
-        CursorResult::Err(refusal) => ListResult::Err(refusal),
-        CursorResult::Ok(next) => ListResult::Ok {
-            count: count,
-            place: place,
-            next: next,
-        },
-    }
+    Ok((ListAt { count, place }, items?))
 }
 
 // A count that is at most the limit, or the refusal.
@@ -51,19 +44,16 @@ pub fn count_up_to(
     limit: usize,
     refusal: Refusal,
     tally: &mut Tally,
-) -> U64Result
+) -> Result<(u64, Cursor), Refusal>
     requires { Room tally.old cursor.at }
-    ensures value { result ≡ u64_result (count_up_to limit refusal cursor.at (drop cursor.at s.now)) }
+    ensures value { result ≡ shown (count_up_to limit refusal cursor.at (drop cursor.at s.now)) }
     ensures adds { Adds (count_up_to limit refusal cursor.at (drop cursor.at s.now)) (count.number cursor.at (drop cursor.at s.now)) tally.old tally.new }
 {
-    let read = tally_varint(s, cursor, tally);
-    let U64Result::Ok { value, next: _ } = read else {
-        return read;
-    };
+    let (value, next) = tally_varint(s, cursor, tally)?;
     if limit < value as usize {
-        return U64Result::Err(refusal);
+        return Err(refusal);
     }
-    read
+    Ok((value, next))
 }
 
 // Passes over the constants of a function: their count, which is held to its limit, and each of them.
@@ -74,84 +64,77 @@ pub fn constants_list(
     max_constants: usize,
     max_string_bytes: usize,
     tally: &mut Tally,
-) -> ListResult
+) -> Result<(ListAt, Cursor), Refusal>
     requires { Room tally.old cursor.at }
     ensures value { result ≡ list_result (spec.counted_up_to max_constants Constants (spec.constant max_string_bytes) cursor.at (drop cursor.at s.now)) }
     ensures adds { Adds (spec.counted_up_to max_constants Constants (spec.constant max_string_bytes) cursor.at (drop cursor.at s.now)) (count.counted (spec.constant max_string_bytes) (count.constant max_string_bytes) cursor.at (drop cursor.at s.now)) tally.old tally.new }
 {
-    let read = count_up_to(
+    let (value, next) = count_up_to(
         s,
         cursor,
         max_constants,
         Refusal::Constants(cursor.at),
         tally,
-    );
-    match read {
-        U64Result::Err(refusal) => ListResult::Err(refusal),
-        U64Result::Ok { value, next } => {
-            let count = value as usize;
-            if count == 0 {
-                return listed(CursorResult::Ok(next), count, next.at);
-            }
-            listed(
-                pass_constants(s, next, count, max_string_bytes, tally),
-                count,
-                next.at,
-            )
-        }
+    )?;
+    let count = value as usize;
+    if count == 0 {
+        return listed(Ok(next), count, next.at);
     }
+    listed(
+        pass_constants(s, next, count, max_string_bytes, tally),
+        count,
+        next.at,
+    )
 }
 
 // Passes over the upvalues of a function: their count, which is held to its limit, and three bytes each.
 // Ruled out: the place of the count given as that of the items, one byte an upvalue.
-pub fn upvalues_list(s: &[u8], cursor: Cursor, max_upvalues: usize, tally: &mut Tally) -> ListResult
+pub fn upvalues_list(
+    s: &[u8],
+    cursor: Cursor,
+    max_upvalues: usize,
+    tally: &mut Tally,
+) -> Result<(ListAt, Cursor), Refusal>
     requires { Room tally.old cursor.at }
     ensures value { result ≡ list_result (spec.counted_up_to max_upvalues Upvalues spec.upvalue cursor.at (drop cursor.at s.now)) }
     ensures adds { Adds (spec.counted_up_to max_upvalues Upvalues spec.upvalue cursor.at (drop cursor.at s.now)) (count.number cursor.at (drop cursor.at s.now)) tally.old tally.new }
 {
-    let read = count_up_to(s, cursor, max_upvalues, Refusal::Upvalues(cursor.at), tally);
-    match read {
-        U64Result::Err(refusal) => ListResult::Err(refusal),
-        U64Result::Ok { value, next } => {
-            let count = value as usize;
-            listed(skip_upvalues(s, next, count), count, next.at)
-        }
-    }
+    let (value, next) = count_up_to(s, cursor, max_upvalues, Refusal::Upvalues(cursor.at), tally)?;
+    let count = value as usize;
+    listed(skip_upvalues(s, next, count), count, next.at)
 }
 
 // Passes over the line deltas of a function: their count, and a byte each. Ruled out: place plus size that wraps, the refusal at the place of the count.
-pub fn line_info_list(s: &[u8], cursor: Cursor, tally: &mut Tally) -> ListResult
+pub fn line_info_list(
+    s: &[u8],
+    cursor: Cursor,
+    tally: &mut Tally,
+) -> Result<(ListAt, Cursor), Refusal>
     requires { Room tally.old cursor.at }
     ensures value { result ≡ list_result (line_info cursor.at (drop cursor.at s.now)) }
     ensures adds { Adds (line_info cursor.at (drop cursor.at s.now)) (count.number cursor.at (drop cursor.at s.now)) tally.old tally.new }
 {
-    let read = tally_varint(s, cursor, tally);
-    match read {
-        U64Result::Err(refusal) => ListResult::Err(refusal),
-        U64Result::Ok { value, next } => {
-            let count = value as usize;
-            listed(read_exact(s, next, count), count, next.at)
-        }
-    }
+    let (value, next) = tally_varint(s, cursor, tally)?;
+    let count = value as usize;
+    listed(read_exact(s, next, count), count, next.at)
 }
 
 // Passes over the anchors of a function: their count, and two numbers each. Ruled out: a limit on anchors, the count of numbers given as that of anchors.
-pub fn anchors_list(s: &[u8], cursor: Cursor, tally: &mut Tally) -> ListResult
+pub fn anchors_list(
+    s: &[u8],
+    cursor: Cursor,
+    tally: &mut Tally,
+) -> Result<(ListAt, Cursor), Refusal>
     requires { Room tally.old cursor.at }
     ensures value { result ≡ list_result (spec.counted spec.anchor cursor.at (drop cursor.at s.now)) }
     ensures adds { Adds (spec.counted spec.anchor cursor.at (drop cursor.at s.now)) (count.counted spec.anchor count.anchor cursor.at (drop cursor.at s.now)) tally.old tally.new }
 {
-    let read = tally_varint(s, cursor, tally);
-    match read {
-        U64Result::Err(refusal) => ListResult::Err(refusal),
-        U64Result::Ok { value, next } => {
-            let count = value as usize;
-            if count == 0 {
-                return listed(CursorResult::Ok(next), count, next.at);
-            }
-            listed(pass_anchors(s, next, count, tally), count, next.at)
-        }
+    let (value, next) = tally_varint(s, cursor, tally)?;
+    let count = value as usize;
+    if count == 0 {
+        return listed(Ok(next), count, next.at);
     }
+    listed(pass_anchors(s, next, count, tally), count, next.at)
 }
 
 // Passes over the local variables of a function: their count, and each with its name and its two numbers.
@@ -161,26 +144,21 @@ pub fn locals_list(
     cursor: Cursor,
     max_string_bytes: usize,
     tally: &mut Tally,
-) -> ListResult
+) -> Result<(ListAt, Cursor), Refusal>
     requires { Room tally.old cursor.at }
     ensures value { result ≡ list_result (spec.counted (spec.local max_string_bytes) cursor.at (drop cursor.at s.now)) }
     ensures adds { Adds (spec.counted (spec.local max_string_bytes) cursor.at (drop cursor.at s.now)) (count.counted (spec.local max_string_bytes) (count.local max_string_bytes) cursor.at (drop cursor.at s.now)) tally.old tally.new }
 {
-    let read = tally_varint(s, cursor, tally);
-    match read {
-        U64Result::Err(refusal) => ListResult::Err(refusal),
-        U64Result::Ok { value, next } => {
-            let count = value as usize;
-            if count == 0 {
-                return listed(CursorResult::Ok(next), count, next.at);
-            }
-            listed(
-                pass_locals(s, next, count, max_string_bytes, tally),
-                count,
-                next.at,
-            )
-        }
+    let (value, next) = tally_varint(s, cursor, tally)?;
+    let count = value as usize;
+    if count == 0 {
+        return listed(Ok(next), count, next.at);
     }
+    listed(
+        pass_locals(s, next, count, max_string_bytes, tally),
+        count,
+        next.at,
+    )
 }
 
 // Passes over the upvalue names of a function: their count, and each of them. Ruled out: absent names not counted, more names than upvalues refused.
@@ -189,26 +167,21 @@ pub fn names_list(
     cursor: Cursor,
     max_string_bytes: usize,
     tally: &mut Tally,
-) -> ListResult
+) -> Result<(ListAt, Cursor), Refusal>
     requires { Room tally.old cursor.at }
     ensures value { result ≡ list_result (spec.counted (string max_string_bytes) cursor.at (drop cursor.at s.now)) }
     ensures adds { Adds (spec.counted (string max_string_bytes) cursor.at (drop cursor.at s.now)) (count.counted (string max_string_bytes) count.string cursor.at (drop cursor.at s.now)) tally.old tally.new }
 {
-    let read = tally_varint(s, cursor, tally);
-    match read {
-        U64Result::Err(refusal) => ListResult::Err(refusal),
-        U64Result::Ok { value, next } => {
-            let count = value as usize;
-            if count == 0 {
-                return listed(CursorResult::Ok(next), count, next.at);
-            }
-            listed(
-                pass_strings(s, next, count, max_string_bytes, tally),
-                count,
-                next.at,
-            )
-        }
+    let (value, next) = tally_varint(s, cursor, tally)?;
+    let count = value as usize;
+    if count == 0 {
+        return listed(Ok(next), count, next.at);
     }
+    listed(
+        pass_strings(s, next, count, max_string_bytes, tally),
+        count,
+        next.at,
+    )
 }
 
 // How many instructions: at most so many in a function, and with those of the functions before at most so many in all.
@@ -219,24 +192,21 @@ fn instruction_count(
     instructions_before: usize,
     max_total_instructions: usize,
     tally: &mut Tally,
-) -> U64Result
+) -> Result<(u64, Cursor), Refusal>
     requires { Room tally.old cursor.at }
-    ensures value { result ≡ u64_result (code_count max_instructions_per_proto instructions_before max_total_instructions cursor.at (drop cursor.at s.now)) }
+    ensures value { result ≡ shown (code_count max_instructions_per_proto instructions_before max_total_instructions cursor.at (drop cursor.at s.now)) }
     ensures adds { Adds (code_count max_instructions_per_proto instructions_before max_total_instructions cursor.at (drop cursor.at s.now)) (count.number cursor.at (drop cursor.at s.now)) tally.old tally.new }
 {
     let first = cursor.at;
     let refusal = Refusal::Instructions(first);
-    let read = count_up_to(s, cursor, max_instructions_per_proto, refusal, tally);
-    let U64Result::Ok { value, next: _ } = read else {
-        return read;
-    };
+    let (value, next) = count_up_to(s, cursor, max_instructions_per_proto, refusal, tally)?;
     if max_total_instructions < instructions_before {
-        return U64Result::Err(Refusal::TotalInstructions(first));
+        return Err(Refusal::TotalInstructions(first));
     }
     if max_total_instructions - instructions_before < value as usize {
-        return U64Result::Err(Refusal::TotalInstructions(first));
+        return Err(Refusal::TotalInstructions(first));
     }
-    read
+    Ok((value, next))
 }
 
 // Passes over the instructions of a function: their count, which is held to its limit and to the total of all functions, and four bytes each.
@@ -248,26 +218,21 @@ pub fn instructions_list(
     instructions_before: usize,
     max_total_instructions: usize,
     tally: &mut Tally,
-) -> ListResult
+) -> Result<(ListAt, Cursor), Refusal>
     requires { Room tally.old cursor.at }
     ensures value { result ≡ list_result (code max_instructions_per_proto instructions_before max_total_instructions cursor.at (drop cursor.at s.now)) }
     ensures adds { Adds (code max_instructions_per_proto instructions_before max_total_instructions cursor.at (drop cursor.at s.now)) (count.number cursor.at (drop cursor.at s.now)) tally.old tally.new }
 {
-    let read = instruction_count(
+    let (value, next) = instruction_count(
         s,
         cursor,
         max_instructions_per_proto,
         instructions_before,
         max_total_instructions,
         tally,
-    );
-    match read {
-        U64Result::Err(refusal) => ListResult::Err(refusal),
-        U64Result::Ok { value, next } => {
-            let count = value as usize;
-            listed(skip_words(s, next, count), count, next.at)
-        }
-    }
+    )?;
+    let count = value as usize;
+    listed(skip_words(s, next, count), count, next.at)
 }
 
 // How many functions nest in this one. Ruled out: a count above the limit accepted, the place behind the count as that of its refusal.
@@ -276,19 +241,18 @@ pub fn protos_count(
     cursor: Cursor,
     max_total_prototypes: usize,
     tally: &mut Tally,
-) -> ListResult
+) -> Result<(ListAt, Cursor), Refusal>
     requires { Room tally.old cursor.at }
     ensures value { result ≡ count_result (protos_count max_total_prototypes cursor.at (drop cursor.at s.now)) }
     ensures adds { Adds (protos_count max_total_prototypes cursor.at (drop cursor.at s.now)) (count.number cursor.at (drop cursor.at s.now)) tally.old tally.new }
 {
     let refusal = Refusal::Prototypes(cursor.at);
-    let read = count_up_to(s, cursor, max_total_prototypes, refusal, tally);
-    match read {
-        U64Result::Err(refusal) => ListResult::Err(refusal),
-        U64Result::Ok { value, next } => ListResult::Ok {
+    let (value, next) = count_up_to(s, cursor, max_total_prototypes, refusal, tally)?;
+    Ok((
+        ListAt {
             count: value as usize,
             place: next.at,
-            next: next,
         },
-    }
+        next,
+    ))
 }

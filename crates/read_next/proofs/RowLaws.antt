@@ -1,5 +1,11 @@
 -- Laws of the rows still to come: no function left at a level, too deep, and one more function.
 -- Assumes nothing.
+use Rattle.std.specs.Prelude.{Result, Ok, Err}
+use Rattle.std.specs.Result.{is_ok}
+use Rattle.format.specs.declared.refusal.Refusal.{Refusal}
+use Rattle.read_prototype.specs.declared.parts.Head.{Head}
+use Rattle.read_prototype.specs.declared.parts.Tail.{Tail}
+use Rattle.slice.specs.declared.cursor.Cursor.{Cursor}
 use mathlib.Core.Path.{◌≡◌, refl, ap, ◌∙◌}
 use mathlib.Core.List.{List, [], ◌∷◌, ◌++◌, append_assoc, append-nil}
 use Prim.Native.Nat.{ℕ, zero, suc, ◌+◌, ◌-◌, ◌<◌, ◌≤◌}
@@ -11,11 +17,7 @@ use lib.Seq.{get_or-set_same, get_or-set_other}
 use Rattle.format.specs.declared.limits.ResourceLimits.{ResourceLimits}
 use Rattle.format.specs.Limits.{DEEPEST}
 use Rattle.format.specs.Form.{Bytes}
-use Rattle.read_prototype.specs.declared.parts.HeadResult.{HeadResult}
-use Rattle.read_prototype.specs.declared.parts.HeadResult.TheVariants as head-answer
-use Rattle.read_prototype.specs.declared.parts.TailResult.{TailResult}
-use Rattle.read_prototype.specs.declared.parts.TailResult.TheVariants as tail-answer
-use Rattle.read_next.specs.Inner.Rows.{LEVELS, row_shown, head_at, tail_at, on_head, on_tail, Walked, through, cut, before, and_then, times, body_at, function_at, rows_of, chunk_rows, onward, rows_from, entered}
+use Rattle.read_next.specs.Inner.Rows.{LEVELS, row_shown, head_at, tail_at, on_head, on_tail, Walked, through, cut, before, and_then, times, body_at, function_at, rows_of, chunk_rows, onward, rows_from, entered, any_row}
 use Rattle.read_next.specs.declared.Row.{Row}
 
 -- laws of `onward`
@@ -31,18 +33,23 @@ onward-same : (w : Walked) (f g : ℕ → List Row) → ((p : ℕ) → f p ≡ g
 onward-same (through rows place) f g e = ap (λ (l : List Row). rows ++ l) (e place)
 onward-same (cut rows) f g e = refl
 
-tail-same : (x : TailResult) (f g : ℕ → List Row) → ((p : ℕ) → f p ≡ g p) → on_tail x [] f ≡ on_tail x [] g
-tail-same (tail-answer.Ok t next) f g e = e next.at
-tail-same (tail-answer.Err q) f g e = refl
+tail-same : (x : Result (Tail × Cursor) Refusal) (f g : ℕ → List Row) → ((p : ℕ) → f p ≡ g p) → on_tail x [] f ≡ on_tail x [] g
+tail-same (Ok (t, next)) f g e = e next.at
+tail-same (Err q) f g e = refl
 
-onward-tail : (x : TailResult) (k : ℕ → List Row) → onward (on_tail x (cut []) (through [])) k ≡ on_tail x [] k
-onward-tail (tail-answer.Ok t next) k = refl
-onward-tail (tail-answer.Err q) k = refl
+onward-tail : (x : Result (Tail × Cursor) Refusal) (k : ℕ → List Row) → onward (on_tail x (cut []) (through [])) k ≡ on_tail x [] k
+onward-tail (Ok (t, next)) k = refl
+onward-tail (Err q) k = refl
 
-onward-head : (d : ℕ) (h : HeadResult) (f : Row → ℕ → Walked) (g : Row → ℕ → List Row) (k : ℕ → List Row)
+onward-head : (d : ℕ) (h : Result (Head × Cursor) Refusal) (f : Row → ℕ → Walked) (g : Row → ℕ → List Row) (k : ℕ → List Row)
     → ((row : Row) (first : ℕ) → onward (f row first) k ≡ g row first) → onward (on_head d h (cut []) f) k ≡ on_head d h [] g
-onward-head d (head-answer.Ok h next) f g k e = e (row_shown d h) next.at
-onward-head d (head-answer.Err q) f g k e = refl
+onward-head d (Ok (h, next)) f g k e = e (row_shown d h) next.at
+onward-head d (Err q) f g k e = refl
+
+-- there is a row where the head is read
+pub any_read : (d : ℕ) (h : Result (Head × Cursor) Refusal) (f : Row → ℕ → List Row) → is_ok h ≡ any_row (on_head d h [] (λ row first. row ∷ f row first))
+any_read d (Ok (h, next)) f = refl
+any_read d (Err q) f = refl
 
 times_none : (one : ℕ → Walked) (n at : ℕ) → n ≤ 0 → times one n at ≡ through [] at
 unfolding times
@@ -104,9 +111,9 @@ module _ (L : ResourceLimits) (s : Bytes) where
       ∙ ap (λ (l : List Row). row ∷ l)
       (onward_then (times (function_at L s levels) row.protos first) _ _ ∙ onward-same (times (function_at L s levels) row.protos first) _ _ (λ behind. onward-tail (tail_at L s behind) _))))
 
-  head-same : (d : ℕ) (h : HeadResult) (f g : Row → ℕ → List Row) → ((row : Row) (first : ℕ) → f row first ≡ g row first) → on_head d h [] f ≡ on_head d h [] g
-  head-same d (head-answer.Ok h next) f g e = e (row_shown d h) next.at
-  head-same d (head-answer.Err q) f g e = refl
+  head-same : (d : ℕ) (h : Result (Head × Cursor) Refusal) (f g : Row → ℕ → List Row) → ((row : Row) (first : ℕ) → f row first ≡ g row first) → on_head d h [] f ≡ on_head d h [] g
+  head-same d (Ok (h, next)) f g e = e (row_shown d h) next.at
+  head-same d (Err q) f g e = refl
 
   -- the rows at a level of which one function was taken
   one_fewer : (left : List ℕ) (d n p : ℕ) → d + 1 < length left

@@ -8,7 +8,7 @@ ghost use Rattle.read_next.specs.Inner.Rows.{LEVELS, row_shown, rows_from, any_r
 
 use format::limits::{DEEPEST, ResourceLimits};
 use read_prototype::front::{Lines, Sizes};
-use read_prototype::parts::{Head, HeadResult, TailResult, read_head, read_tail};
+use read_prototype::parts::{Head, read_head, read_tail};
 use slice::cursor::Cursor;
 
 // Levels of functions, main's included.
@@ -62,16 +62,15 @@ fn left_at(left: &Levels, d: usize) -> usize
     0
 }
 
-// Where the next function begins, and its level.
-#[derive(Clone, Copy)]
-enum Up {
-    At(usize, Cursor),
-    End,
-}
-
 // From a place in a function whose nested functions are at the level `depth`: the tails of the functions that have no more in them, up to
 // one that has.
-fn go_up(s: &[u8], limits: ResourceLimits, left: &Levels, depth: usize, cursor: Cursor) -> Up
+fn go_up(
+    s: &[u8],
+    limits: ResourceLimits,
+    left: &Levels,
+    depth: usize,
+    cursor: Cursor,
+) -> Option<(usize, Cursor)>
     ensures { (rows_from limits s.now left.now depth cursor.at ≡ up_to limits s.now left.now result) × Ready left.now result }
 {
     let mut d = depth;
@@ -79,28 +78,20 @@ fn go_up(s: &[u8], limits: ResourceLimits, left: &Levels, depth: usize, cursor: 
     loop {
         if 0 < left_at(left, d) {
             if LEVELS <= d {
-                return Up::End;
+                return None;
             }
-            return Up::At(d, i);
+            return Some((d, i));
         }
         if d == 0 {
-            return Up::End;
+            return None;
         }
         let mut unused = [0usize; 4];
-        let TailResult::Ok { tail: _, next } = read_tail(s, limits.max_string_bytes, i, &mut unused)
-        else {
-            return Up::End;
+        let Ok((_, next)) = read_tail(s, limits.max_string_bytes, i, &mut unused) else {
+            return None;
         };
         i = next;
         d -= 1;
     }
-}
-
-#[derive(Clone, Copy)]
-pub enum Met {
-    // The function's row, its level, and the place behind its head.
-    Function(Row, usize, Cursor),
-    End,
 }
 
 // The next function.
@@ -110,19 +101,17 @@ pub fn next_function(
     left: &Levels,
     depth: usize,
     cursor: Cursor,
-) -> Met
+) -> Option<(Row, usize, Cursor)>
     requires { limits.max_total_instructions ≤ MOST }
     ensures { (rows_from limits s.now left.now depth cursor.at ≡ met limits s.now left.now result) × Within left.now result }
 {
-    let Up::At(d, place) = go_up(s, limits, left, depth, cursor) else {
-        return Met::End;
-    };
+    let (d, place) = go_up(s, limits, left, depth, cursor)?;
     let mut unused = [0usize; 4];
-    let HeadResult::Ok { head, next } = read_head(s, limits, 0, place, &mut unused) else {
-        return Met::End;
+    let Ok((head, next)) = read_head(s, limits, 0, place, &mut unused) else {
+        return None;
     };
     let row = row_of(d, head);
-    Met::Function(row, d, next)
+    Some((row, d, next))
 }
 
 // Whether there is a next function, for callers that do not look at it. (Only one asks for the function itself, over and over: `next_function` then stands in its loop, and costs no call.)
@@ -135,14 +124,11 @@ pub fn any_function(
 ) -> bool
     ensures { result ≡ any_row (rows_from limits s.now left.now depth cursor.at) }
 {
-    let Up::At(_, place) = go_up(s, limits, left, depth, cursor) else {
+    let Some((_, place)) = go_up(s, limits, left, depth, cursor) else {
         return false;
     };
     let mut unused = [0usize; 4];
-    match read_head(s, limits, 0, place, &mut unused) {
-        HeadResult::Ok { head: _, next: _ } => true,
-        HeadResult::Err(_) => false,
-    }
+    read_head(s, limits, 0, place, &mut unused).is_ok()
 }
 
 // Goes on into a function of level d in which n nest: one fewer is still to come at its level, and n at the one below.

@@ -3,19 +3,19 @@
 --     name_stands        an upvalue's name, if it has one
 --     local_stands       a local variable's name, if it has one
 -- Assumes nothing.
-use mathlib.Core.Path.{◌≡◌, refl}
+use mathlib.Core.Path.{refl}
 use mathlib.Core.Bool.{Bool, true, false, cond}
 use mathlib.Core.List.{[]}
 use mathlib.Core.Option.{Option, none, some, get_or}
-use Prim.Native.Nat.{ℕ, ◌≤◌}
+use Prim.Native.Nat.{ℕ}
 use native.Mathlib.Omega.{arith}
 use lib.Dec.{eqb}
 use Rattle.format.specs.Form.{Bytes, Form}
 use Rattle.format.specs.GrammarFields.{LuaString}
 use Rattle.format.specs.Reading.{ConstantValue, nil, boolean, integer, float, short_string, long_string}
-use Rattle.format.specs.Read.{Reader, next, ◌>>=◌, many}
-use Rattle.format.specs.ReadFields.{byte, string}
-use Rattle.format.specs.ReadChunk.{always, tagged, constant, local}
+use Rattle.format.specs.Read.{Reader}
+use Rattle.format.specs.ReadFields.{string}
+use Rattle.format.specs.ReadChunk.{always, tagged, constant}
 use Rattle.format.proofs.Exact.{Exact, exact_many}
 use Rattle.format.proofs.ExactFields.{exact_field, exact_number, exact_string}
 use Rattle.format.proofs.ExactChunk.{exact_always, exact_constant, exact_local}

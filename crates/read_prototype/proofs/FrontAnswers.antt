@@ -2,6 +2,8 @@
 --     ..-room          there is room behind a part that was read
 --     ..-add           what the parts add, the whole adds
 -- Assumes nothing.
+use Rattle.std.specs.Prelude.{Option, Ok, Err}
+use Rattle.read_field.specs.declared.string.StringAt.{StringAt}
 use mathlib.Core.Path.{◌≡◌, sym, ◌∙◌, ap}
 use mathlib.Core.List.{List}
 use Prim.Native.Nat.{ℕ}
@@ -18,34 +20,29 @@ use Rattle.format_spelling.specs.ReadSpelling as count
 use Rattle.format_spelling.specs.Inner.Tally.{Room, Adds}
 use Rattle.format_spelling.proofs.Tallies.{room-on, adds-value}
 use Rattle.slice.specs.declared.cursor.Cursor.{Cursor}
-use Rattle.read_field.specs.declared.field.U64Result.TheVariants as u64
-use Rattle.read_field.specs.declared.string.OptionString.{OptionString}
-use Rattle.read_field.specs.declared.string.StringResult.TheVariants as str
 use Rattle.slice.specs.Shown.{cursor_at}
-use Rattle.read_field.specs.Shown.{u64_result, string_result}
-use Rattle.read_field.proofs.Shows.{Was, onward, u64_err, string_err, string-ok}
+use Rattle.read_field.specs.Shown.{shown, string_result}
+use Rattle.read_field.proofs.Shows.{Was, onward, shown_err, string_err, string-ok, shown_as_err, shown_as_ok, shown_ok}
 use Rattle.read_prototype.specs.declared.front.Lines.{Lines}
-use Rattle.read_prototype.specs.declared.front.LinesResult.TheVariants as lines-answer
 use Rattle.read_prototype.specs.declared.front.Sizes.{Sizes}
-use Rattle.read_prototype.specs.declared.front.SizesResult.TheVariants as sizes-answer
-use Rattle.read_prototype.specs.declared.front.FrontResult.TheVariants as front-answer
 use Rattle.read_prototype.specs.Front.{Front, lines, sizes, front}
 use Rattle.read_prototype.specs.PartsSpelt as spelt
+use Rattle.read_prototype.specs.PartsShown.{front_of}
 use Rattle.read_prototype.specs.Inner.Results.{lines_result, sizes_result, front_result}
 use Rattle.read_prototype.proofs.CoversParts.{covers_one, covers_string}
 use Rattle.read_prototype.proofs.On.{u64_on, taken, stopped, adds_taken}
 
 -- ## Two numbers
 module _ (s : Bytes) (at : ℕ) where
-  pub first_refused : (q : Refusal) → u64.Err q ≡ u64_result (number at (drop at s)) → lines-answer.Err q ≡ lines_result (lines at (drop at s))
-  first_refused q e = rw (u64_err (number at (drop at s)) q e)
+  pub first_refused : (q : Refusal) → Err q ≡ shown (number at (drop at s)) → Err q ≡ lines_result (lines at (drop at s))
+  first_refused q e = rw (shown_err (number at (drop at s)) q e)
 
-  module _ (v : ℕ) (c : Cursor) (e : u64.Ok v c ≡ u64_result (number at (drop at s))) where
-    pub last-refused : (q : Refusal) → u64.Err q ≡ u64_result (number c.at (drop c.at s)) → lines-answer.Err q ≡ lines_result (lines at (drop at s))
-    last-refused q f = rw (u64_on s at exact_number v c e, u64_err (number c.at (drop c.at s)) q f)
+  module _ (v : ℕ) (c : Cursor) (e : Ok (v, c) ≡ shown (number at (drop at s))) where
+    pub last-refused : (q : Refusal) → Err q ≡ shown (number c.at (drop c.at s)) → Err q ≡ lines_result (lines at (drop at s))
+    last-refused q f = rw (u64_on s at exact_number v c e, shown_err (number c.at (drop c.at s)) q f)
 
-    pub two-lines : (u : ℕ) (d : Cursor) → u64.Ok u d ≡ u64_result (number c.at (drop c.at s))
-        → lines-answer.Ok (record { line_defined = v; last_line_defined = u }) d ≡ lines_result (lines at (drop at s))
+    pub two-lines : (u : ℕ) (d : Cursor) → Ok (u, d) ≡ shown (number c.at (drop c.at s))
+        → Ok ((record { line_defined = v; last_line_defined = u }), d) ≡ lines_result (lines at (drop at s))
     two-lines u d f = rw (u64_on s at exact_number v c e, u64_on s c.at exact_number u d f)
 
     pub first_room : {t t₁ : List ℕ} → Room t at → Adds (number at (drop at s)) (count.number at (drop at s)) t t₁ → Room t₁ c.at
@@ -56,31 +53,20 @@ module _ (s : Bytes) (at : ℕ) where
     lines-add one two = adds_taken _ _ (u64_on s at exact_number v c e) one (adds-value _ _ two)
 
 -- ## The front
-pub lines_err : (o : Read Lines) (q : Refusal) → lines-answer.Err q ≡ lines_result o → o ≡ refused q
-lines_err (ok x to rest) q e = absurd (let z : ◌≡◌ {A = ℕ} 0 1 = cc in omega arith)
-lines_err (refused p) q e = cc
+pub lines_err : (o : Read Lines) (q : Refusal) → Err q ≡ lines_result o → o ≡ refused q
+lines_err = shown_err
 
-lines_ok : (o : Read Lines) (x : Lines) (c : Cursor) → lines-answer.Ok x c ≡ lines_result o → Was o x c.at
-lines_ok (ok w to rest) x c e =
-    let value : x ≡ w = cc in
-    let next : c ≡ cursor_at to = cc in
-    record { rest = rest; is = rw (value, next) }
-lines_ok (refused p) x c e = absurd (let z : ◌≡◌ {A = ℕ} 0 1 = cc in omega arith)
+lines_ok : (o : Read Lines) (x : Lines) (c : Cursor) → Ok (x, c) ≡ lines_result o → Was o x c.at
+lines_ok = shown_ok
 
-sizes_err : (o : Read Sizes) (q : Refusal) → sizes-answer.Err q ≡ sizes_result o → o ≡ refused q
-sizes_err (ok x to rest) q e = absurd (let z : ◌≡◌ {A = ℕ} 0 1 = cc in omega arith)
-sizes_err (refused p) q e = cc
+sizes_err : (o : Read Sizes) (q : Refusal) → Err q ≡ sizes_result o → o ≡ refused q
+sizes_err = shown_err
 
-sizes-ok : (o : Read Sizes) (x : Sizes) (c : Cursor) → sizes-answer.Ok x c ≡ sizes_result o → Was o x c.at
-sizes-ok (ok w to rest) x c e =
-    let value : x ≡ w = cc in
-    let next : c ≡ cursor_at to = cc in
-    record { rest = rest; is = rw (value, next) }
-sizes-ok (refused p) x c e = absurd (let z : ◌≡◌ {A = ℕ} 0 1 = cc in omega arith)
+sizes-ok : (o : Read Sizes) (x : Sizes) (c : Cursor) → Ok (x, c) ≡ sizes_result o → Was o x c.at
+sizes-ok = shown_ok
 
-pub front_err : (o : Read Front) (q : Refusal) → front-answer.Err q ≡ front_result o → o ≡ refused q
-front_err (ok x to rest) q e = absurd (let z : ◌≡◌ {A = ℕ} 0 1 = cc in omega arith)
-front_err (refused p) q e = cc
+pub front_err : (o : Read Front) (q : Refusal) → Err q ≡ front_result o → o ≡ refused q
+front_err = shown_as_err front_of
 
 -- they read exactly a form
 abbrev LinesForm : Form Lines
@@ -102,17 +88,17 @@ pub exact_front : (limit : ℕ) → Exact (front limit) (FrontForm limit)
 exact_front limit = exact_then (exact_string limit) λ _. exact_then exact_lines λ _. exact_then exact_sizes λ _. exact_give _
 
 -- what the readers of lines and sizes leave of the slice
-lines-on : (s : Bytes) (at : ℕ) (x : Lines) (c : Cursor) → lines-answer.Ok x c ≡ lines_result (lines at (drop at s)) → lines at (drop at s) ≡ ok x c.at (drop c.at s)
+lines-on : (s : Bytes) (at : ℕ) (x : Lines) (c : Cursor) → Ok (x, c) ≡ lines_result (lines at (drop at s)) → lines at (drop at s) ≡ ok x c.at (drop c.at s)
 lines-on s at x c e = onward exact_lines s at (lines_ok (lines at (drop at s)) x c e)
 
-sizes-on : (s : Bytes) (at : ℕ) (x : Sizes) (c : Cursor) → sizes-answer.Ok x c ≡ sizes_result (sizes at (drop at s)) → sizes at (drop at s) ≡ ok x c.at (drop c.at s)
+sizes-on : (s : Bytes) (at : ℕ) (x : Sizes) (c : Cursor) → Ok (x, c) ≡ sizes_result (sizes at (drop at s)) → sizes at (drop at s) ≡ ok x c.at (drop c.at s)
 sizes-on s at x c e = onward exact_sizes s at (sizes-ok (sizes at (drop at s)) x c e)
 
 module _ (s : Bytes) (limit at : ℕ) where
-  pub source-refused : (q : Refusal) → str.Err q ≡ string_result (string limit at (drop at s)) → front-answer.Err q ≡ front_result (front limit at (drop at s))
+  pub source-refused : (q : Refusal) → Err q ≡ string_result (string limit at (drop at s)) → Err q ≡ front_result (front limit at (drop at s))
   source-refused q e = rw (string_err (string limit at (drop at s)) q e)
 
-  module _ (t : OptionString) (c : Cursor) (e : str.Ok t c ≡ string_result (string limit at (drop at s))) where
+  module _ (t : Option StringAt) (c : Cursor) (e : Ok (t, c) ≡ string_result (string limit at (drop at s))) where
     source : string limit at (drop at s) ≡ ok (string-ok (string limit at (drop at s)) t c e).value c.at (drop c.at s)
     source = onward (exact_string limit) s at (string-ok (string limit at (drop at s)) t c e).was
 
@@ -123,15 +109,15 @@ module _ (s : Bytes) (limit at : ℕ) where
         → Adds (front limit at (drop at s)) (spelt.front limit at (drop at s)) k k₂
     front-add one two = adds_taken _ _ source one (adds-value _ _ two)
 
-    pub lines-refused : (q : Refusal) → lines-answer.Err q ≡ lines_result (lines c.at (drop c.at s)) → front-answer.Err q ≡ front_result (front limit at (drop at s))
+    pub lines-refused : (q : Refusal) → Err q ≡ lines_result (lines c.at (drop c.at s)) → Err q ≡ front_result (front limit at (drop at s))
     lines-refused q f = sym (ap front_result (taken _ source ∙ stopped _ (lines_err (lines c.at (drop c.at s)) q f)))
 
-    module _ (x : Lines) (d : Cursor) (f : lines-answer.Ok x d ≡ lines_result (lines c.at (drop c.at s))) where
-      pub sizes-refused : (q : Refusal) → sizes-answer.Err q ≡ sizes_result (sizes d.at (drop d.at s)) → front-answer.Err q ≡ front_result (front limit at (drop at s))
+    module _ (x : Lines) (d : Cursor) (f : Ok (x, d) ≡ lines_result (lines c.at (drop c.at s))) where
+      pub sizes-refused : (q : Refusal) → Err q ≡ sizes_result (sizes d.at (drop d.at s)) → Err q ≡ front_result (front limit at (drop at s))
       sizes-refused q g = sym (ap front_result (taken _ source ∙ taken _ (lines-on s c.at x d f) ∙ stopped _ (sizes_err (sizes d.at (drop d.at s)) q g)))
 
-      pub whole-front : (y : Sizes) (n : Cursor) → sizes-answer.Ok y n ≡ sizes_result (sizes d.at (drop d.at s))
-          → front-answer.Ok (record { source = t; lines = x; sizes = y }) n ≡ front_result (front limit at (drop at s))
+      pub whole-front : (y : Sizes) (n : Cursor) → Ok (y, n) ≡ sizes_result (sizes d.at (drop d.at s))
+          → Ok ((record { source = t; lines = x; sizes = y }), n) ≡ front_result (front limit at (drop at s))
       whole-front y n g =
-          ap (λ z. front-answer.Ok (record { source = z; lines = x; sizes = y }) n) (string-ok (string limit at (drop at s)) t c e).shows
+          ap (λ z. Ok ((record { source = z; lines = x; sizes = y }), n)) (string-ok (string limit at (drop at s)) t c e).shows
           ∙ sym (ap front_result (taken _ source ∙ taken _ (lines-on s c.at x d f) ∙ taken _ (sizes-on s d.at y n g)))

@@ -2,6 +2,8 @@
 --     Ended, ..-room   there is room behind a part that was read
 --     ..-add           what the parts add, the whole adds
 -- Assumes nothing.
+use Rattle.std.specs.Prelude.{Result, Ok, Err}
+use Rattle.read_list.specs.declared.ListAt.{ListAt}
 use mathlib.Core.Path.{◌≡◌, sym, ◌∙◌, ap, ap₂}
 use mathlib.Core.List.{List}
 use mathlib.Core.Option.{Option}
@@ -29,26 +31,19 @@ use Rattle.format_spelling.proofs.Covers.{Covers}
 use Rattle.format_spelling.proofs.Tallies.{room-on, adds-value}
 use Rattle.slice.specs.declared.cursor.Cursor.{Cursor}
 use Rattle.slice.specs.Shown.{cursor_at}
-use Rattle.read_field.proofs.Shows.{Showed, onward}
-use Rattle.read_list.specs.declared.ListResult.{ListResult}
-use Rattle.read_list.specs.declared.ListResult.TheVariants as list
+use Rattle.read_field.proofs.Shows.{Showed, onward, shown_as_err, shown_as_ok}
 use Rattle.read_entry.specs.Readers.{Count, protos_count, code, line_info}
 use Rattle.read_list.specs.Inner.Shown.{list_result, count_result}
 use Rattle.read_list.proofs.Listing.{list_err, list_ok}
 use Rattle.read_list.proofs.Counts.{count_err, count-ok}
 use Rattle.read_list.proofs.Within.{Code, exact_line_info, exact_code, exact_protos_count}
 use Rattle.read_prototype.specs.declared.front.Front as declared-front
-use Rattle.read_prototype.specs.declared.front.FrontResult.TheVariants as front-answer
 use Rattle.read_prototype.specs.declared.parts.HeadLists as declared-lists
-use Rattle.read_prototype.specs.declared.parts.HeadListsResult.TheVariants as lists-answer
-use Rattle.read_prototype.specs.declared.parts.HeadResult.TheVariants as head-answer
-use Rattle.read_prototype.specs.declared.parts.ListEnd.{ListEnd}
 use Rattle.read_prototype.specs.declared.parts.Tail as declared-tail
-use Rattle.read_prototype.specs.declared.parts.TailResult.TheVariants as tail-answer
 use Rattle.read_prototype.specs.Front.{Front, front}
 use Rattle.read_prototype.specs.Inner.Results.{front_result}
 use Rattle.read_prototype.specs.Parts.{HeadLists, head_lists, Head, head, Tail, tail}
-use Rattle.read_prototype.specs.PartsShown.{front_of, lists_of, head_lists_result, head_result, tail_result}
+use Rattle.read_prototype.specs.PartsShown.{front_of, lists_of, head_of, tail_of, head_lists_result, head_result, tail_result}
 use Rattle.read_prototype.specs.PartsSpelt as spelt
 use Rattle.read_prototype.proofs.On.{taken, stopped, adds_taken}
 use Rattle.read_prototype.proofs.CoversParts.{covers_front, covers_lists}
@@ -62,25 +57,21 @@ three_path : {a b c d e f a' b' c' d' e' f' : ℕ} → a ≡ a' → b ≡ b' →
 three_path p q r s t u = λ i. three (p i) (q i) (r i) (s i) (t i) (u i)
 
 -- a list that was read, with the rest of the slice
-list_on : {A : Type 0} {r : Reader (Listed A)} {F : Form (Listed A)} → Exact r F → (s : Bytes) (at count place : ℕ) (c : Cursor) (e : list.Ok count place c ≡ list_result (r at (drop at s)))
+list_on : {A : Type 0} {r : Reader (Listed A)} {F : Form (Listed A)} → Exact r F → (s : Bytes) (at count place : ℕ) (c : Cursor) (e : Ok ((record { count = count; place = place }), c) ≡ list_result (r at (drop at s)))
     → r at (drop at s) ≡ ok (list_ok (r at (drop at s)) count place c e).value c.at (drop c.at s)
 list_on {r} exact s at count place c e = onward exact s at (list_ok (r at (drop at s)) count place c e).was
 
--- the same of what `passed` made of it
-pub end_is : {l : ListEnd} {n p : ℕ} {c : Cursor} {x y : ListResult} → l ≡ record { list = record { count = n; place = p }; next = c } → x ≡ list.Ok n p c → x ≡ y → list.Ok l.list.count l.list.place l.next ≡ y
-end_is end told e = rw end (sym told ∙ e)
-
--- a list that was passed over, of which `passed` made l: what was shown of it, what it added, and that there is room behind it
-pub record Ended {A : Type 0} (r : Reader (Listed A)) (k : count.Count) (s : Bytes) (at : ℕ) (t : List ℕ) (l : ListEnd) (t' : List ℕ) : Type 0 where
-  pub shown : list.Ok l.list.count l.list.place l.next ≡ list_result (r at (drop at s))
+-- a list that was passed over: what was shown of it, what it added, and that there is room behind it
+pub record Ended {A : Type 0} (r : Reader (Listed A)) (k : count.Count) (s : Bytes) (at : ℕ) (t : List ℕ) (l : ListAt) (c : Cursor) (t' : List ℕ) : Type 0 where
+  pub shown : Ok (l, c) ≡ list_result (r at (drop at s))
   pub adds : Adds (r at (drop at s)) (k at (drop at s)) t t'
-  pub room : Room t' l.next.at
+  pub room : Room t' c.at
 
-pub ended : {A : Type 0} {r : Reader (Listed A)} {k : count.Count} → Covers r k → (s : Bytes) (at : ℕ) {t t' : List ℕ} {l : ListEnd} {n p : ℕ} {c : Cursor} {x : ListResult} → l ≡ record { list = record { count = n; place = p }; next = c } → x ≡ list.Ok n p c
-    → (x ≡ list_result (r at (drop at s))) × Adds (r at (drop at s)) (k at (drop at s)) t t' → Room t at → Ended r k s at t l t'
-ended {r} covers s at {l = l} {x = x} end told (e, adds) room =
-    let shown : list.Ok l.list.count l.list.place l.next ≡ list_result (r at (drop at s)) = end_is end told e in
-    record { shown = shown; adds = adds; room = room-on covers at (drop at s) room (list_ok (r at (drop at s)) _ _ l.next shown).was.is adds }
+pub ended : {A : Type 0} {r : Reader (Listed A)} {k : count.Count} → Covers r k → (s : Bytes) (at : ℕ) {t t' : List ℕ} {l : ListAt} {c : Cursor} {x : Result (ListAt × Cursor) Refusal} → x ≡ Ok (l, c)
+    → (x ≡ list_result (r at (drop at s))) × Adds (r at (drop at s)) (k at (drop at s)) t t' → Room t at → Ended r k s at t l c t'
+ended {r} covers s at {l = l} {c = c} told (e, adds) room =
+    let shown : Ok (l, c) ≡ list_result (r at (drop at s)) = sym told ∙ e in
+    record { shown = shown; adds = adds; room = room-on covers at (drop at s) room (list_ok (r at (drop at s)) l.count l.place c shown).was.is adds }
 
 -- ## The lists before the nested functions
 abbrev pub codes : ResourceLimits → ℕ → Reader (Listed ℕ)
@@ -93,39 +84,42 @@ abbrev pub upvalues : ResourceLimits → Reader (Listed UpvalueDesc)
 upvalues L = counted_up_to L.max_upvalues_per_proto Upvalues upvalue
 
 module _ (s : Bytes) (L : ResourceLimits) (before at : ℕ) where
-  pub code-refused : (q : Refusal) → list.Err q ≡ list_result (codes L before at (drop at s)) → lists-answer.Err q ≡ head_lists_result (head_lists L before at (drop at s))
+  pub code-refused : (q : Refusal) → Err q ≡ list_result (codes L before at (drop at s)) → Err q ≡ head_lists_result (head_lists L before at (drop at s))
   code-refused q e = sym (ap head_lists_result (stopped _ (list_err (codes L before at (drop at s)) q e)))
 
-  module _ (n₁ p₁ : ℕ) (c₁ : Cursor) (e₁ : list.Ok n₁ p₁ c₁ ≡ list_result (codes L before at (drop at s))) where
+  module _ (n₁ p₁ : ℕ) (c₁ : Cursor) (e₁ : Ok ((record { count = n₁; place = p₁ }), c₁) ≡ list_result (codes L before at (drop at s))) where
     code-on : codes L before at (drop at s) ≡ ok (list_ok (codes L before at (drop at s)) n₁ p₁ c₁ e₁).value c₁.at (drop c₁.at s)
     code-on = list_on (exact_code L.max_instructions_per_proto before L.max_total_instructions) s at n₁ p₁ c₁ e₁
 
-    pub constants-refused : (q : Refusal) → list.Err q ≡ list_result (constants L c₁.at (drop c₁.at s)) → lists-answer.Err q ≡ head_lists_result (head_lists L before at (drop at s))
+    pub constants-refused : (q : Refusal) → Err q ≡ list_result (constants L c₁.at (drop c₁.at s)) → Err q ≡ head_lists_result (head_lists L before at (drop at s))
     constants-refused q e = sym (ap head_lists_result (taken _ code-on ∙ stopped _ (list_err (constants L c₁.at (drop c₁.at s)) q e)))
 
-    module _ (n₂ p₂ : ℕ) (c₂ : Cursor) (e₂ : list.Ok n₂ p₂ c₂ ≡ list_result (constants L c₁.at (drop c₁.at s))) where
+    module _ (n₂ p₂ : ℕ) (c₂ : Cursor) (e₂ : Ok ((record { count = n₂; place = p₂ }), c₂) ≡ list_result (constants L c₁.at (drop c₁.at s))) where
       constants-on : constants L c₁.at (drop c₁.at s) ≡ ok (list_ok (constants L c₁.at (drop c₁.at s)) n₂ p₂ c₂ e₂).value c₂.at (drop c₂.at s)
       constants-on = list_on (exact_counted_up_to L.max_constants_per_proto Constants (exact_constant L.max_string_bytes)) s c₁.at n₂ p₂ c₂ e₂
 
-      pub upvalues-refused : (q : Refusal) → list.Err q ≡ list_result (upvalues L c₂.at (drop c₂.at s)) → lists-answer.Err q ≡ head_lists_result (head_lists L before at (drop at s))
+      pub upvalues-refused : (q : Refusal) → Err q ≡ list_result (upvalues L c₂.at (drop c₂.at s)) → Err q ≡ head_lists_result (head_lists L before at (drop at s))
       upvalues-refused q e = sym (ap head_lists_result (taken _ code-on ∙ taken _ constants-on ∙ stopped _ (list_err (upvalues L c₂.at (drop c₂.at s)) q e)))
 
-      module _ (n₃ p₃ : ℕ) (c₃ : Cursor) (e₃ : list.Ok n₃ p₃ c₃ ≡ list_result (upvalues L c₂.at (drop c₂.at s))) where
+      module _ (n₃ p₃ : ℕ) (c₃ : Cursor) (e₃ : Ok ((record { count = n₃; place = p₃ }), c₃) ≡ list_result (upvalues L c₂.at (drop c₂.at s))) where
         upvalues-on : upvalues L c₂.at (drop c₂.at s) ≡ ok (list_ok (upvalues L c₂.at (drop c₂.at s)) n₃ p₃ c₃ e₃).value c₃.at (drop c₃.at s)
         upvalues-on = list_on (exact_counted_up_to L.max_upvalues_per_proto Upvalues exact_upvalue) s c₂.at n₃ p₃ c₃ e₃
 
-        pub all-lists : lists-answer.Ok (record {
-          instructions = record { count = n₁; place = p₁ };
-          constants = record { count = n₂; place = p₂ };
-          upvalues = record { count = n₃; place = p₃ };
-        }) c₃ ≡ head_lists_result (head_lists L before at (drop at s))
+        pub all-lists : Ok (
+          (record {
+            instructions = record { count = n₁; place = p₁ };
+            constants = record { count = n₂; place = p₂ };
+            upvalues = record { count = n₃; place = p₃ };
+          }),
+          c₃,
+        ) ≡ head_lists_result (head_lists L before at (drop at s))
         all-lists =
             let a = list_ok (codes L before at (drop at s)) n₁ p₁ c₁ e₁ in
             let b = list_ok (constants L c₁.at (drop c₁.at s)) n₂ p₂ c₂ e₂ in
             let c = list_ok (upvalues L c₂.at (drop c₂.at s)) n₃ p₃ c₃ e₃ in
             let shows : three n₁ p₁ n₂ p₂ n₃ p₃ ≡ lists_of (record { instructions = a.value; constants = b.value; upvalues = c.value })
             = three_path a.counted a.placed b.counted b.placed c.counted c.placed in
-            ap (λ l. lists-answer.Ok l c₃) shows ∙ sym (ap head_lists_result (taken _ code-on ∙ taken _ constants-on ∙ taken _ upvalues-on))
+            ap (λ l. Ok (l, c₃)) shows ∙ sym (ap head_lists_result (taken _ code-on ∙ taken _ constants-on ∙ taken _ upvalues-on))
 
       pub lists-add : {t t₁ t₂ t₃ : List ℕ} → Adds (codes L before at (drop at s)) (count.number at (drop at s)) t t₁
           → Adds (constants L c₁.at (drop c₁.at s)) (count.counted (constant L.max_string_bytes) (count.constant L.max_string_bytes) c₁.at (drop c₁.at s)) t₁ t₂
@@ -134,21 +128,14 @@ module _ (s : Bytes) (L : ResourceLimits) (before at : ℕ) where
       lists-add one two three = adds_taken _ _ code-on one (adds_taken _ _ constants-on two (adds-value _ _ three))
 
 -- ## The head
-front-ok : (o : Read Front) (f : declared-front.Front) (c : Cursor) → front-answer.Ok f c ≡ front_result o → Showed front_of o f c.at
-front-ok (ok x to rest) f c e =
-    let next : c ≡ cursor_at to = cc in
-    record { value = x; was = record { rest = rest; is = rw next }; shows = cc }
-front-ok (refused p) f c e = absurd (let z : ◌≡◌ {A = ℕ} 0 1 = cc in omega arith)
+front-ok : (o : Read Front) (f : declared-front.Front) (c : Cursor) → Ok (f, c) ≡ front_result o → Showed front_of o f c.at
+front-ok = shown_as_ok front_of
 
-pub lists_err : (o : Read HeadLists) (q : Refusal) → lists-answer.Err q ≡ head_lists_result o → o ≡ refused q
-lists_err (ok x to rest) q e = absurd (let z : ◌≡◌ {A = ℕ} 0 1 = cc in omega arith)
-lists_err (refused p) q e = cc
+pub lists_err : (o : Read HeadLists) (q : Refusal) → Err q ≡ head_lists_result o → o ≡ refused q
+lists_err = shown_as_err lists_of
 
-lists-ok : (o : Read HeadLists) (l : declared-lists.HeadLists) (c : Cursor) → lists-answer.Ok l c ≡ head_lists_result o → Showed lists_of o l c.at
-lists-ok (ok x to rest) l c e =
-    let next : c ≡ cursor_at to = cc in
-    record { value = x; was = record { rest = rest; is = rw next }; shows = cc }
-lists-ok (refused p) l c e = absurd (let z : ◌≡◌ {A = ℕ} 0 1 = cc in omega arith)
+lists-ok : (o : Read HeadLists) (l : declared-lists.HeadLists) (c : Cursor) → Ok (l, c) ≡ head_lists_result o → Showed lists_of o l c.at
+lists-ok = shown_as_ok lists_of
 
 -- the lists read exactly a form
 abbrev pub ListsForm : ResourceLimits → ℕ → Form HeadLists
@@ -172,10 +159,10 @@ module _ (s : Bytes) (L : ResourceLimits) (before at : ℕ) where
   abbrev counts : Reader Count
   counts = protos_count L.max_total_prototypes
 
-  pub front-refused : (q : Refusal) → front-answer.Err q ≡ front_result (fronts at (drop at s)) → head-answer.Err q ≡ head_result (head L before at (drop at s))
+  pub front-refused : (q : Refusal) → Err q ≡ front_result (fronts at (drop at s)) → Err q ≡ head_result (head L before at (drop at s))
   front-refused q e = sym (ap head_result (stopped _ (front_err (fronts at (drop at s)) q e)))
 
-  module _ (f : declared-front.Front) (c₁ : Cursor) (e₁ : front-answer.Ok f c₁ ≡ front_result (fronts at (drop at s))) where
+  module _ (f : declared-front.Front) (c₁ : Cursor) (e₁ : Ok (f, c₁) ≡ front_result (fronts at (drop at s))) where
     fronted : Showed front_of (fronts at (drop at s)) f c₁.at
     fronted = front-ok (fronts at (drop at s)) f c₁ e₁
 
@@ -185,10 +172,10 @@ module _ (s : Bytes) (L : ResourceLimits) (before at : ℕ) where
     pub front-room : {t t₁ : List ℕ} → Room t at → Adds (fronts at (drop at s)) (spelt.front L.max_string_bytes at (drop at s)) t t₁ → Room t₁ c₁.at
     front-room room = room-on (covers_front L.max_string_bytes) at (drop at s) room front-on
 
-    pub lists-refused : (q : Refusal) → lists-answer.Err q ≡ head_lists_result (head_lists L before c₁.at (drop c₁.at s)) → head-answer.Err q ≡ head_result (head L before at (drop at s))
+    pub lists-refused : (q : Refusal) → Err q ≡ head_lists_result (head_lists L before c₁.at (drop c₁.at s)) → Err q ≡ head_result (head L before at (drop at s))
     lists-refused q e = sym (ap head_result (taken _ front-on ∙ stopped _ (lists_err (head_lists L before c₁.at (drop c₁.at s)) q e)))
 
-    module _ (l : declared-lists.HeadLists) (c₂ : Cursor) (e₂ : lists-answer.Ok l c₂ ≡ head_lists_result (head_lists L before c₁.at (drop c₁.at s))) where
+    module _ (l : declared-lists.HeadLists) (c₂ : Cursor) (e₂ : Ok (l, c₂) ≡ head_lists_result (head_lists L before c₁.at (drop c₁.at s))) where
       listed : Showed lists_of (head_lists L before c₁.at (drop c₁.at s)) l c₂.at
       listed = lists-ok (head_lists L before c₁.at (drop c₁.at s)) l c₂ e₂
 
@@ -203,24 +190,22 @@ module _ (s : Bytes) (L : ResourceLimits) (before at : ℕ) where
           → Adds (head L before at (drop at s)) (spelt.head L before at (drop at s)) t t₃
       head-add one two three = adds_taken _ _ front-on one (adds_taken _ _ lists-on two (adds-value _ _ three))
 
-      pub protos-refused : (q : Refusal) → list.Err q ≡ count_result (counts c₂.at (drop c₂.at s)) → head-answer.Err q ≡ head_result (head L before at (drop at s))
+      pub protos-refused : (q : Refusal) → Err q ≡ count_result (counts c₂.at (drop c₂.at s)) → Err q ≡ head_result (head L before at (drop at s))
       protos-refused q e = sym (ap head_result (taken _ front-on ∙ taken _ lists-on ∙ stopped _ (count_err (counts c₂.at (drop c₂.at s)) q e)))
 
-      pub whole-head : (n p : ℕ) (c₃ : Cursor) → list.Ok n p c₃ ≡ count_result (counts c₂.at (drop c₂.at s))
-          → head-answer.Ok (record { front = f; lists = l; protos = record { count = n; place = p } }) c₃ ≡ head_result (head L before at (drop at s))
+      pub whole-head : (n p : ℕ) (c₃ : Cursor) → Ok ((record { count = n; place = p }), c₃) ≡ count_result (counts c₂.at (drop c₂.at s))
+          → Ok ((record { front = f; lists = l; protos = record { count = n; place = p } }), c₃) ≡ head_result (head L before at (drop at s))
       whole-head n p c₃ e =
           let c = onward (exact_protos_count L.max_total_prototypes) s c₂.at (count-ok (counts c₂.at (drop c₂.at s)) n p c₃ e) in
-          ap₂ (λ x y. head-answer.Ok (record { front = x; lists = y; protos = record { count = n; place = p } }) c₃) fronted.shows listed.shows
+          ap₂ (λ x y. Ok ((record { front = x; lists = y; protos = record { count = n; place = p } }), c₃)) fronted.shows listed.shows
           ∙ sym (ap head_result (taken _ front-on ∙ taken _ lists-on ∙ taken _ c))
 
-pub head_err : (o : Read Head) (q : Refusal) → head-answer.Err q ≡ head_result o → o ≡ refused q
-head_err (ok x to rest) q e = absurd (let z : ◌≡◌ {A = ℕ} 0 1 = cc in omega arith)
-head_err (refused p) q e = cc
+pub head_err : (o : Read Head) (q : Refusal) → Err q ≡ head_result o → o ≡ refused q
+head_err = shown_as_err head_of
 
 -- ## The tail
-pub tail_err : (o : Read Tail) (q : Refusal) → tail-answer.Err q ≡ tail_result o → o ≡ refused q
-tail_err (ok x to rest) q e = absurd (let z : ◌≡◌ {A = ℕ} 0 1 = cc in omega arith)
-tail_err (refused p) q e = cc
+pub tail_err : (o : Read Tail) (q : Refusal) → Err q ≡ tail_result o → o ≡ refused q
+tail_err = shown_as_err tail_of
 
 abbrev four : ℕ → ℕ → ℕ → ℕ → ℕ → ℕ → ℕ → ℕ → declared-tail.Tail
 four a b c d e f g h = record {
@@ -243,37 +228,37 @@ abbrev pub names : ℕ → Reader (Listed (Option LuaString))
 names limit = counted (string limit)
 
 module _ (s : Bytes) (limit at : ℕ) where
-  pub deltas_refused : (q : Refusal) → list.Err q ≡ list_result (line_info at (drop at s)) → tail-answer.Err q ≡ tail_result (tail limit at (drop at s))
+  pub deltas_refused : (q : Refusal) → Err q ≡ list_result (line_info at (drop at s)) → Err q ≡ tail_result (tail limit at (drop at s))
   deltas_refused q e = sym (ap tail_result (stopped _ (list_err (line_info at (drop at s)) q e)))
 
-  module _ (n₁ p₁ : ℕ) (c₁ : Cursor) (e₁ : list.Ok n₁ p₁ c₁ ≡ list_result (line_info at (drop at s))) where
+  module _ (n₁ p₁ : ℕ) (c₁ : Cursor) (e₁ : Ok ((record { count = n₁; place = p₁ }), c₁) ≡ list_result (line_info at (drop at s))) where
     deltas_on : line_info at (drop at s) ≡ ok (list_ok (line_info at (drop at s)) n₁ p₁ c₁ e₁).value c₁.at (drop c₁.at s)
     deltas_on = list_on exact_line_info s at n₁ p₁ c₁ e₁
 
-    pub anchors_refused : (q : Refusal) → list.Err q ≡ list_result (anchors c₁.at (drop c₁.at s)) → tail-answer.Err q ≡ tail_result (tail limit at (drop at s))
+    pub anchors_refused : (q : Refusal) → Err q ≡ list_result (anchors c₁.at (drop c₁.at s)) → Err q ≡ tail_result (tail limit at (drop at s))
     anchors_refused q e = sym (ap tail_result (taken _ deltas_on ∙ stopped _ (list_err (anchors c₁.at (drop c₁.at s)) q e)))
 
-    module _ (n₂ p₂ : ℕ) (c₂ : Cursor) (e₂ : list.Ok n₂ p₂ c₂ ≡ list_result (anchors c₁.at (drop c₁.at s))) where
+    module _ (n₂ p₂ : ℕ) (c₂ : Cursor) (e₂ : Ok ((record { count = n₂; place = p₂ }), c₂) ≡ list_result (anchors c₁.at (drop c₁.at s))) where
       anchors_on : anchors c₁.at (drop c₁.at s) ≡ ok (list_ok (anchors c₁.at (drop c₁.at s)) n₂ p₂ c₂ e₂).value c₂.at (drop c₂.at s)
       anchors_on = list_on (exact_counted exact_anchor) s c₁.at n₂ p₂ c₂ e₂
 
-      pub locals_refused : (q : Refusal) → list.Err q ≡ list_result (locals limit c₂.at (drop c₂.at s)) → tail-answer.Err q ≡ tail_result (tail limit at (drop at s))
+      pub locals_refused : (q : Refusal) → Err q ≡ list_result (locals limit c₂.at (drop c₂.at s)) → Err q ≡ tail_result (tail limit at (drop at s))
       locals_refused q e = sym (ap tail_result (taken _ deltas_on ∙ taken _ anchors_on ∙ stopped _ (list_err (locals limit c₂.at (drop c₂.at s)) q e)))
 
-      module _ (n₃ p₃ : ℕ) (c₃ : Cursor) (e₃ : list.Ok n₃ p₃ c₃ ≡ list_result (locals limit c₂.at (drop c₂.at s))) where
+      module _ (n₃ p₃ : ℕ) (c₃ : Cursor) (e₃ : Ok ((record { count = n₃; place = p₃ }), c₃) ≡ list_result (locals limit c₂.at (drop c₂.at s))) where
         locals_on : locals limit c₂.at (drop c₂.at s) ≡ ok (list_ok (locals limit c₂.at (drop c₂.at s)) n₃ p₃ c₃ e₃).value c₃.at (drop c₃.at s)
         locals_on = list_on (exact_counted (exact_local limit)) s c₂.at n₃ p₃ c₃ e₃
 
-        pub names_refused : (q : Refusal) → list.Err q ≡ list_result (names limit c₃.at (drop c₃.at s)) → tail-answer.Err q ≡ tail_result (tail limit at (drop at s))
+        pub names_refused : (q : Refusal) → Err q ≡ list_result (names limit c₃.at (drop c₃.at s)) → Err q ≡ tail_result (tail limit at (drop at s))
         names_refused q e = sym (ap tail_result (taken _ deltas_on ∙ taken _ anchors_on ∙ taken _ locals_on ∙ stopped _ (list_err (names limit c₃.at (drop c₃.at s)) q e)))
 
-        pub whole-tail : (n₄ p₄ : ℕ) (c₄ : Cursor) → list.Ok n₄ p₄ c₄ ≡ list_result (names limit c₃.at (drop c₃.at s)) → tail-answer.Ok (four n₁ p₁ n₂ p₂ n₃ p₃ n₄ p₄) c₄ ≡ tail_result (tail limit at (drop at s))
+        pub whole-tail : (n₄ p₄ : ℕ) (c₄ : Cursor) → Ok ((record { count = n₄; place = p₄ }), c₄) ≡ list_result (names limit c₃.at (drop c₃.at s)) → Ok ((four n₁ p₁ n₂ p₂ n₃ p₃ n₄ p₄), c₄) ≡ tail_result (tail limit at (drop at s))
         whole-tail n₄ p₄ c₄ e₄ =
             let a = list_ok (line_info at (drop at s)) n₁ p₁ c₁ e₁ in
             let b = list_ok (anchors c₁.at (drop c₁.at s)) n₂ p₂ c₂ e₂ in
             let c = list_ok (locals limit c₂.at (drop c₂.at s)) n₃ p₃ c₃ e₃ in
             let d = list_ok (names limit c₃.at (drop c₃.at s)) n₄ p₄ c₄ e₄ in
-            ap (λ t. tail-answer.Ok t c₄) (four_path a.counted a.placed b.counted b.placed c.counted c.placed d.counted d.placed)
+            ap (λ t. Ok (t, c₄)) (four_path a.counted a.placed b.counted b.placed c.counted c.placed d.counted d.placed)
             ∙ sym (ap tail_result (taken _ deltas_on ∙ taken _ anchors_on ∙ taken _ locals_on ∙ taken _ (list_on (exact_counted (exact_string limit)) s c₃.at n₄ p₄ c₄ e₄)))
 
         pub tail-add : {t t₁ t₂ t₃ t₄ : List ℕ} → Adds (line_info at (drop at s)) (count.number at (drop at s)) t t₁ → Adds (anchors c₁.at (drop c₁.at s)) (count.counted anchor count.anchor c₁.at (drop c₁.at s)) t₁ t₂

@@ -1,5 +1,6 @@
 -- From what a call showed to what its reader gave, with the rest of the slice from the next cursor on.
 -- Assumes nothing.
+use Rattle.std.specs.Prelude.{Ok}
 use mathlib.Core.Path.{◌≡◌, ap}
 use mathlib.Core.List.{List}
 use Prim.Native.Nat.{ℕ}
@@ -14,13 +15,12 @@ use Rattle.format_spelling.specs.ReadSpelling.{Count, behind}
 use Rattle.format_spelling.specs.Inner.Tally.{Adds}
 use Rattle.format_spelling.proofs.Tallies.{adds-not, adds_then}
 use Rattle.slice.specs.declared.cursor.Cursor.{Cursor}
-use Rattle.read_field.specs.declared.field.U64Result.TheVariants as u64
-use Rattle.read_field.specs.Shown.{u64_result}
-use Rattle.read_field.proofs.Shows.{onward, u64_ok}
+use Rattle.read_field.specs.Shown.{shown}
+use Rattle.read_field.proofs.Shows.{onward, shown_ok}
 
 module _ (s : Bytes) (at : ℕ) {r : Reader ℕ} {F : Form ℕ} (exact : Exact r F) (v : ℕ) (c : Cursor) where
-  pub u64_on : u64.Ok v c ≡ u64_result (r at (drop at s)) → r at (drop at s) ≡ ok v c.at (drop c.at s)
-  u64_on e = onward exact s at (u64_ok (r at (drop at s)) v c e)
+  pub u64_on : Ok (v, c) ≡ shown (r at (drop at s)) → r at (drop at s) ≡ ok v c.at (drop c.at s)
+  u64_on e = onward exact s at (shown_ok (r at (drop at s)) v c e)
 
 -- one step of a reader: by what its first part gave
 pub taken : {A B : Type 0} {o : Read A} {x : A} {to : ℕ} {rest : Bytes} (f : A → Reader B) → o ≡ ok x to rest → next o f ≡ f x to rest

@@ -1,20 +1,16 @@
 -- What the code shows of the parts of a function: each list by its count and place.
+use Rattle.std.specs.Prelude.{Result}
+use Rattle.format.specs.declared.refusal.Refusal.{Refusal}
+use Rattle.slice.specs.declared.cursor.Cursor.{Cursor}
 use Rattle.std.specs.Prelude.{ℕ, length}
 use Rattle.format.specs.GrammarChunk.{Listed}
-use Rattle.format.specs.Read.{Read, ok, refused}
-use Rattle.slice.specs.Shown.{cursor_at}
-use Rattle.read_field.specs.Shown.{option_string}
+use Rattle.format.specs.Read.{Read}
+use Rattle.read_field.specs.Shown.{option_string, shown_as}
 use Rattle.read_prototype.specs.declared.front.Front as declared-front
-use Rattle.read_prototype.specs.declared.row.ListAt.{ListAt}
+use Rattle.read_list.specs.declared.ListAt.{ListAt}
 use Rattle.read_prototype.specs.declared.parts.HeadLists as declared-lists
-use Rattle.read_prototype.specs.declared.parts.HeadListsResult.{HeadListsResult}
-use Rattle.read_prototype.specs.declared.parts.HeadListsResult.TheVariants as lists-answer
 use Rattle.read_prototype.specs.declared.parts.Head as declared-head
-use Rattle.read_prototype.specs.declared.parts.HeadResult.{HeadResult}
-use Rattle.read_prototype.specs.declared.parts.HeadResult.TheVariants as head-answer
 use Rattle.read_prototype.specs.declared.parts.Tail as declared-tail
-use Rattle.read_prototype.specs.declared.parts.TailResult.{TailResult}
-use Rattle.read_prototype.specs.declared.parts.TailResult.TheVariants as tail-answer
 use Rattle.read_prototype.specs.Front.{Front}
 use Rattle.read_prototype.specs.Parts.{HeadLists, Head, Tail}
 
@@ -38,14 +34,11 @@ tail_of t = record {
   upvalue_names = shown_at t.upvalue_names_lem;
 }
 
-abbrev pub head_lists_result : Read HeadLists → HeadListsResult
-head_lists_result (ok x to rest) = lists-answer.Ok (lists_of x) (cursor_at to)
-head_lists_result (refused q) = lists-answer.Err q
+abbrev pub head_lists_result : Read HeadLists → Result (declared-lists.HeadLists × Cursor) Refusal
+head_lists_result = shown_as lists_of
 
-abbrev pub head_result : Read Head → HeadResult
-head_result (ok x to rest) = head-answer.Ok (head_of x) (cursor_at to)
-head_result (refused q) = head-answer.Err q
+abbrev pub head_result : Read Head → Result (declared-head.Head × Cursor) Refusal
+head_result = shown_as head_of
 
-abbrev pub tail_result : Read Tail → TailResult
-tail_result (ok x to rest) = tail-answer.Ok (tail_of x) (cursor_at to)
-tail_result (refused q) = tail-answer.Err q
+abbrev pub tail_result : Read Tail → Result (declared-tail.Tail × Cursor) Refusal
+tail_result = shown_as tail_of

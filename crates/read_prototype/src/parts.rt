@@ -5,13 +5,12 @@ ghost use Rattle.read_prototype.specs.Parts as parts;
 ghost use Rattle.read_prototype.specs.PartsShown.{head_lists_result, head_result, tail_result};
 ghost use Rattle.read_prototype.specs.PartsSpelt as spelt;
 
-use crate::front::{Front, FrontResult, read_front};
-use crate::row::ListAt;
+use crate::front::{Front, read_front};
 use format::limits::ResourceLimits;
 use format::refusal::Refusal;
 use format_spelling::tally::Tally;
 use read_list::{
-    ListResult, anchors_list, constants_list, instructions_list, line_info_list, locals_list,
+    ListAt, anchors_list, constants_list, instructions_list, line_info_list, locals_list,
     names_list, protos_count, upvalues_list,
 };
 use slice::cursor::Cursor;
@@ -23,28 +22,6 @@ pub struct HeadLists {
     pub upvalues: ListAt,
 }
 
-// A list that was passed over, and the place behind it.
-#[derive(Clone, Copy)]
-struct ListEnd {
-    list: ListAt,
-    next: Cursor,
-}
-
-fn passed(count: usize, place: usize, next: Cursor) -> ListEnd
-    ensures { result ≡ record { list = record { count = count; place = place }; next = next } }
-{
-    ListEnd {
-        list: ListAt { count, place },
-        next,
-    }
-}
-
-#[derive(Clone, Copy)]
-pub enum HeadListsResult {
-    Ok { lists: HeadLists, next: Cursor },
-    Err(Refusal),
-}
-
 // The lists before the nested functions, behind so many instructions of the functions before.
 fn read_head_lists(
     s: &[u8],
@@ -52,41 +29,35 @@ fn read_head_lists(
     before: usize,
     cursor: Cursor,
     tally: &mut Tally,
-) -> HeadListsResult
+) -> Result<(HeadLists, Cursor), Refusal>
     requires { Room tally.old cursor.at }
     ensures value { result ≡ head_lists_result (parts.head_lists limits before cursor.at (drop cursor.at s.now)) }
     ensures adds { Adds (parts.head_lists limits before cursor.at (drop cursor.at s.now)) (spelt.head_lists limits before cursor.at (drop cursor.at s.now)) tally.old tally.new }
 {
-    let most = limits.max_instructions_per_proto;
-    let total = limits.max_total_instructions;
-    let code = instructions_list(s, cursor, most, before, total, tally);
-    let code = match code {
-        ListResult::Err(refusal) => return HeadListsResult::Err(refusal),
-        ListResult::Ok { count, place, next } => passed(count, place, next),
-    };
-    let most = limits.max_constants_per_proto;
-    let k = constants_list(s, code.next, most, limits.max_string_bytes, tally);
-    let k = match k {
-        ListResult::Err(refusal) => return HeadListsResult::Err(refusal),
-        ListResult::Ok { count, place, next } => passed(count, place, next),
-    };
-    let u = upvalues_list(s, k.next, limits.max_upvalues_per_proto, tally);
-    let u = match u {
-        ListResult::Err(refusal) => return HeadListsResult::Err(refusal),
-        ListResult::Ok { count, place, next } => passed(count, place, next),
-    };
-    let instructions = code.list;
-    let constants = k.list;
-    let upvalues = u.list;
-    let next = u.next;
-    HeadListsResult::Ok {
-        lists: HeadLists {
+    let (instructions, behind) = instructions_list(
+        s,
+        cursor,
+        limits.max_instructions_per_proto,
+        before,
+        limits.max_total_instructions,
+        tally,
+    )?;
+    let (constants, further) = constants_list(
+        s,
+        behind,
+        limits.max_constants_per_proto,
+        limits.max_string_bytes,
+        tally,
+    )?;
+    let (upvalues, next) = upvalues_list(s, further, limits.max_upvalues_per_proto, tally)?;
+    Ok((
+        HeadLists {
             instructions,
             constants,
             upvalues,
         },
         next,
-    }
+    ))
 }
 
 #[derive(Clone, Copy)]
@@ -96,12 +67,6 @@ pub struct Head {
     pub protos: ListAt,
 }
 
-#[derive(Clone, Copy)]
-pub enum HeadResult {
-    Ok { head: Head, next: Cursor },
-    Err(Refusal),
-}
-
 // A function up to the functions that nest in it. Ruled out: a limit of another list, nested functions counted from the wrong place.
 pub fn read_head(
     s: &[u8],
@@ -109,44 +74,22 @@ pub fn read_head(
     before: usize,
     cursor: Cursor,
     tally: &mut Tally,
-) -> HeadResult
+) -> Result<(Head, Cursor), Refusal>
     requires { Room tally.old cursor.at }
     ensures value { result ≡ head_result (parts.head limits before cursor.at (drop cursor.at s.now)) }
     ensures adds { Adds (parts.head limits before cursor.at (drop cursor.at s.now)) (spelt.head limits before cursor.at (drop cursor.at s.now)) tally.old tally.new }
 {
-    let begins = read_front(s, cursor, limits.max_string_bytes, tally);
-    match begins {
-        FrontResult::Err(refusal) => HeadResult::Err(refusal),
-        FrontResult::Ok {
-            front: front,
-            next: behind,
-        } => {
-            let middle = read_head_lists(s, limits, before, behind, tally);
-            match middle {
-                HeadListsResult::Err(refusal) => HeadResult::Err(refusal),
-                HeadListsResult::Ok {
-                    lists: lists,
-                    next: further,
-                } => {
-                    let nested = protos_count(s, further, limits.max_total_prototypes, tally);
-                    match nested {
-                        ListResult::Err(refusal) => HeadResult::Err(refusal),
-                        ListResult::Ok { count, place, next } => HeadResult::Ok {
-                            head: Head {
-                                front: front,
-                                lists: lists,
-                                protos: ListAt {
-                                    count: count,
-                                    place: place,
-                                },
-                            },
-                            next: next,
-                        },
-                    }
-                }
-            }
-        }
-    }
+    let (front, behind) = read_front(s, cursor, limits.max_string_bytes, tally)?;
+    let (lists, further) = read_head_lists(s, limits, before, behind, tally)?;
+    let (protos, next) = protos_count(s, further, limits.max_total_prototypes, tally)?;
+    Ok((
+        Head {
+            front,
+            lists,
+            protos,
+        },
+        next,
+    ))
 }
 
 #[derive(Clone, Copy)]
@@ -157,50 +100,28 @@ pub struct Tail {
     pub upvalue_names: ListAt,
 }
 
-#[derive(Clone, Copy)]
-pub enum TailResult {
-    Ok { tail: Tail, next: Cursor },
-    Err(Refusal),
-}
-
 // A function behind the functions that nest in it. Ruled out: anchors taken for locals, the cursor before the names.
-pub fn read_tail(s: &[u8], max_string_bytes: usize, cursor: Cursor, tally: &mut Tally) -> TailResult
+pub fn read_tail(
+    s: &[u8],
+    max_string_bytes: usize,
+    cursor: Cursor,
+    tally: &mut Tally,
+) -> Result<(Tail, Cursor), Refusal>
     requires { Room tally.old cursor.at }
     ensures value { result ≡ tail_result (parts.tail max_string_bytes cursor.at (drop cursor.at s.now)) }
     ensures adds { Adds (parts.tail max_string_bytes cursor.at (drop cursor.at s.now)) (spelt.tail max_string_bytes cursor.at (drop cursor.at s.now)) tally.old tally.new }
 {
-    let deltas = line_info_list(s, cursor, tally);
-    let deltas = match deltas {
-        ListResult::Err(refusal) => return TailResult::Err(refusal),
-        ListResult::Ok { count, place, next } => passed(count, place, next),
-    };
-    let anchors = anchors_list(s, deltas.next, tally);
-    let anchors = match anchors {
-        ListResult::Err(refusal) => return TailResult::Err(refusal),
-        ListResult::Ok { count, place, next } => passed(count, place, next),
-    };
-    let locals = locals_list(s, anchors.next, max_string_bytes, tally);
-    let locals = match locals {
-        ListResult::Err(refusal) => return TailResult::Err(refusal),
-        ListResult::Ok { count, place, next } => passed(count, place, next),
-    };
-    let names = names_list(s, locals.next, max_string_bytes, tally);
-    let names = match names {
-        ListResult::Err(refusal) => return TailResult::Err(refusal),
-        ListResult::Ok { count, place, next } => passed(count, place, next),
-    };
-    let line_info = deltas.list;
-    let abs_line_info = anchors.list;
-    let loc_vars = locals.list;
-    let upvalue_names = names.list;
-    let next = names.next;
-    TailResult::Ok {
-        tail: Tail {
+    let (line_info, behind) = line_info_list(s, cursor, tally)?;
+    let (abs_line_info, further) = anchors_list(s, behind, tally)?;
+    let (loc_vars, last) = locals_list(s, further, max_string_bytes, tally)?;
+    let (upvalue_names, next) = names_list(s, last, max_string_bytes, tally)?;
+    Ok((
+        Tail {
             line_info,
             abs_line_info,
             loc_vars,
             upvalue_names,
         },
         next,
-    }
+    ))
 }

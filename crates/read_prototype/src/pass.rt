@@ -5,11 +5,11 @@ ghost use Rattle.read_prototype.specs.Parts as parts;
 ghost use Rattle.read_prototype.specs.PartsSpelt as spelt;
 ghost use Rattle.read_prototype.specs.Inner.Counts.{is_spelt, head_counts_result, tail_counts_result};
 
-use crate::parts::{HeadResult, TailResult, read_head, read_tail};
+use crate::parts::{read_head, read_tail};
 use format::limits::ResourceLimits;
 use format::refusal::Refusal;
 use format_spelling::tally::Tally;
-use read_field::string::OptionString;
+use read_field::string::StringAt;
 use slice::cursor::Cursor;
 
 // How long the lists before the nested functions are, whether the source is spelt, and where the words and the constants begin, just after their counts.
@@ -24,21 +24,6 @@ pub struct HeadCounts {
     pub constants_at: usize,
 }
 
-#[derive(Clone, Copy)]
-pub enum HeadCountsResult {
-    Ok { counts: HeadCounts, next: Cursor },
-    Err(Refusal),
-}
-
-fn is_spelt(source: OptionString) -> bool
-    ensures { result ≡ is_spelt source }
-{
-    match source {
-        OptionString::Some(_) => true,
-        OptionString::None => false,
-    }
-}
-
 // Passes over a function up to the functions that nest in it. Ruled out: the count or the place of another list, an absent source that counts as spelt.
 pub fn pass_head(
     s: &[u8],
@@ -46,35 +31,22 @@ pub fn pass_head(
     before: usize,
     cursor: Cursor,
     tally: &mut Tally,
-) -> HeadCountsResult
+) -> Result<(HeadCounts, Cursor), Refusal>
     requires { Room tally.old cursor.at }
     ensures value { result ≡ head_counts_result (parts.head limits before cursor.at (drop cursor.at s.now)) }
     ensures adds { Adds (parts.head limits before cursor.at (drop cursor.at s.now)) (spelt.head limits before cursor.at (drop cursor.at s.now)) tally.old tally.new }
 {
-    let begins = read_head(s, limits, before, cursor, tally);
-    match begins {
-        HeadResult::Err(refusal) => HeadCountsResult::Err(refusal),
-        HeadResult::Ok {
-            head: head,
-            next: next,
-        } => {
-            let front = head.front;
-            let source = front.source;
-            let named = is_spelt(source);
-            HeadCountsResult::Ok {
-                counts: HeadCounts {
-                    instructions: head.lists.instructions.count,
-                    constants: head.lists.constants.count,
-                    upvalues: head.lists.upvalues.count,
-                    protos: head.protos.count,
-                    named: named,
-                    instructions_at: head.lists.instructions.place,
-                    constants_at: head.lists.constants.place,
-                },
-                next: next,
-            }
-        }
-    }
+    let (head, next) = read_head(s, limits, before, cursor, tally)?;
+    let counts = HeadCounts {
+        instructions: head.lists.instructions.count,
+        constants: head.lists.constants.count,
+        upvalues: head.lists.upvalues.count,
+        protos: head.protos.count,
+        named: head.front.source.is_some(),
+        instructions_at: head.lists.instructions.place,
+        constants_at: head.lists.constants.place,
+    };
+    Ok((counts, next))
 }
 
 // How long the lists behind the nested functions are.
@@ -86,37 +58,23 @@ pub struct TailCounts {
     pub upvalue_names: usize,
 }
 
-#[derive(Clone, Copy)]
-pub enum TailCountsResult {
-    Ok { counts: TailCounts, next: Cursor },
-    Err(Refusal),
-}
-
 // Passes over a function behind the functions that nest in it. Ruled out: the count of another list.
 pub fn pass_tail(
     s: &[u8],
     max_string_bytes: usize,
     cursor: Cursor,
     tally: &mut Tally,
-) -> TailCountsResult
+) -> Result<(TailCounts, Cursor), Refusal>
     requires { Room tally.old cursor.at }
     ensures value { result ≡ tail_counts_result (parts.tail max_string_bytes cursor.at (drop cursor.at s.now)) }
     ensures adds { Adds (parts.tail max_string_bytes cursor.at (drop cursor.at s.now)) (spelt.tail max_string_bytes cursor.at (drop cursor.at s.now)) tally.old tally.new }
 {
-    let ends = read_tail(s, max_string_bytes, cursor, tally);
-    match ends {
-        TailResult::Err(refusal) => TailCountsResult::Err(refusal),
-        TailResult::Ok {
-            tail: tail,
-            next: next,
-        } => TailCountsResult::Ok {
-            counts: TailCounts {
-                line_info: tail.line_info.count,
-                abs_line_info: tail.abs_line_info.count,
-                loc_vars: tail.loc_vars.count,
-                upvalue_names: tail.upvalue_names.count,
-            },
-            next: next,
-        },
-    }
+    let (tail, next) = read_tail(s, max_string_bytes, cursor, tally)?;
+    let counts = TailCounts {
+        line_info: tail.line_info.count,
+        abs_line_info: tail.abs_line_info.count,
+        loc_vars: tail.loc_vars.count,
+        upvalue_names: tail.upvalue_names.count,
+    };
+    Ok((counts, next))
 }

@@ -1,13 +1,7 @@
 // A function as a walk over the file finds it: its fields, and where each of its lists begins.
 use crate::front::{Lines, Sizes};
-use read_field::string::OptionString;
-
-// A list of a function: how many entries it has, and the place of the first, just after the count.
-#[derive(Clone, Copy)]
-pub struct ListAt {
-    pub count: usize,
-    pub place: usize,
-}
+use read_field::string::StringAt;
+use read_list::ListAt;
 
 // The lists of a function, in the order of the file.
 #[derive(Clone, Copy)]
@@ -30,14 +24,8 @@ pub struct FunctionRow {
     pub depth: usize,
     // The parent's number; 0 for main.
     pub parent: usize,
-    pub source_name: OptionString,
+    pub source_name: Option<StringAt>,
     pub lines: Lines,
     pub sizes: Sizes,
     pub lists: Lists,
-}
-
-#[derive(Clone, Copy)]
-pub enum OptionRow {
-    Some(FunctionRow),
-    None,
 }

@@ -5,9 +5,9 @@
 --     head-.., counts-..           of an answer of `read_head`, of `pass_head`: what was read
 --     tail-.., tail-counts-..      of an answer of `read_tail`, of `pass_tail`
 -- Assumes nothing.
+use Rattle.std.specs.Prelude.{Ok, Err}
 use mathlib.Core.Path.{◌≡◌}
 use Prim.Native.Nat.{ℕ, ◌+◌, ◌≤◌}
-use native.Mathlib.Omega.{arith}
 use lib.ListN.{length, drop}
 use Rattle.format.specs.declared.limits.ResourceLimits.{ResourceLimits}
 use Rattle.format.specs.declared.refusal.Refusal.{Refusal}
@@ -20,17 +20,12 @@ use Rattle.format.proofs.ExactFields.{exact_string}
 use Rattle.format.proofs.ExactChunk.{exact_counted, exact_anchor, exact_local}
 use Rattle.format.proofs.Every.{Every, any, every_then, every_is, every_given, every_many}
 use Rattle.slice.specs.declared.cursor.Cursor.{Cursor}
-use Rattle.slice.specs.Shown.{cursor_at}
-use Rattle.read_field.proofs.Shows.{Showed, onward}
+use Rattle.read_field.proofs.Shows.{Showed, onward, shown_as_err, shown_as_ok}
 use Rattle.read_list.proofs.Within.{Code, LineInfo, ProtosCount, exact_line_info, exact_protos_count}
 use Rattle.read_prototype.specs.declared.parts.Head as declared-head
-use Rattle.read_prototype.specs.declared.parts.HeadResult.TheVariants as head-answer
 use Rattle.read_prototype.specs.declared.parts.Tail as declared-tail
-use Rattle.read_prototype.specs.declared.parts.TailResult.TheVariants as tail-answer
 use Rattle.read_prototype.specs.declared.pass.HeadCounts.{HeadCounts}
-use Rattle.read_prototype.specs.declared.pass.HeadCountsResult.TheVariants as counts-answer
 use Rattle.read_prototype.specs.declared.pass.TailCounts.{TailCounts}
-use Rattle.read_prototype.specs.declared.pass.TailCountsResult.TheVariants as tail-counts-answer
 use Rattle.read_prototype.specs.Parts.{Head, head, Tail, tail}
 use Rattle.read_prototype.specs.PartsShown.{head_of, tail_of, head_result, tail_result}
 use Rattle.read_prototype.specs.Inner.Counts.{head_counts, tail_counts, head_counts_result, tail_counts_result}
@@ -76,43 +71,35 @@ goes_on_lem : {A B : Type 0} {of : A → B} {r : Reader A} {F : Form A} → Exac
 goes_on_lem exact s at o = record { value = o.value; is = onward exact s at o.was; shows = o.shows }
 
 -- the head
-pub head_err : (o : Read Head) (q : Refusal) → head-answer.Err q ≡ head_result o → o ≡ refused q
-head_err (ok x to rest) q e = absurd (let z : ◌≡◌ {A = ℕ} 0 1 = cc in omega arith)
-head_err (refused p) q e = cc
+pub head_err : (o : Read Head) (q : Refusal) → Err q ≡ head_result o → o ≡ refused q
+head_err = shown_as_err head_of
 
-head_ok : (o : Read Head) (h : declared-head.Head) (c : Cursor) → head-answer.Ok h c ≡ head_result o → Showed head_of o h c.at
-head_ok (ok x to rest) h c e =
-    let next : c ≡ cursor_at to = cc in
-    record { value = x; was = record { rest = rest; is = rw next }; shows = cc }
-head_ok (refused p) h c e = absurd (let z : ◌≡◌ {A = ℕ} 0 1 = cc in omega arith)
+head_ok : (o : Read Head) (h : declared-head.Head) (c : Cursor) → Ok (h, c) ≡ head_result o → Showed head_of o h c.at
+head_ok = shown_as_ok head_of
 
 module _ (s : Bytes) (L : ResourceLimits) (before at : ℕ) where
-  pub head_read : (h : declared-head.Head) (c : Cursor) → head-answer.Ok h c ≡ head_result (head L before at (drop at s)) → ReadOn head_of (head L before) s at h c.at
+  pub head_read : (h : declared-head.Head) (c : Cursor) → Ok (h, c) ≡ head_result (head L before at (drop at s)) → ReadOn head_of (head L before) s at h c.at
   head_read h c e = goes_on_lem (exact_head L before) s at (head_ok (head L before at (drop at s)) h c e)
 
-  pub counts-read : (n : HeadCounts) (c : Cursor) → counts-answer.Ok n c ≡ head_counts_result (head L before at (drop at s)) → ReadOn head_counts (head L before) s at n c.at
+  pub counts-read : (n : HeadCounts) (c : Cursor) → Ok (n, c) ≡ head_counts_result (head L before at (drop at s)) → ReadOn head_counts (head L before) s at n c.at
   counts-read n c e = goes_on_lem (exact_head L before) s at (head-counted (head L before at (drop at s)) n c e)
 
-  pub in_total : (h : declared-head.Head) (c : Cursor) → head-answer.Ok h c ≡ head_result (head L before at (drop at s)) → before + h.lists.instructions.count ≤ L.max_total_instructions
+  pub in_total : (h : declared-head.Head) (c : Cursor) → Ok (h, c) ≡ head_result (head L before at (drop at s)) → before + h.lists.instructions.count ≤ L.max_total_instructions
   in_total h c e = let o = head_read h c e in rw o.shows (head_total L before at (drop at s) o.is)
 
-  pub counts_total : (n : HeadCounts) (c : Cursor) → counts-answer.Ok n c ≡ head_counts_result (head L before at (drop at s)) → before + n.instructions ≤ L.max_total_instructions
+  pub counts_total : (n : HeadCounts) (c : Cursor) → Ok (n, c) ≡ head_counts_result (head L before at (drop at s)) → before + n.instructions ≤ L.max_total_instructions
   counts_total n c e = let o = counts-read n c e in rw o.shows (head_total L before at (drop at s) o.is)
 
 -- the tail
-pub tail_err : (o : Read Tail) (q : Refusal) → tail-answer.Err q ≡ tail_result o → o ≡ refused q
-tail_err (ok x to rest) q e = absurd (let z : ◌≡◌ {A = ℕ} 0 1 = cc in omega arith)
-tail_err (refused p) q e = cc
+pub tail_err : (o : Read Tail) (q : Refusal) → Err q ≡ tail_result o → o ≡ refused q
+tail_err = shown_as_err tail_of
 
-tail-ok : (o : Read Tail) (t : declared-tail.Tail) (c : Cursor) → tail-answer.Ok t c ≡ tail_result o → Showed tail_of o t c.at
-tail-ok (ok x to rest) t c e =
-    let next : c ≡ cursor_at to = cc in
-    record { value = x; was = record { rest = rest; is = rw next }; shows = cc }
-tail-ok (refused p) t c e = absurd (let z : ◌≡◌ {A = ℕ} 0 1 = cc in omega arith)
+tail-ok : (o : Read Tail) (t : declared-tail.Tail) (c : Cursor) → Ok (t, c) ≡ tail_result o → Showed tail_of o t c.at
+tail-ok = shown_as_ok tail_of
 
 module _ (s : Bytes) (limit at : ℕ) where
-  pub tail-read : (t : declared-tail.Tail) (c : Cursor) → tail-answer.Ok t c ≡ tail_result (tail limit at (drop at s)) → ReadOn tail_of (tail limit) s at t c.at
+  pub tail-read : (t : declared-tail.Tail) (c : Cursor) → Ok (t, c) ≡ tail_result (tail limit at (drop at s)) → ReadOn tail_of (tail limit) s at t c.at
   tail-read t c e = goes_on_lem (exact_tail limit) s at (tail-ok (tail limit at (drop at s)) t c e)
 
-  pub tail-counts-read : (n : TailCounts) (c : Cursor) → tail-counts-answer.Ok n c ≡ tail_counts_result (tail limit at (drop at s)) → ReadOn tail_counts (tail limit) s at n c.at
+  pub tail-counts-read : (n : TailCounts) (c : Cursor) → Ok (n, c) ≡ tail_counts_result (tail limit at (drop at s)) → ReadOn tail_counts (tail limit) s at n c.at
   tail-counts-read n c e = goes_on_lem (exact_tail limit) s at (tail-counted (tail limit at (drop at s)) n c e)

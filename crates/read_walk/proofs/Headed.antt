@@ -1,30 +1,27 @@
 -- A function whose head has been passed over: what stands behind it, its own source, and those that nest in it, wherever the function stands. For `skim_function`.
 -- Assumes nothing.
+use Rattle.std.specs.Prelude.{Ok}
 use Prim.Native.Nat.{ℕ, ◌<◌, ◌≤◌, ◌^◌, ◌+◌}
 use mathlib.Core.Path.{◌≡◌, refl, sym, ◌∙◌, ap}
 use mathlib.Core.List.{List}
 use mathlib.Core.Option.{Option}
 use lib.ListN.{drop}
-use native.Mathlib.Omega.{arith}
 use Rattle.format.specs.declared.limits.ResourceLimits.{ResourceLimits}
 use Rattle.format.specs.Form.{Bytes}
 use Rattle.format.specs.GrammarFields.{LuaString}
 use Rattle.format.specs.Reading.{Prototype}
 use Rattle.format.specs.GrammarChunk.{Where}
 use Rattle.format.specs.Read.{Read}
-use Rattle.format.specs.ReadChunk.{forest}
 use Rattle.format.specs.declared.spelling.Spelling.{Spelling}
 use Rattle.format_spelling.specs.Spelling.{◌⊕◌}
 use Rattle.format_spelling.specs.ReadSpelling as count
 use Rattle.format_spelling.specs.Inner.Tally.{counts, Fits, Room, Adds}
 use Rattle.slice.specs.declared.cursor.Cursor.{Cursor}
 use Rattle.read_prototype.specs.declared.pass.HeadCounts.{HeadCounts}
-use Rattle.read_prototype.specs.declared.pass.HeadCountsResult.TheVariants as counts-answer
 use Rattle.read_prototype.specs.Parts as parts
 use Rattle.read_prototype.specs.PartsSpelt as spelt
 use Rattle.read_prototype.specs.Inner.Counts.{head_counts_result}
 use Rattle.read_walk.specs.declared.walk.Skimmed.{Skimmed}
-use Rattle.read_walk.specs.declared.walk.SkimResult.TheVariants as skim
 use Rattle.read_walk.specs.Inner.Skim.{entered, skim_result}
 use Rattle.read_walk.specs.Inner.Source.{source_at, repeats_at, unpadded_at, handed}
 use Rattle.read_walk.specs.Inner.Spelt.{nested_spelt, own_source}
@@ -34,7 +31,7 @@ use Rattle.read_walk.proofs.Tally as tally
 
 -- the head of a function at `from`, passed over: what it gave, and what was counted before and behind it
 pub record Headed (s : Bytes) (L : ResourceLimits) (from : Skimmed) (t₀ t₁ : List ℕ) (kept : HeadCounts) (behind : Cursor) : Type 0 where
-  pub begun : counts-answer.Ok kept behind ≡ head_counts_result (parts.head L from.instructions from.next.at (drop from.next.at s))
+  pub begun : Ok (kept, behind) ≡ head_counts_result (parts.head L from.instructions from.next.at (drop from.next.at s))
   pub room : Room t₀ from.next.at
   pub told : Adds (parts.head L from.instructions from.next.at (drop from.next.at s)) (spelt.head L from.instructions from.next.at (drop from.next.at s)) t₀ t₁
 
@@ -88,5 +85,5 @@ module _ {s : Bytes} {L : ResourceLimits} {from : Skimmed} {t₀ t₁ : List ℕ
 
   -- those that nest in it, passed over up to k: what is shown of them, and counted
   pub record Nested (t₂ : List ℕ) (own : counts t₂ ≡ counts t₁ ⊕ own_source kept.named from.number (repeats_at L.max_string_bytes s from.next.at source)) (k : Skimmed) (t₃ : List ℕ) (w : Where) (n : from.number ≡ w.number) (i : from.instructions ≡ w.instructions) : Type 0 where
-    pub shown : skim.Ok k ≡ skim_result (first t₂ own w n i) (inside t₂ own w n i)
+    pub shown : Ok k ≡ skim_result (first t₂ own w n i) (inside t₂ own w n i)
     pub counted : w.source ≡ outer → Adds (inside t₂ own w n i) (those t₂ own w n i) t₂ t₃

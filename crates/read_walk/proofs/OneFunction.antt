@@ -3,6 +3,7 @@
 --     head_stops .. shown_by_lem   by what was read, whatever the readers of its two parts are
 --     head-refused ..          of the ordinary reading
 -- Assumes nothing.
+use Rattle.std.specs.Prelude.{Ok, Err}
 use mathlib.Core.Path.{◌≡◌, refl, sym, ◌∙◌, ap}
 use mathlib.Core.List.{List, ◌∷◌}
 use Prim.Native.Nat.{ℕ, ◌+◌}
@@ -25,13 +26,12 @@ use Rattle.read_prototype.specs.Inner.Whole.{prototype_of, inside}
 use Rattle.read_prototype.proofs.On.{taken, stopped}
 use Rattle.read_prototype.proofs.Flat.{in_parts}
 use Rattle.read_walk.specs.declared.walk.Skimmed.{Skimmed}
-use Rattle.read_walk.specs.declared.walk.SkimResult.TheVariants as skim
 use Rattle.read_walk.specs.Inner.Skim.{entered, skimmed_of, skim_result}
 use Rattle.read_walk.proofs.Entering.{function-body}
 use Rattle.read_walk.proofs.HeadTail.{ReadOn}
 
 -- ## What a walk showed
-pub skim_err : (w : Where) (o : Read (List Prototype)) (q : Refusal) → skim.Err q ≡ skim_result w o → o ≡ refused q
+pub skim_err : (w : Where) (o : Read (List Prototype)) (q : Refusal) → Err q ≡ skim_result w o → o ≡ refused q
 skim_err w (ok ps to rest) q e = absurd (let z : ◌≡◌ {A = ℕ} 0 1 = cc in omega arith)
 skim_err w (refused p) q e = cc
 
@@ -39,10 +39,10 @@ skim_err w (refused p) q e = cc
 abbrev pub Skims : (Where → Reader (List Prototype)) → Bytes → Where → ℕ → Skimmed → Type 0
 Skims r s w at k = ReadOn (λ ps. skimmed_of w ps k.next.at) (r w) s at k k.next.at
 
-pub skim_read : {r : Where → Reader (List Prototype)} {F : Where → Form (List Prototype)} → ((w : Where) → Exact (r w) (F w)) → (s : Bytes) (w : Where) (at : ℕ) (k : Skimmed) → skim.Ok k ≡ skim_result w (r w at (drop at s)) → Skims r s w at k
+pub skim_read : {r : Where → Reader (List Prototype)} {F : Where → Form (List Prototype)} → ((w : Where) → Exact (r w) (F w)) → (s : Bytes) (w : Where) (at : ℕ) (k : Skimmed) → Ok k ≡ skim_result w (r w at (drop at s)) → Skims r s w at k
 skim_read {r} exact s w at k e = by (r w at (drop at s)) refl e
   where
-    by : (o : Read (List Prototype)) → r w at (drop at s) ≡ o → skim.Ok k ≡ skim_result w o → Skims r s w at k
+    by : (o : Read (List Prototype)) → r w at (drop at s) ≡ o → Ok k ≡ skim_result w o → Skims r s w at k
     by (refused q) is e = absurd (let z : ◌≡◌ {A = ℕ} 0 1 = cc in omega arith)
     by (ok ps to rest) is e =
         let all : k ≡ skimmed_of w ps to = cc in
@@ -84,13 +84,13 @@ module _ (s : Bytes) (r : Where → Reader (List Prototype)) (before : Reader pa
         pub all_by : o ≡ ok (prototype_of w at h t end ∷ nested.value) end rest
         all_by = to_tail_by ∙ taken _ e₃
 
-        pub shown_by_lem : skim.Ok (record { next = cursor_at end; number = k.number; instructions = k.instructions }) ≡ skim_result w o
+        pub shown_by_lem : Ok (record { next = cursor_at end; number = k.number; instructions = k.instructions }) ≡ skim_result w o
         shown_by_lem =
             let ps = nested.value in
             let p = prototype_of w at h t end in
             let number : k.number ≡ w.number + length (p ∷ ps) = ap (λ k. k.number) nested.shows ∙ omega arith in
             let instructions : k.instructions ≡ w.instructions + instructions_of (p ∷ ps) = ap (λ k. k.instructions) nested.shows ∙ omega arith in
-            (λ i. skim.Ok (record { next = cursor_at end; number = number i; instructions = instructions i })) ∙ sym (ap (skim_result w) all_by)
+            (λ i. Ok (record { next = cursor_at end; number = number i; instructions = instructions i })) ∙ sym (ap (skim_result w) all_by)
 
 -- ## The function of the ordinary reading
 module _ (s : Bytes) (L : ResourceLimits) (left : ℕ) (w : Where) (at : ℕ) where
@@ -109,7 +109,7 @@ module _ (s : Bytes) (L : ResourceLimits) (left : ℕ) (w : Where) (at : ℕ) wh
   pub no_head : {q : Refusal} → head_at_lem ≡ refused q → function-at ≡ refused q
   no_head e = head_stops s (entered L left) (parts.head L w.instructions) (parts.tail L.max_string_bytes) w at by_parts e
 
-  pub head-refused : (q : Refusal) → head_at_lem ≡ refused q → skim.Err q ≡ skim_result w function-at
+  pub head-refused : (q : Refusal) → head_at_lem ≡ refused q → Err q ≡ skim_result w function-at
   head-refused q e = sym (ap (skim_result w) (no_head e))
 
   -- n functions nest in it, and a walk over them showed what it read
@@ -117,19 +117,19 @@ module _ (s : Bytes) (L : ResourceLimits) (left : ℕ) (w : Where) (at : ℕ) wh
     abbrev pub inner : Read (List Prototype)
     inner = forest n (entered L left) (inside w h) c₁.at (drop c₁.at s)
 
-    pub nested_refused : (q : Refusal) → skim.Err q ≡ skim_result (inside w h) inner → skim.Err q ≡ skim_result w function-at
+    pub nested_refused : (q : Refusal) → Err q ≡ skim_result (inside w h) inner → Err q ≡ skim_result w function-at
     nested_refused q e = sym (ap (skim_result w) (nested_stops s (entered L left) (parts.head L w.instructions) (parts.tail L.max_string_bytes) w at by_parts e₁ n many (skim_err (inside w h) inner q e)))
 
     module _ (k : Skimmed) (nested : Skims (forest n (entered L left)) s (inside w h) c₁.at k) where
       pub to_tail : function-at ≡ next (tail-at k.next.at) (λ t end rest. ok (prototype_of w at h t end ∷ nested.value) end rest)
       to_tail = to_tail_by s (entered L left) (parts.head L w.instructions) (parts.tail L.max_string_bytes) w at by_parts e₁ n many k nested
 
-      pub tail-refused : (q : Refusal) → tail-at k.next.at ≡ refused q → skim.Err q ≡ skim_result w function-at
+      pub tail-refused : (q : Refusal) → tail-at k.next.at ≡ refused q → Err q ≡ skim_result w function-at
       tail-refused q e = sym (ap (skim_result w) (tail_stops s (entered L left) (parts.head L w.instructions) (parts.tail L.max_string_bytes) w at by_parts e₁ n many k nested e))
 
       module _ {t : parts.Tail} {end : ℕ} {rest : Bytes} (e₃ : tail-at k.next.at ≡ ok t end rest) where
         pub function-read : function-at ≡ ok (prototype_of w at h t end ∷ nested.value) end rest
         function-read = all_by s (entered L left) (parts.head L w.instructions) (parts.tail L.max_string_bytes) w at by_parts e₁ n many k nested e₃
 
-        pub function-shown : skim.Ok (record { next = cursor_at end; number = k.number; instructions = k.instructions }) ≡ skim_result w function-at
+        pub function-shown : Ok (record { next = cursor_at end; number = k.number; instructions = k.instructions }) ≡ skim_result w function-at
         function-shown = shown_by_lem s (entered L left) (parts.head L w.instructions) (parts.tail L.max_string_bytes) w at by_parts e₁ n many k nested e₃

@@ -2,6 +2,7 @@
 --     head-refused, nested_refused, tail-refused, function-shown       what a walk shows at each end
 --     its_head, first, nested, its_tail, function-read                 what was read
 -- Assumes nothing.
+use Rattle.std.specs.Prelude.{Ok, Err}
 use mathlib.Core.Path.{◌≡◌, sym, ◌∙◌, ap}
 use mathlib.Core.List.{List, ◌∷◌}
 use Prim.Native.Nat.{ℕ, ◌+◌}
@@ -16,15 +17,12 @@ use Rattle.format.specs.ReadChunk.{forest, function}
 use Rattle.format.proofs.ExactChunk.{exact_forest}
 use Rattle.slice.specs.declared.cursor.Cursor.{Cursor}
 use Rattle.read_prototype.specs.declared.pass.HeadCounts.{HeadCounts}
-use Rattle.read_prototype.specs.declared.pass.HeadCountsResult.TheVariants as head-answer
 use Rattle.read_prototype.specs.declared.pass.TailCounts.{TailCounts}
-use Rattle.read_prototype.specs.declared.pass.TailCountsResult.TheVariants as tail-answer
 use Rattle.read_prototype.specs.Parts as parts
 use Rattle.read_prototype.specs.Inner.Whole.{prototype_of, inside}
 use Rattle.read_prototype.specs.Inner.Counts.{head_counts, tail_counts, head_counts_result, tail_counts_result}
 use Rattle.read_prototype.proofs.Counts.{head-not, tail-not}
 use Rattle.read_walk.specs.declared.walk.Skimmed.{Skimmed}
-use Rattle.read_walk.specs.declared.walk.SkimResult.TheVariants as skim
 use Rattle.read_walk.specs.Inner.Skim.{entered, skim_result}
 use Rattle.read_walk.proofs.Entering.{exact_entered}
 use Rattle.read_walk.proofs.HeadTail.{ReadOn, counts-read, tail-counts-read}
@@ -38,10 +36,10 @@ module _ (s : Bytes) (L : ResourceLimits) (left : ℕ) (w : Where) (at : ℕ) {b
   as_begins : parts.head L w.instructions at (drop at s) ≡ begins
   as_begins = ap (λ n. parts.head L n at (drop at s)) (sym so_far)
 
-  pub head-refused : (q : Refusal) → head-answer.Err q ≡ head_counts_result begins → skim.Err q ≡ skim_result w (function L left w at (drop at s))
+  pub head-refused : (q : Refusal) → Err q ≡ head_counts_result begins → Err q ≡ skim_result w (function L left w at (drop at s))
   head-refused q e = one.head-refused s L left w at q (as_begins ∙ head-not begins q e)
 
-  module _ (n : HeadCounts) (c₁ : Cursor) (e₁ : head-answer.Ok n c₁ ≡ head_counts_result begins) where
+  module _ (n : HeadCounts) (c₁ : Cursor) (e₁ : Ok (n, c₁) ≡ head_counts_result begins) where
     pub headed : ReadOn head_counts (parts.head L before) s at n c₁.at
     headed = counts-read s L before at n c₁ e₁
 
@@ -67,20 +65,20 @@ module _ (s : Bytes) (L : ResourceLimits) (left : ℕ) (w : Where) (at : ℕ) {b
     abbrev pub inner : Read (List Prototype)
     inner = forest n.protos (entered L left) first c₁.at (drop c₁.at s)
 
-    pub nested_refused : (q : Refusal) → skim.Err q ≡ skim_result first inner → skim.Err q ≡ skim_result w (function L left w at (drop at s))
+    pub nested_refused : (q : Refusal) → Err q ≡ skim_result first inner → Err q ≡ skim_result w (function L left w at (drop at s))
     nested_refused = one.nested_refused s L left w at c₁ head-on n.protos many
 
-    module _ (k : Skimmed) (e₂ : skim.Ok k ≡ skim_result first inner) where
+    module _ (k : Skimmed) (e₂ : Ok k ≡ skim_result first inner) where
       abbrev pub nested : Skims (forest n.protos (entered L left)) s first c₁.at k
       nested = skim_read (λ v. exact_forest n.protos v (exact_entered L left)) s first c₁.at k e₂
 
       abbrev pub ends : Read parts.Tail
       ends = parts.tail L.max_string_bytes k.next.at (drop k.next.at s)
 
-      pub tail-refused : (q : Refusal) → tail-answer.Err q ≡ tail_counts_result ends → skim.Err q ≡ skim_result w (function L left w at (drop at s))
+      pub tail-refused : (q : Refusal) → Err q ≡ tail_counts_result ends → Err q ≡ skim_result w (function L left w at (drop at s))
       tail-refused q e = one.tail-refused s L left w at c₁ head-on n.protos many k nested q (tail-not ends q e)
 
-      module _ (t : TailCounts) (c₃ : Cursor) (e₃ : tail-answer.Ok t c₃ ≡ tail_counts_result ends) where
+      module _ (t : TailCounts) (c₃ : Cursor) (e₃ : Ok (t, c₃) ≡ tail_counts_result ends) where
         pub tailed : ReadOn tail_counts (parts.tail L.max_string_bytes) s k.next.at t c₃.at
         tailed = tail-counts-read s L.max_string_bytes k.next.at t c₃ e₃
 
@@ -93,5 +91,5 @@ module _ (s : Bytes) (L : ResourceLimits) (left : ℕ) (w : Where) (at : ℕ) {b
         pub function-read : function L left w at (drop at s) ≡ ok (prototype_of w at its_head its_tail c₃.at ∷ nested.value) c₃.at (drop c₃.at s)
         function-read = one.function-read s L left w at c₁ head-on n.protos many k nested tailed.is
 
-        pub function-shown : skim.Ok (record { next = c₃; number = k.number; instructions = k.instructions }) ≡ skim_result w (function L left w at (drop at s))
+        pub function-shown : Ok (record { next = c₃; number = k.number; instructions = k.instructions }) ≡ skim_result w (function L left w at (drop at s))
         function-shown = one.function-shown s L left w at c₁ head-on n.protos many k nested tailed.is

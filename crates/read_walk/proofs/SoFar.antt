@@ -4,6 +4,7 @@
 --     starts, ended    before the first; where none is left
 --     deep, many, stops, goes_on_lem       what the next one gives
 -- Assumes nothing.
+use Rattle.std.specs.Prelude.{Ok, Err}
 use mathlib.Core.Path.{◌≡◌, refl, sym, subst, ◌∙◌, ap}
 use mathlib.Core.List.{List, [], ◌++◌, append_assoc, append-nil}
 use Prim.Native.Nat.{ℕ, suc, ◌+◌, ◌-◌, ◌<◌, ◌≤◌}
@@ -22,7 +23,6 @@ use Rattle.format.proofs.ExactChunk.{exact_function}
 use Rattle.format.proofs.Totals.{instructions-append}
 use Rattle.read_prototype.proofs.On.{taken, stopped}
 use Rattle.read_walk.specs.declared.walk.Skimmed.{Skimmed}
-use Rattle.read_walk.specs.declared.walk.SkimResult.TheVariants as skim
 use Rattle.read_walk.specs.Inner.Skim.{entered_by, entered, on, skimmed_of, skim_result}
 use Rattle.read_walk.proofs.Entering.{too_deep_lem, too_many, enters_by}
 use Rattle.read_walk.proofs.OneFunction.{skim_err, Skims, skim_read}
@@ -61,8 +61,8 @@ module _ {r : Where → Reader (List Prototype)} {s : Bytes} {w : Where} {n from
   abbrev pub those : more ≤ 0 → Skims (forest n r) s w from k
   those over = record { value = passed; is = ended over; shows = λ i. record { next = k.next; number = a.number i; instructions = a.instructions i } }
 
-  pub ends : more ≤ 0 → skim.Ok k ≡ skim_result w (forest n r w from (drop from s))
-  ends over = ap skim.Ok (those over).shows ∙ sym (ap (skim_result w) (ended over))
+  pub ends : more ≤ 0 → Ok k ≡ skim_result w (forest n r w from (drop from s))
+  ends over = ap Ok (those over).shows ∙ sym (ap (skim_result w) (ended over))
 
   -- the next one
   turn : 0 < more → forest more r (on w k) k.next.at (drop k.next.at s)
@@ -82,21 +82,21 @@ module _ {r : Where → Reader (List Prototype)} {s : Bytes} {w : Where} {n from
 -- ## Of functions that are entered, whatever reads a function
 module _ {f : ℕ → Where → Reader (List Prototype)} {F : ℕ → Where → Form (List Prototype)} (exact : (left : ℕ) (w : Where) → Exact (f left w) (F left w))
     (L : ResourceLimits) (left : ℕ) {s : Bytes} {w : Where} {n from : ℕ} {k : Skimmed} {more : ℕ} {passed : List Prototype} (a : SoFar (entered_by f L left) s w n from k more passed) (some : 0 < more) where
-  pub deep_by : left ≡ 0 → skim.Err (NestingDepth k.next.at) ≡ skim_result w (forest n (entered_by f L left) w from (drop from s))
+  pub deep_by : left ≡ 0 → Err (NestingDepth k.next.at) ≡ skim_result w (forest n (entered_by f L left) w from (drop from s))
   deep_by e = sym (ap (skim_result w) (one-refused a some (too_deep_lem f L left (on w k) k.next.at (drop k.next.at s) e)))
 
   module _ (level : 0 < left) where
-    pub many_by : L.max_total_prototypes < k.number → skim.Err (TotalPrototypes k.next.at) ≡ skim_result w (forest n (entered_by f L left) w from (drop from s))
+    pub many_by : L.max_total_prototypes < k.number → Err (TotalPrototypes k.next.at) ≡ skim_result w (forest n (entered_by f L left) w from (drop from s))
     many_by h = sym (ap (skim_result w) (one-refused a some (too_many f L left (on w k) k.next.at (drop k.next.at s) level h)))
 
     module _ (few : k.number ≤ L.max_total_prototypes) where
       enter : entered_by f L left (on w k) k.next.at (drop k.next.at s) ≡ f (left - 1) (on w k) k.next.at (drop k.next.at s)
       enter = enters_by f L left (on w k) k.next.at (drop k.next.at s) level few
 
-      pub stops_by : (q : Refusal) → skim.Err q ≡ skim_result (on w k) (f (left - 1) (on w k) k.next.at (drop k.next.at s)) → skim.Err q ≡ skim_result w (forest n (entered_by f L left) w from (drop from s))
+      pub stops_by : (q : Refusal) → Err q ≡ skim_result (on w k) (f (left - 1) (on w k) k.next.at (drop k.next.at s)) → Err q ≡ skim_result w (forest n (entered_by f L left) w from (drop from s))
       stops_by q e = sym (ap (skim_result w) (one-refused a some (enter ∙ skim_err (on w k) _ q e)))
 
-      module _ (later : Skimmed) (e : skim.Ok later ≡ skim_result (on w k) (f (left - 1) (on w k) k.next.at (drop k.next.at s))) where
+      module _ (later : Skimmed) (e : Ok later ≡ skim_result (on w k) (f (left - 1) (on w k) k.next.at (drop k.next.at s))) where
         pub next_by : Skims (f (left - 1)) s (on w k) k.next.at later
         next_by = skim_read (exact (left - 1)) s (on w k) k.next.at later e
 
@@ -105,18 +105,18 @@ module _ {f : ℕ → Where → Reader (List Prototype)} {F : ℕ → Where → 
 
 -- ## Of the ordinary reading
 module _ (L : ResourceLimits) (left : ℕ) {s : Bytes} {w : Where} {n from : ℕ} {k : Skimmed} {more : ℕ} {passed : List Prototype} (a : SoFar (entered L left) s w n from k more passed) (some : 0 < more) where
-  pub deep : left ≡ 0 → skim.Err (NestingDepth k.next.at) ≡ skim_result w (forest n (entered L left) w from (drop from s))
+  pub deep : left ≡ 0 → Err (NestingDepth k.next.at) ≡ skim_result w (forest n (entered L left) w from (drop from s))
   deep e = deep_by (exact_function L) L left a some e
 
   module _ (level : 0 < left) where
-    pub many : L.max_total_prototypes < k.number → skim.Err (TotalPrototypes k.next.at) ≡ skim_result w (forest n (entered L left) w from (drop from s))
+    pub many : L.max_total_prototypes < k.number → Err (TotalPrototypes k.next.at) ≡ skim_result w (forest n (entered L left) w from (drop from s))
     many h = many_by (exact_function L) L left a some level h
 
     module _ (few : k.number ≤ L.max_total_prototypes) where
-      pub stops : (q : Refusal) → skim.Err q ≡ skim_result (on w k) (function L (left - 1) (on w k) k.next.at (drop k.next.at s)) → skim.Err q ≡ skim_result w (forest n (entered L left) w from (drop from s))
+      pub stops : (q : Refusal) → Err q ≡ skim_result (on w k) (function L (left - 1) (on w k) k.next.at (drop k.next.at s)) → Err q ≡ skim_result w (forest n (entered L left) w from (drop from s))
       stops q e = stops_by (exact_function L) L left a some level few q e
 
-      module _ (later : Skimmed) (e : skim.Ok later ≡ skim_result (on w k) (function L (left - 1) (on w k) k.next.at (drop k.next.at s))) where
+      module _ (later : Skimmed) (e : Ok later ≡ skim_result (on w k) (function L (left - 1) (on w k) k.next.at (drop k.next.at s))) where
         -- what the next one is
         abbrev pub next-read : Skims (function L (left - 1)) s (on w k) k.next.at later
         next-read = next_by (exact_function L) L left a some level few later e

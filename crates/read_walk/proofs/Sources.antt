@@ -8,6 +8,8 @@
 --     not-spelt, own_is                whether it is the parent's
 --     none-at-end                      no string begins at the end of the slice
 -- Assumes nothing.
+use Rattle.std.specs.Prelude as prelude
+use Rattle.std.specs.Prelude.{Some, None, Ok, Err}
 use mathlib.Core.Path.{◌≡◌, refl, sym, ◌∙◌, ap, ap₂}
 use mathlib.Core.Bool.{Bool, true, false}
 use mathlib.Core.Option.{Option, none, some}
@@ -28,10 +30,8 @@ use Rattle.format.specs.FullCopy.{equal_sources}
 use Rattle.format.proofs.ExactHeader.{same_eq}
 use Rattle.format.proofs.Located.{at-string, StandsIf}
 use Rattle.slice.specs.declared.cursor.Cursor.{Cursor}
+use Rattle.slice.specs.Shown.{cursor_at}
 use Rattle.read_field.specs.declared.string.StringAt.{StringAt}
-use Rattle.read_field.specs.declared.string.OptionString.{OptionString}
-use Rattle.read_field.specs.declared.string.OptionString.TheVariants as option
-use Rattle.read_field.specs.declared.string.StringResult.TheVariants as answer
 use Rattle.read_field.specs.Shown.{option_string, string_result}
 use Rattle.read_prototype.specs.Parts as parts
 use Rattle.read_prototype.specs.Inner.Counts.{is_spelt}
@@ -81,29 +81,29 @@ module _ (s : Bytes) (first second : StringAt) where
     }
 
 -- ## With the parent's source
-pub no_outer : (p : Option LuaString) → option.None ≡ option_string p → p ≡ none
+pub no_outer : (p : Option LuaString) → None ≡ option_string p → p ≡ none
 no_outer none e = refl
 no_outer (some u) e = absurd (let z : ◌≡◌ {A = ℕ} 0 1 = cc in omega arith)
 
-pub none_outer : (s : Bytes) (spelt : StringAt) → ParentsOwn s spelt option.None false
+pub none_outer : (s : Bytes) (spelt : StringAt) → ParentsOwn s spelt None false
 none_outer s spelt = record { is = λ t p e f h k. rw (no_outer p f) }
 
-pub some_outer : (s : Bytes) (spelt outer : StringAt) {r : Bool} → SameString s spelt outer r → ParentsOwn s spelt (option.Some outer) r
+pub some_outer : (s : Bytes) (spelt outer : StringAt) {r : Bool} → SameString s spelt outer r → ParentsOwn s spelt (Some outer) r
 some_outer s spelt outer {r} a = record { is = λ t p e f h k. by t p e f h k }
   where
-    by : (t : LuaString) (p : Option LuaString) → spelt ≡ string_at t → option.Some outer ≡ option_string p → Stands s (some t) → Stands s p → r ≡ equal_sources (some t) p
+    by : (t : LuaString) (p : Option LuaString) → spelt ≡ string_at t → Some outer ≡ option_string p → Stands s (some t) → Stands s p → r ≡ equal_sources (some t) p
     by t none e f h k = absurd (let z : ◌≡◌ {A = ℕ} 0 1 = cc in omega arith)
     by t (some u) e f h k = a.is t u e (let same : outer ≡ string_at u = cc in same) h k
 
 -- ## By places
 -- what `source_at` shows, by what was read
-pub none_read : (o : Read (Option LuaString)) {q : Refusal} → answer.Err q ≡ string_result o → option.None ≡ option_string (spelt o)
+pub none_read : (o : Read (Option LuaString)) {q : Refusal} → Err q ≡ string_result o → None ≡ option_string (spelt o)
 none_read (ok t to rest) e = absurd (let z : ◌≡◌ {A = ℕ} 0 1 = cc in omega arith)
 none_read (refused q) e = refl
 
-pub some_read : (o : Read (Option LuaString)) {x : OptionString} {c : Cursor} → answer.Ok x c ≡ string_result o → x ≡ option_string (spelt o)
-some_read (ok t to rest) e = cc
-some_read (refused q) e = absurd (let z : ◌≡◌ {A = ℕ} 0 1 = cc in omega arith)
+pub some_read : (o : Read (Option LuaString)) {x : prelude.Option StringAt} {c : Cursor} → Ok (x, c) ≡ string_result o → x ≡ option_string (spelt o)
+some_read (ok t to rest) {x} {c} e = let both : ◌≡◌ {A = prelude.Option StringAt × Cursor} (x, c) (option_string t, cursor_at to) = cc in ap (λ p. p.0) both
+some_read (refused q) {x} {c} e = absurd (let z : ◌≡◌ {A = ℕ} 0 1 = cc in omega arith)
 
 -- what is spelt at a place stands there
 pub at_stands : (limit : ℕ) (s : Bytes) (at : ℕ) → Stands s (source_at limit s at)
@@ -113,15 +113,15 @@ at_stands limit s at = by (string limit at (drop at s)) refl
     by (ok t to rest) e = stands s t ((at-string {s = s} {at = at} limit).holds e)
     by (refused q) e = tt
 
-pub not-spelt : (t p : Option LuaString) → option.None ≡ option_string t → false ≡ repeats t p
+pub not-spelt : (t p : Option LuaString) → None ≡ option_string t → false ≡ repeats t p
 not-spelt t p e = rw (no_outer t e)
 
 module _ (limit : ℕ) (s : Bytes) (own parent : ℕ) where
   -- it is the parent's, by the test
-  pub own_is : {x : StringAt} {r : Bool} → option.Some x ≡ option_string (source_at limit s own) → ParentsOwn s x (option_string (source_at limit s parent)) r → r ≡ repeats_at limit s own parent
+  pub own_is : {x : StringAt} {r : Bool} → Some x ≡ option_string (source_at limit s own) → ParentsOwn s x (option_string (source_at limit s parent)) r → r ≡ repeats_at limit s own parent
   own_is {x} {r} e a = by (source_at limit s own) e (at_stands limit s own)
     where
-      by : (t : Option LuaString) → option.Some x ≡ option_string t → Stands s t → r ≡ repeats t (source_at limit s parent)
+      by : (t : Option LuaString) → Some x ≡ option_string t → Stands s t → r ≡ repeats t (source_at limit s parent)
       by none e h = absurd (let z : ◌≡◌ {A = ℕ} 0 1 = cc in omega arith)
       by (some t) e h = a.is t (source_at limit s parent) (let same : x ≡ string_at t = cc in same) refl h (at_stands limit s parent)
 

@@ -4,6 +4,7 @@
 --     own_fits ..      one function: there is room for each of its parts, and they are all of its count
 --     Total            functions one after the other: those counted so far, and those that are left
 -- Assumes nothing.
+use Rattle.std.specs.Prelude.{Ok, Err}
 use mathlib.Core.Path.{◌≡◌, sym, subst, ◌∙◌, ap, ap₂}
 use mathlib.Core.List.{List, [], ◌++◌}
 use mathlib.Core.Option.{Option}
@@ -33,15 +34,12 @@ use Rattle.format_spelling.proofs.Tallies.{room-on, adds-not, adds-all}
 use Rattle.slice.specs.declared.cursor.Cursor.{Cursor}
 use Rattle.read_field.specs.Shown.{option_string}
 use Rattle.read_prototype.specs.declared.pass.HeadCounts.{HeadCounts}
-use Rattle.read_prototype.specs.declared.pass.HeadCountsResult.TheVariants as head-answer
 use Rattle.read_prototype.specs.declared.pass.TailCounts.{TailCounts}
-use Rattle.read_prototype.specs.declared.pass.TailCountsResult.TheVariants as tail-answer
 use Rattle.read_prototype.specs.Parts as parts
 use Rattle.read_prototype.specs.PartsSpelt as spelt
 use Rattle.read_prototype.specs.Inner.Counts.{is_spelt, head_counts_result, tail_counts_result}
 use Rattle.read_prototype.proofs.OwnSource.{own_between}
 use Rattle.read_walk.specs.declared.walk.Skimmed.{Skimmed}
-use Rattle.read_walk.specs.declared.walk.SkimResult.TheVariants as skim
 use Rattle.read_walk.specs.Inner.Skim.{entered, on, skim_result}
 use Rattle.read_walk.specs.Inner.Source.{source_at, repeats, repeats_at, unpadded_at, handed}
 use Rattle.read_walk.specs.Inner.Spelt.{nested_spelt, own_source}
@@ -54,8 +52,8 @@ use Rattle.read_walk.proofs.Spelt.{own_dropped, function-spelt, covers_function,
 
 -- from the number and the instructions so far on
 pub refuses : {number instructions : ℕ} {source : Option LuaString} {q : Refusal} {o : Where → Read (List Prototype)} {a : Where → Spelling} {t t' : List ℕ}
-    → ((w : Where) → number ≡ w.number → instructions ≡ w.instructions → skim.Err q ≡ skim_result w (o w))
-    → ((w : Where) → number ≡ w.number → instructions ≡ w.instructions → skim.Err q ≡ skim_result w (o w)) × ((w : Where) → number ≡ w.number → instructions ≡ w.instructions → w.source ≡ source → Adds (o w) (a w) t t')
+    → ((w : Where) → number ≡ w.number → instructions ≡ w.instructions → Err q ≡ skim_result w (o w))
+    → ((w : Where) → number ≡ w.number → instructions ≡ w.instructions → Err q ≡ skim_result w (o w)) × ((w : Where) → number ≡ w.number → instructions ≡ w.instructions → w.source ≡ source → Adds (o w) (a w) t t')
 refuses {q = q} {o = o} e = (e, λ w n i _. adds-not (skim_err w (o w) q (e w n i)))
 
 -- ## No function has more than bytes
@@ -75,7 +73,7 @@ sum_of : (a b c d : Spelling) → a ⊕ b ⊕ c ⊕ d ≡ a ⊕ (b ⊕ (c ⊕ d)
 sum_of a b c d = spelling_path _ _ (omega arith) (omega arith) (omega arith) (omega arith)
 
 -- its head
-module _ (s : Bytes) (L : ResourceLimits) (left : ℕ) (w : Where) (at : ℕ) {before : ℕ} (so_far : before ≡ w.instructions) (n : HeadCounts) (c₁ : Cursor) (e₁ : head-answer.Ok n c₁ ≡ head_counts_result (parts.head L before at (drop at s)))
+module _ (s : Bytes) (L : ResourceLimits) (left : ℕ) (w : Where) (at : ℕ) {before : ℕ} (so_far : before ≡ w.instructions) (n : HeadCounts) (c₁ : Cursor) (e₁ : Ok (n, c₁) ≡ head_counts_result (parts.head L before at (drop at s)))
     {t t₁ : List ℕ} (room : Room t at) (g₁ : Adds (parts.head L before at (drop at s)) (spelt.head L before at (drop at s)) t t₁)
     (source : ℕ) (outer : w.source ≡ source_at L.max_string_bytes s source) where
   abbrev its_head : parts.Head
@@ -129,7 +127,7 @@ module _ (s : Bytes) (L : ResourceLimits) (left : ℕ) (w : Where) (at : ℕ) {b
     pub first_room : Room t₂ c₁.at
     first_room = record { room = subst (λ a. Between a 0 c₁.at) (sym g₂) first_lies }
 
-    module _ (k : Skimmed) (e₂ : skim.Ok k ≡ skim_result first inner) {t₃ : List ℕ} (g₃ : Adds inner nested_count t₂ t₃) where
+    module _ (k : Skimmed) (e₂ : Ok k ≡ skim_result first inner) {t₃ : List ℕ} (g₃ : Adds inner nested_count t₂ t₃) where
       nested : Skims (forest n.protos (entered L left)) s first c₁.at k
       nested = passes.nested s L left w at so_far n c₁ e₁ k e₂
 
@@ -143,7 +141,7 @@ module _ (s : Bytes) (L : ResourceLimits) (left : ℕ) (w : Where) (at : ℕ) {b
       abbrev tail-count : Spelling
       tail-count = spelt.tail L.max_string_bytes k.next.at (drop k.next.at s)
 
-      module _ (x : TailCounts) (c₃ : Cursor) (e₃ : tail-answer.Ok x c₃ ≡ tail_counts_result ends) {t₄ : List ℕ} (g₄ : Adds ends tail-count t₃ t₄) where
+      module _ (x : TailCounts) (c₃ : Cursor) (e₃ : Ok (x, c₃) ≡ tail_counts_result ends) {t₄ : List ℕ} (g₄ : Adds ends tail-count t₃ t₄) where
         many : n.protos ≡ its_head.protos.count
         many = passes.many s L left w at so_far n c₁ e₁
 
@@ -175,7 +173,7 @@ module _ (L : ResourceLimits) (left : ℕ) (s : Bytes) where
 
   -- the next one
   module _ (k : Skimmed) (t : List ℕ) (later : Skimmed) (t' : List ℕ) (w : Where)
-      (e : skim.Ok later ≡ skim_result (on w k) (function L (left - 1) (on w k) k.next.at (drop k.next.at s)))
+      (e : Ok later ≡ skim_result (on w k) (function L (left - 1) (on w k) k.next.at (drop k.next.at s)))
       (g : Adds (function L (left - 1) (on w k) k.next.at (drop k.next.at s)) (count.function L (left - 1) (on w k) k.next.at (drop k.next.at s)) t t') where
     abbrev at : ℕ
     at = k.next.at

@@ -3,7 +3,7 @@ ghost use Rattle.std.specs.Prelude.{◌≡◌, cond, eqb};
 ghost use Rattle.read_field.specs.Shown.{option_string};
 ghost use Rattle.read_walk.specs.Inner.Source.{SameString, ParentsOwn, source_at, repeats_at, unpadded_at};
 
-use read_field::string::{OptionString, StringAt, StringResult, read_string_lua54};
+use read_field::string::{StringAt, read_string_lua54};
 use slice::bytes::{bytes_at, same_bytes};
 use slice::cursor::{Cursor, remaining};
 
@@ -22,23 +22,23 @@ fn same_string(s: &[u8], first: StringAt, second: StringAt) -> bool
 }
 
 // Whether a source that is spelt is the parent's. Ruled out: an empty one taken for a missing one.
-fn parents_own(s: &[u8], spelt: StringAt, parent: OptionString) -> bool
+fn parents_own(s: &[u8], spelt: StringAt, parent: Option<StringAt>) -> bool
     ensures { ParentsOwn s.now spelt parent result }
 {
     match parent {
-        OptionString::None => false,
-        OptionString::Some(outer) => same_string(s, spelt, outer),
+        None => false,
+        Some(outer) => same_string(s, spelt, outer),
     }
 }
 
 // The source that the function at a place spells; none, where it spells none, or where no function stands. It is a function's first field, and read alone: read_front is to have one caller, so that the compiler keeps it in the walk.
-pub fn source_at(s: &[u8], max_string_bytes: usize, at: usize) -> OptionString
+pub fn source_at(s: &[u8], max_string_bytes: usize, at: usize) -> Option<StringAt>
     ensures { result ≡ option_string (source_at max_string_bytes s.now at) }
 {
     let name = read_string_lua54(s, Cursor { at: at }, max_string_bytes);
     match name {
-        StringResult::Err(_) => OptionString::None,
-        StringResult::Ok { string, next: _ } => string,
+        Err(_) => None,
+        Ok((string, _)) => string,
     }
 }
 
@@ -47,7 +47,7 @@ pub fn repeats(s: &[u8], max_string_bytes: usize, own: usize, parent: usize) -> 
     ensures { result ≡ repeats_at max_string_bytes s.now own parent }
 {
     let source = source_at(s, max_string_bytes, own);
-    let OptionString::Some(spelt) = source else {
+    let Some(spelt) = source else {
         return false;
     };
     let outer = source_at(s, max_string_bytes, parent);
@@ -58,14 +58,12 @@ pub fn repeats(s: &[u8], max_string_bytes: usize, own: usize, parent: usize) -> 
 pub fn unpadded(s: &[u8], at: usize) -> usize
     ensures { result ≡ unpadded_at s.now at }
 {
-    let mut place = at;
-    while place < s.len() {
+    for place in at..s.len() {
         if s[place] != 0 {
             return place;
         }
-        place += 1;
     }
-    place
+    at.max(s.len())
 }
 
 // One, where it is so.

@@ -16,7 +16,7 @@ use format::limits::ResourceLimits;
 use format::refusal::Refusal;
 use format::spelling::Spelling;
 use format_spelling::tally::{Tally, add};
-use read_prototype::pass::{HeadCountsResult, TailCountsResult, pass_head, pass_tail};
+use read_prototype::pass::{pass_head, pass_tail};
 use slice::cursor::Cursor;
 
 // Where a walk stands: the number of the next function, and the instructions of all before it.
@@ -25,12 +25,6 @@ pub struct Skimmed {
     pub next: Cursor,
     pub number: usize,
     pub instructions: usize,
-}
-
-#[derive(Clone, Copy)]
-pub enum SkimResult {
-    Ok(Skimmed),
-    Err(Refusal),
 }
 
 // Counts a function's own source, where it is spelt: the archive copy drops it but for main's, the full copy where it is the parent's. The two are read again, at their places. Shows where the source is spelt that the functions in it inherit.
@@ -72,52 +66,35 @@ fn skim_function(
     from: Skimmed,
     source: usize,
     tally: &mut Tally,
-) -> SkimResult
+) -> Result<Skimmed, Refusal>
     requires { Walkable limits × (from.number ≤ MOST) × Room tally.old from.next.at }
     ensures value { (w : grammar.Where) → from.number ≡ w.number → from.instructions ≡ w.instructions → result ≡ skim_result w (function limits left w from.next.at (drop from.next.at s.now)) }
     ensures adds { (w : grammar.Where) → from.number ≡ w.number → from.instructions ≡ w.instructions → w.source ≡ source_at limits.max_string_bytes s.now source → Adds (function limits left w from.next.at (drop from.next.at s.now)) (count.function limits left w from.next.at (drop from.next.at s.now)) tally.old tally.new }
 {
-    let begins = pass_head(s, limits, from.instructions, from.next, tally);
-    match begins {
-        HeadCountsResult::Err(refusal) => SkimResult::Err(refusal),
-        HeadCountsResult::Ok {
-            counts: counts,
-            next: behind,
-        } => {
-            let own = own_source(
-                s,
-                limits.max_string_bytes,
-                counts.named,
-                from.number,
-                from.next.at,
-                source,
-                tally,
-            );
-            let mut nested = Skimmed {
-                next: behind,
-                number: from.number + 1,
-                instructions: from.instructions + counts.instructions,
-            };
-            if counts.protos > 0 {
-                let inner = skim_functions(s, limits, counts.protos, left, nested, own, tally);
-                match inner {
-                    SkimResult::Err(refusal) => return SkimResult::Err(refusal),
-                    SkimResult::Ok(later) => {
-                        nested = later;
-                    }
-                }
-            }
-            let ends = pass_tail(s, limits.max_string_bytes, nested.next, tally);
-            match ends {
-                TailCountsResult::Err(refusal) => SkimResult::Err(refusal),
-                TailCountsResult::Ok { counts: _, next } => SkimResult::Ok(Skimmed {
-                    next: next,
-                    number: nested.number,
-                    instructions: nested.instructions,
-                }),
-            }
-        }
+    let (counts, behind) = pass_head(s, limits, from.instructions, from.next, tally)?;
+    let own = own_source(
+        s,
+        limits.max_string_bytes,
+        counts.named,
+        from.number,
+        from.next.at,
+        source,
+        tally,
+    );
+    let mut nested = Skimmed {
+        next: behind,
+        number: from.number + 1,
+        instructions: from.instructions + counts.instructions,
+    };
+    if counts.protos > 0 {
+        nested = skim_functions(s, limits, counts.protos, left, nested, own, tally)?;
     }
+    let (_, next) = pass_tail(s, limits.max_string_bytes, nested.next, tally)?;
+    Ok(Skimmed {
+        next: next,
+        number: nested.number,
+        instructions: nested.instructions,
+    })
 }
 
 // Passes over n functions one after the other, each nested in a function below which functions nest at most `left` deep.
@@ -130,31 +107,23 @@ fn skim_functions(
     from: Skimmed,
     source: usize,
     tally: &mut Tally,
-) -> SkimResult
+) -> Result<Skimmed, Refusal>
     requires { Walkable limits × Room tally.old from.next.at }
     ensures value { (w : grammar.Where) → from.number ≡ w.number → from.instructions ≡ w.instructions → result ≡ skim_result w (forest n (entered limits left) w from.next.at (drop from.next.at s.now)) }
     ensures adds { (w : grammar.Where) → from.number ≡ w.number → from.instructions ≡ w.instructions → w.source ≡ source_at limits.max_string_bytes s.now source → Adds (forest n (entered limits left) w from.next.at (drop from.next.at s.now)) (count.forest n (entered limits left) (nested_spelt limits left) w from.next.at (drop from.next.at s.now)) tally.old tally.new }
 {
     let mut skimmed = from;
-    let mut more = n;
-    while more > 0 {
+    for _ in 0..n {
         let at = skimmed.next.at;
         if left == 0 {
-            return SkimResult::Err(Refusal::NestingDepth(at));
+            return Err(Refusal::NestingDepth(at));
         }
         if limits.max_total_prototypes < skimmed.number {
-            return SkimResult::Err(Refusal::TotalPrototypes(at));
+            return Err(Refusal::TotalPrototypes(at));
         }
-        let one = skim_function(s, limits, left - 1, skimmed, source, tally);
-        match one {
-            SkimResult::Err(refusal) => return SkimResult::Err(refusal),
-            SkimResult::Ok(later) => {
-                skimmed = later;
-            }
-        }
-        more -= 1;
+        skimmed = skim_function(s, limits, left - 1, skimmed, source, tally)?;
     }
-    SkimResult::Ok(skimmed)
+    Ok(skimmed)
 }
 
 // Passes over main and all that nest in it, at most `left` deep: as one function of a list, so that the compiler puts skim_function, which then has one caller, into the loop. Main has no parent: no string begins at the end of the slice.
@@ -164,7 +133,7 @@ pub fn skim_main(
     left: usize,
     from: Skimmed,
     tally: &mut Tally,
-) -> SkimResult
+) -> Result<Skimmed, Refusal>
     requires { Walkable limits × (left ≤ DEEPEST) × Room tally.old from.next.at }
     ensures value { (w : grammar.Where) → w.number ≡ 0 → from.number ≡ w.number → from.instructions ≡ w.instructions → result ≡ skim_result w (function limits left w from.next.at (drop from.next.at s.now)) }
     ensures adds { (w : grammar.Where) → w.number ≡ 0 → w.source ≡ none → from.number ≡ w.number → from.instructions ≡ w.instructions → Adds (function limits left w from.next.at (drop from.next.at s.now)) (count.function limits left w from.next.at (drop from.next.at s.now)) tally.old tally.new }

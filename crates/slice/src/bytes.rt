@@ -29,12 +29,5 @@ pub fn same_bytes(s: &[u8], at: usize, bytes: &[u8]) -> bool
     requires { length bytes.now ≤ length (drop at s.now) }
     ensures { result ≡ same_bytes (take (length bytes.now) (drop at s.now)) bytes.now }
 {
-    let mut i = 0;
-    while i < bytes.len() {
-        if s[at + i] != bytes[i] {
-            return false;
-        }
-        i += 1;
-    }
-    true
+    bytes_at(s, at, bytes.len()) == bytes
 }

@@ -11,13 +11,6 @@ pub struct Cursor {
     pub at: usize,
 }
 
-// The cursor behind what was read, or why it was not.
-#[derive(Clone, Copy)]
-pub enum CursorResult {
-    Ok(Cursor),
-    Err(Refusal),
-}
-
 // How many bytes there are from the cursor on.
 pub fn remaining(s: &[u8], cursor: Cursor) -> usize
     ensures { result ≡ length (drop cursor.at s.now) }
@@ -38,12 +31,12 @@ pub fn short(n: usize, at: usize) -> Refusal
 }
 
 // Passes over n bytes. Ruled out: a run that ends behind the file, 1 where 2 holds.
-pub fn read_exact(s: &[u8], cursor: Cursor, n: usize) -> CursorResult
+pub fn read_exact(s: &[u8], cursor: Cursor, n: usize) -> Result<Cursor, Refusal>
     ensures { result ≡ cursor_result (read.run n cursor.at (drop cursor.at s.now)) }
 {
     let at = cursor.at;
     if remaining(s, cursor) < n {
-        return CursorResult::Err(short(n, at));
+        return Err(short(n, at));
     }
-    CursorResult::Ok(Cursor { at: at + n })
+    Ok(Cursor { at: at + n })
 }

@@ -1,21 +1,22 @@
 -- `read_chunk::read_before_main` meets its contract: at each return the calls say which case of the reader holds (`Answers.antt`). Assumes nothing.
+use Rattle.std.proofs.lemmas.Result.{err_from_is_err_and}
 use mathlib.Core.Path.{sym, ◌∙◌}
 use Rattle.read_chunk.proofs.Answers.{header_refused, byte-refused, before-read}
 use Rattle.read_chunk.proofs.read_before_main.Goals as goal
 
-pub returns-in-Err : goal.returns-in-Err
-returns-in-Err c =
+pub returns-in_err-header : goal.returns-in_err-header
+returns-in_err-header c =
     let a = c.args in
-    header_refused a.s.now _ (sym c.in-Err.is ∙ c.parse_header_lua54-begins.ensures)
+    let p = err_from_is_err_and c.from_residual.result c.from_residual.ensures.1 in
+    rw (p.1, p.2) (header_refused a.s.now _ (sym c.in_err-header.was ∙ c.parse_header_lua54.ensures))
 
-pub returns-in-Err-forgotten : goal.returns-in-Err-forgotten
-returns-in-Err-forgotten c =
+pub returns-in_err-next : goal.returns-in_err-next
+returns-in_err-next c =
     let a = c.args in
-    byte-refused a.s.now c.in-Ok.header c.in-Ok.warning c.in-Ok.behind (sym c.in-Ok.is ∙ c.parse_header_lua54-begins.ensures)
-    _ (sym c.in-Err-forgotten.is ∙ c.read_u8-forgotten.ensures)
+    let p = err_from_is_err_and c.from_residual-in_err-next.result c.from_residual-in_err-next.ensures.1 in
+    rw (p.1, p.2) (byte-refused a.s.now c.in_ok-header.header c.in_ok-header.warning c.in_ok-header.behind (sym c.in_ok-header.was ∙ c.parse_header_lua54.ensures) _ (sym c.in_err-next.was ∙ c.read_u8.ensures))
 
-pub returns-in-Ok-forgotten : goal.returns-in-Ok-forgotten
-returns-in-Ok-forgotten c =
+pub returns : goal.returns
+returns c =
     let a = c.args in
-    before-read a.s.now c.in-Ok.header c.in-Ok.warning c.in-Ok.behind (sym c.in-Ok.is ∙ c.parse_header_lua54-begins.ensures)
-    c.in-Ok-forgotten.value c.in-Ok-forgotten.first (sym c.in-Ok-forgotten.is ∙ c.read_u8-forgotten.ensures)
+    before-read a.s.now c.in_ok-header.header c.in_ok-header.warning c.in_ok-header.behind (sym c.in_ok-header.was ∙ c.parse_header_lua54.ensures) _ c.in_ok-next.next (sym c.in_ok-next.was ∙ c.read_u8.ensures)

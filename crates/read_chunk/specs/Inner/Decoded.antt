@@ -1,4 +1,7 @@
 -- What the code shows of a chunk's reading.
+use Rattle.std.specs.Prelude.{Option, Some, None, Result, Ok, Err}
+use Rattle.format.specs.declared.refusal.Refusal.{Refusal}
+use Rattle.read_chunk.specs.declared.summary.Decoded.{Decoded}
 use Rattle.std.specs.Prelude.{List, [], ◌∷◌, ◌++◌, ℕ, length, take, drop}
 use Rattle.format.specs.declared.header.Warning.{Warning}
 use Rattle.format.specs.declared.spelling.Spelling.{Spelling}
@@ -6,36 +9,28 @@ use Rattle.format.specs.Form.{Bytes}
 use Rattle.format.specs.GrammarChunk.{trailing_warnings}
 use Rattle.format.specs.ReadChunk.{Outcome, shown, refusal}
 use Rattle.slice.specs.declared.cursor.Cursor.{Cursor}
-use Rattle.read_header.specs.declared.OptionWarning.{OptionWarning}
-use Rattle.read_header.specs.declared.OptionWarning.TheVariants as option
 use Rattle.read_prototype.specs.Inner.Row.{shown_row, lookup}
 use Rattle.read_chunk.specs.declared.Opening.{Opening}
 use Rattle.read_chunk.specs.declared.summary.Summary.{Summary}
-use Rattle.read_chunk.specs.declared.summary.DecodedResult.{DecodedResult}
-use Rattle.read_chunk.specs.declared.summary.DecodedResult.TheVariants as answer
-use Rattle.read_chunk.specs.declared.summary.JudgedResult.{JudgedResult}
-use Rattle.read_chunk.specs.declared.summary.JudgedResult.TheVariants as judged
-use Rattle.read_chunk.specs.declared.summary.SpeltResult.{SpeltResult}
-use Rattle.read_chunk.specs.declared.summary.SpeltResult.TheVariants as spelt
 use Rattle.read_chunk.specs.Decoded.{shown_warnings, summary_of}
 
 -- how the chunk is spelt, and its reading
-abbrev pub spelt_result : Spelling → Outcome → SpeltResult
-spelt_result k (shown r) = spelt.Ok (summary_of r) k
-spelt_result k (refusal q) = spelt.Err q
+abbrev pub spelt_result : Spelling → Outcome → Result (Summary × Spelling) Refusal
+spelt_result k (shown r) = Ok ((summary_of r), k)
+spelt_result k (refusal q) = Err q
 
-abbrev pub judged_result : Outcome → JudgedResult
-judged_result (shown r) = judged.Ok (summary_of r)
-judged_result (refusal q) = judged.Err q
+abbrev pub judged_result : Outcome → Result Summary Refusal
+judged_result (shown r) = Ok (summary_of r)
+judged_result (refusal q) = Err q
 
-abbrev pub decoded_result : ℕ → Outcome → DecodedResult
-decoded_result wanted (shown r) = answer.Ok (record { summary = summary_of r; row = shown_row (lookup wanted 0 r.functions) })
-decoded_result wanted (refusal q) = answer.Err q
+abbrev pub decoded_result : ℕ → Outcome → Result Decoded Refusal
+decoded_result wanted (shown r) = Ok (record { summary = summary_of r; row = shown_row (lookup wanted 0 r.functions) })
+decoded_result wanted (refusal q) = Err q
 
 -- ## The same of the code's values
-abbrev pub list_of : OptionWarning → List Warning
-list_of option.None = []
-list_of (option.Some w) = w ∷ []
+abbrev pub list_of : Option Warning → List Warning
+list_of None = []
+list_of (Some w) = w ∷ []
 
 abbrev pub summary_shown : Bytes → ℕ → Opening → Cursor → ℕ → Summary
 summary_shown s limit o next n = record {

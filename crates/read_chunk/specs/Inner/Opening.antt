@@ -1,4 +1,7 @@
 -- What the code shows of a chunk up to main.
+use Rattle.std.specs.Prelude.{Result, Ok, Err}
+use Rattle.format.specs.declared.refusal.Refusal.{Refusal}
+use Rattle.read_chunk.specs.declared.Opening.{Opening}
 use Rattle.std.specs.Prelude.{cond, leb, length}
 use Rattle.format.specs.declared.limits.ResourceLimits.{ResourceLimits}
 use Rattle.format.specs.declared.refusal.Refusal.TheVariants.{LimitAboveCeiling, InputBytes}
@@ -10,8 +13,6 @@ use Rattle.format.specs.ReadFields.{byte}
 use Rattle.format.specs.ReadHeader.{header}
 use Rattle.slice.specs.Shown.{cursor_at}
 use Rattle.read_header.specs.Shown.{first_warning}
-use Rattle.read_chunk.specs.declared.OpeningResult.{OpeningResult}
-use Rattle.read_chunk.specs.declared.OpeningResult.TheVariants as answer
 
 -- the header, and the byte behind it
 abbrev pub before_main : Reader Headed
@@ -24,6 +25,6 @@ before_main = do
 abbrev pub opened : ResourceLimits → Bytes → Read Headed
 opened L chunk = cond (within_ceilings L) (cond (leb (length chunk) L.max_input_bytes) (before_main 0 chunk) (refused InputBytes)) (refused LimitAboveCeiling)
 
-abbrev pub opening_result : Read Headed → OpeningResult
-opening_result (ok h to rest) = answer.Ok (record { header = h.header; warning = first_warning h.warnings; next = cursor_at to })
-opening_result (refused q) = answer.Err q
+abbrev pub opening_result : Read Headed → Result Opening Refusal
+opening_result (ok h to rest) = Ok (record { header = h.header; warning = first_warning h.warnings; next = cursor_at to })
+opening_result (refused q) = Err q

@@ -4,7 +4,7 @@ use Rattle.std.proofs.Math.Option.{get_or}
 use Rattle.format.specs.declared.refusal.Refusal.{Refusal}
 use Rattle.format.specs.declared.refusal.Refusal.TheVariants.{Instructions, TotalInstructions}
 use Rattle.format.specs.Reading.{LocalVar}
-use Rattle.format.specs.Read.{Reader, next, ◌>>=◌, ◌>>◌, give, here, at_most}
+use Rattle.format.specs.Read.{Reader, ◌>>=◌, ◌>>◌, give, here, at_most}
 use Rattle.format.specs.ReadFields.{number}
 use Rattle.read_entry.specs.Readers.{RawLocal}
 

@@ -4,6 +4,11 @@
 --     function_at, functions_at      what is read there: a function, or n of them
 --     row_at L s l          the row that is read at a spot, where both parts of a function are read there
 --     Found n k o r r'     where o was read, numbered from k on, the row r' is that of the function n, if it is among them, else still r
+use Rattle.std.specs.Prelude as prelude
+use Rattle.std.specs.Prelude.{Some, None, Result, Ok, Err}
+use Rattle.format.specs.declared.refusal.Refusal.{Refusal}
+use Rattle.read_field.specs.declared.string.StringAt.{StringAt}
+use Rattle.slice.specs.declared.cursor.Cursor.{Cursor}
 use Rattle.std.specs.Prelude.{◌≡◌, Bool, List, [], ◌∷◌, ℕ, ◌+◌, drop, get_or}
 use Rattle.std.proofs.Math.Option.{Option, none, some}
 use Rattle.format.specs.declared.limits.ResourceLimits.{ResourceLimits}
@@ -13,17 +18,9 @@ use Rattle.format.specs.GrammarChunk as grammar
 use Rattle.format.specs.Read.{Read, ok}
 use Rattle.format.specs.ReadChunk.{forest, function}
 use Rattle.read_field.specs.Shown.{option_string}
-use Rattle.read_field.specs.declared.string.OptionString.{OptionString}
-use Rattle.read_field.specs.declared.string.OptionString.TheVariants as string
 use Rattle.read_prototype.specs.declared.parts.Head.{Head}
-use Rattle.read_prototype.specs.declared.parts.HeadResult.{HeadResult}
-use Rattle.read_prototype.specs.declared.parts.HeadResult.TheVariants as head-answer
 use Rattle.read_prototype.specs.declared.parts.Tail.{Tail}
-use Rattle.read_prototype.specs.declared.parts.TailResult.{TailResult}
-use Rattle.read_prototype.specs.declared.parts.TailResult.TheVariants as tail-answer
 use Rattle.read_prototype.specs.declared.row.FunctionRow.{FunctionRow}
-use Rattle.read_prototype.specs.declared.row.OptionRow.{OptionRow}
-use Rattle.read_prototype.specs.declared.row.OptionRow.TheVariants as option
 use Rattle.read_prototype.specs.Parts as parts
 use Rattle.read_prototype.specs.PartsShown.{head_result, tail_result}
 use Rattle.read_prototype.specs.Inner.Row.{row_of, lookup}
@@ -49,11 +46,11 @@ abbrev pub functions_at : ResourceLimits → Bytes → ℕ → ℕ → Above →
 functions_at L s n left a k = forest n (entered L left) (standing L s a k) k.next.at (drop k.next.at s)
 
 -- ## The row at a spot
-abbrev pub inherit_shown : OptionString → OptionString → OptionString
-inherit_shown (string.Some t) parent = string.Some t
-inherit_shown string.None parent = parent
+abbrev pub inherit_shown : prelude.Option StringAt → prelude.Option StringAt → prelude.Option StringAt
+inherit_shown (Some t) parent = Some t
+inherit_shown None parent = parent
 
-abbrev pub row_shown : ℕ → ℕ → OptionString → ℕ → Head → Tail → ℕ → FunctionRow
+abbrev pub row_shown : ℕ → ℕ → prelude.Option StringAt → ℕ → Head → Tail → ℕ → FunctionRow
 row_shown depth parent source start head tail end = record {
   start = start;
   end = end;
@@ -75,12 +72,12 @@ row_shown depth parent source start head tail end = record {
 }
 
 -- of what is read before and behind the nested functions
-abbrev pub row_from : ℕ → ℕ → OptionString → ℕ → HeadResult → TailResult → OptionRow
-row_from depth parent source start (head-answer.Ok h c) (tail-answer.Ok t d) = option.Some (row_shown depth parent source start h t d.at)
-row_from depth parent source start (head-answer.Ok h c) (tail-answer.Err q) = option.None
-row_from depth parent source start (head-answer.Err q) t = option.None
+abbrev pub row_from : ℕ → ℕ → prelude.Option StringAt → ℕ → Result (Head × Cursor) Refusal → Result (Tail × Cursor) Refusal → prelude.Option FunctionRow
+row_from depth parent source start (Ok (h, c)) (Ok (t, d)) = Some (row_shown depth parent source start h t d.at)
+row_from depth parent source start (Ok (h, c)) (Err q) = None
+row_from depth parent source start (Err q) t = None
 
-abbrev pub row_at : ResourceLimits → Bytes → List ℕ → OptionRow
+abbrev pub row_at : ResourceLimits → Bytes → List ℕ → prelude.Option FunctionRow
 row_at L s l =
     let start = get_or l 0 0 in
     let behind = get_or l 1 0 in
@@ -88,9 +85,9 @@ row_at L s l =
     row_from (get_or l 3 0) (get_or l 4 0) source start (head_result (parts.head L (get_or l 2 0) start (drop start s))) (tail_result (parts.tail L.max_string_bytes behind (drop behind s)))
 
 -- ## What a walk leaves
-abbrev pub row_or : Option Prototype → OptionRow → OptionRow
+abbrev pub row_or : Option Prototype → prelude.Option FunctionRow → prelude.Option FunctionRow
 row_or none before = before
-row_or (some p) before = option.Some (row_of p)
+row_or (some p) before = Some (row_of p)
 
-pub record Found (wanted first : ℕ) (o : Read (List Prototype)) (before after : OptionRow) : Type 0 where
+pub record Found (wanted first : ℕ) (o : Read (List Prototype)) (before after : prelude.Option FunctionRow) : Type 0 where
   pub found : (ps : List Prototype) (to : ℕ) (rest : Bytes) → o ≡ ok ps to rest → after ≡ row_or (lookup wanted first ps) before

@@ -1,4 +1,5 @@
 -- `read_list::locals_list` meets its contract: by whether the count is read (`Counted.antt`). Assumes nothing.
+use Rattle.std.proofs.lemmas.Result.{err_from_is_err_and}
 use borrow.Author.Rules.{rules}
 use Rattle.format.proofs.ExactChunk.{exact_local}
 use Rattle.format_spelling.specs.ReadSpelling as count
@@ -7,13 +8,15 @@ use Rattle.read_list.proofs.Counted.{list_refused, list_room, list_all, list_non
 use Rattle.read_list.proofs.locals_list.Goals as goal
 
 pub returns-then-count-eq0 : goal.returns-then-count-eq0
-returns-then-count-eq0 c = let a = c.args in let both = list_none (counted_list (exact_local a.max_string_bytes) a.s.now a.cursor.at) (count.local a.max_string_bytes) (c.tally_varint-read.ensures.value, c.tally_varint-read.ensures.adds) c.in-Ok.is c.if-count-eq0.true c.listed.ensures in record { value = both.0; adds = both.1 }
+returns-then-count-eq0 c = let a = c.args in let both = list_none (counted_list (exact_local a.max_string_bytes) a.s.now a.cursor.at) (count.local a.max_string_bytes) (c.tally_varint.ensures.value, c.tally_varint.ensures.adds) c.in_ok-value.was c.if-count-eq0.true c.listed.ensures in record { value = both.0; adds = both.1 }
 
 pub pass_locals-requires : goal.pass_locals-requires
-pass_locals-requires c = let a = c.args in list_room (counted_list (exact_local a.max_string_bytes) a.s.now a.cursor.at) (c.tally_varint-read.ensures.value, c.tally_varint-read.ensures.adds) c.in-Ok.is c.requires
+pass_locals-requires c = let a = c.args in list_room (counted_list (exact_local a.max_string_bytes) a.s.now a.cursor.at) (c.tally_varint.ensures.value, c.tally_varint.ensures.adds) c.in_ok-value.was c.requires
 
-pub returns-in-Err : goal.returns-in-Err
-returns-in-Err c = let a = c.args in let both = list_refused (counted_list (exact_local a.max_string_bytes) a.s.now a.cursor.at) (c.tally_varint-read.ensures.value, c.tally_varint-read.ensures.adds) c.in-Err.is in record { value = both.0; adds = both.1 }
+pub returns-in_err-value : goal.returns-in_err-value
+returns-in_err-value c =
+    let p = err_from_is_err_and c.from_residual.result c.from_residual.ensures.1 in
+    rw (p.1, p.2) (let a = c.args in let both = list_refused (counted_list (exact_local a.max_string_bytes) a.s.now a.cursor.at) (c.tally_varint.ensures.value, c.tally_varint.ensures.adds) c.in_err-value.was in record { value = both.0; adds = both.1 })
 
-pub returns-else-count-eq0 : goal.returns-else-count-eq0
-returns-else-count-eq0 c = let a = c.args in let both = list_all (counted_list (exact_local a.max_string_bytes) a.s.now a.cursor.at) (count.local a.max_string_bytes) (c.tally_varint-read.ensures.value, c.tally_varint-read.ensures.adds) c.in-Ok.is (c.pass_locals.ensures.value, c.pass_locals.ensures.adds) c.listed-in-Ok.ensures in record { value = both.0; adds = both.1 }
+pub returns : goal.returns
+returns c = let a = c.args in let both = list_all (counted_list (exact_local a.max_string_bytes) a.s.now a.cursor.at) (count.local a.max_string_bytes) (c.tally_varint.ensures.value, c.tally_varint.ensures.adds) c.in_ok-value.was (c.pass_locals.ensures.value, c.pass_locals.ensures.adds) c.listed-2.ensures in record { value = both.0; adds = both.1 }

@@ -8,23 +8,19 @@ use Rattle.read_next.specs.Inner.Rows.{head_at}
 use Rattle.read_next.proofs.RowLaws.{one_more}
 use Rattle.read_next.proofs.next_function.Goals as goal
 
-pub returns-in_default : goal.returns-in_default
-unfolding head_at
-returns-in_default c = (rw (c.go_up.ensures.0, c.in_default.is), tt)
-
 pub read_head-requires : goal.read_head-requires
 unfolding head_at
 read_head-requires c = room_unused _
 
-pub returns-in_default-read_head : goal.returns-in_default-read_head
+pub returns-in_default : goal.returns-in_default
 unfolding head_at
-returns-in_default-read_head c = let ready = rw c.in-At.is at c.go_up.ensures.1 in (
+returns-in_default c = let ready = rw c.in_ok-d.was at c.go_up.ensures.1 in (
   rw (
     c.go_up.ensures.0,
-    c.in-At.is,
-    one_more c.args.limits c.args.s.now c.args.left.now c.in-At.d c.in-At.place.at ready.1 ready.0 (omega arith),
+    c.in_ok-d.was,
+    one_more c.args.limits c.args.s.now c.args.left.now c.in_ok-d.d c.in_ok-d.place.at ready.1 ready.0 (omega arith),
     ← c.read_head.ensures.value,
-    c.in_default-read_head.is,
+    c.in_default.is,
   ),
   tt,
 )
@@ -32,12 +28,12 @@ returns-in_default-read_head c = let ready = rw c.in-At.is at c.go_up.ensures.1 
 pub returns : goal.returns
 unfolding head_at
 returns c =
-    let ready = rw c.in-At.is at c.go_up.ensures.1 in
-    let few = in_total c.args.s.now c.args.limits 0 c.in-At.place.at c.in-Ok.head c.in-Ok.next (sym c.in-Ok.is ∙ c.read_head.ensures.value) in (
+    let ready = rw c.in_ok-d.was at c.go_up.ensures.1 in
+    let few = in_total c.args.s.now c.args.limits 0 c.in_ok-d.place.at c.in-Ok.head c.in-Ok.next (sym c.in-Ok.is ∙ c.read_head.ensures.value) in (
       rw (
         c.go_up.ensures.0,
-        c.in-At.is,
-        one_more c.args.limits c.args.s.now c.args.left.now c.in-At.d c.in-At.place.at ready.1 ready.0 (omega arith),
+        c.in_ok-d.was,
+        one_more c.args.limits c.args.s.now c.args.left.now c.in_ok-d.d c.in_ok-d.place.at ready.1 ready.0 (omega arith),
         ← c.read_head.ensures.value,
         c.in-Ok.is,
         c.row_of-row.ensures,

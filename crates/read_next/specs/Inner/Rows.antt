@@ -1,23 +1,19 @@
 -- The rows of the functions of a chunk, in the order in which their bytes begin; and the rows that are still to come from a place in the
 -- middle, where `left` says how many functions are left at each level. A reading that is refused gives the rows up to there.
 -- (The totals over all functions are not tested: this is a pass over a chunk that was read. `proofs/Agreement.antt`: its rows are those of the reading.)
+use Rattle.std.specs.Prelude.{Option, Some, None, Result, Ok, Err}
+use Rattle.format.specs.declared.refusal.Refusal.{Refusal}
+use Rattle.read_prototype.specs.declared.parts.Tail.{Tail}
+use Rattle.slice.specs.declared.cursor.Cursor.{Cursor}
 use Rattle.std.specs.Prelude.{ℕ, zero, suc, ◌+◌, ◌-◌, ◌<◌, ◌≤◌, Bool, true, false, List, [], ◌∷◌, ◌++◌, length, drop, get_or, set}
 use Rattle.format.specs.declared.limits.ResourceLimits.{ResourceLimits}
 use Rattle.format.specs.Limits.{DEEPEST, MOST}
 use Rattle.format.specs.Form.{Bytes}
 use Rattle.format.specs.Reading.{Prototype}
 use Rattle.read_prototype.specs.declared.parts.Head.{Head}
-use Rattle.read_prototype.specs.declared.parts.HeadResult.{HeadResult}
-use Rattle.read_prototype.specs.declared.parts.HeadResult.TheVariants as head-answer
-use Rattle.read_prototype.specs.declared.parts.TailResult.{TailResult}
-use Rattle.read_prototype.specs.declared.parts.TailResult.TheVariants as tail-answer
 use Rattle.read_prototype.specs.Parts.{head, tail}
 use Rattle.read_prototype.specs.PartsShown.{head_result, tail_result}
 use Rattle.read_next.specs.declared.Row.{Row}
-use Rattle.read_next.specs.declared.Up.{Up}
-use Rattle.read_next.specs.declared.Up.TheVariants as up
-use Rattle.read_next.specs.declared.Met.{Met}
-use Rattle.read_next.specs.declared.Met.TheVariants as met-is
 
 -- the levels of functions, main's included
 abbrev pub LEVELS : ℕ
@@ -36,19 +32,19 @@ row_shown depth h = record {
 }
 
 -- a function's head, and its tail
-unfoldable pub head_at : ResourceLimits → Bytes → ℕ → HeadResult
+unfoldable pub head_at : ResourceLimits → Bytes → ℕ → Result (Head × Cursor) Refusal
 head_at L s at = head_result (head L 0 at (drop at s))
 
-unfoldable pub tail_at : ResourceLimits → Bytes → ℕ → TailResult
+unfoldable pub tail_at : ResourceLimits → Bytes → ℕ → Result (Tail × Cursor) Refusal
 tail_at L s at = tail_result (tail L.max_string_bytes at (drop at s))
 
-abbrev pub on_head : {R : Type 0} → ℕ → HeadResult → R → (Row → ℕ → R) → R
-on_head depth (head-answer.Ok h next) bad good = good (row_shown depth h) next.at
-on_head depth (head-answer.Err q) bad good = bad
+abbrev pub on_head : {R : Type 0} → ℕ → Result (Head × Cursor) Refusal → R → (Row → ℕ → R) → R
+on_head depth (Ok (h, next)) bad good = good (row_shown depth h) next.at
+on_head depth (Err q) bad good = bad
 
-abbrev pub on_tail : {R : Type 0} → TailResult → R → (ℕ → R) → R
-on_tail (tail-answer.Ok t next) bad good = good next.at
-on_tail (tail-answer.Err q) bad good = bad
+abbrev pub on_tail : {R : Type 0} → Result (Tail × Cursor) Refusal → R → (ℕ → R) → R
+on_tail (Ok (t, next)) bad good = good next.at
+on_tail (Err q) bad good = bad
 
 -- rows and the place behind them, or the rows up to a refusal
 pub data Walked : Type 0 where
@@ -106,25 +102,25 @@ any_row [] = false
 any_row (row ∷ rows) = true
 
 -- what the code's answers say
-abbrev pub up_to : ResourceLimits → Bytes → List ℕ → Up → List Row
-up_to L s left (up.At d place) = rows_from L s left d place.at
-up_to L s left up.End = []
+abbrev pub up_to : ResourceLimits → Bytes → List ℕ → Option (ℕ × Cursor) → List Row
+up_to L s left (Some (d, place)) = rows_from L s left d place.at
+up_to L s left None = []
 
-abbrev pub Ready : List ℕ → Up → Type 0
-Ready left (up.At d place) = (d < LEVELS) × (0 < get_or left d 0)
-Ready left up.End = Unit {0}
+abbrev pub Ready : List ℕ → Option (ℕ × Cursor) → Type 0
+Ready left (Some (d, place)) = (d < LEVELS) × (0 < get_or left d 0)
+Ready left None = Unit {0}
 
 -- one function fewer at the level d, and n at the level below it
 abbrev pub entered : List ℕ → ℕ → ℕ → List ℕ
 entered left d n = set (set left d (get_or left d 0 - 1)) (d + 1) n
 
-abbrev pub met : ResourceLimits → Bytes → List ℕ → Met → List Row
-met L s left (met-is.Function row d first) = row ∷ rows_from L s (entered left d row.protos) (d + 1) first.at
-met L s left met-is.End = []
+abbrev pub met : ResourceLimits → Bytes → List ℕ → Option (Row × ℕ × Cursor) → List Row
+met L s left (Some (row, d, first)) = row ∷ rows_from L s (entered left d row.protos) (d + 1) first.at
+met L s left None = []
 
-abbrev pub Within : List ℕ → Met → Type 0
-Within left (met-is.Function row d first) = (d < LEVELS) × (0 < get_or left d 0) × (row.instructions ≤ MOST)
-Within left met-is.End = Unit {0}
+abbrev pub Within : List ℕ → Option (Row × ℕ × Cursor) → Type 0
+Within left (Some (row, d, first)) = (d < LEVELS) × (0 < get_or left d 0) × (row.instructions ≤ MOST)
+Within left None = Unit {0}
 
 -- ## What a function of a reading shows
 abbrev pub prototype_row : Prototype → Row

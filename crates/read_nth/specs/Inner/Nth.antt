@@ -1,6 +1,6 @@
 -- The reader of the item of a list by its number: it passes over those before it.
 use Rattle.std.specs.Prelude.{ℕ}
-use Rattle.format.specs.Read.{Reader, next, ◌>>=◌, run, many}
+use Rattle.format.specs.Read.{Reader, ◌>>=◌, run, many}
 use Rattle.format.specs.ReadFields.{byte}
 use Rattle.format.specs.ReadChunk.{local}
 use Rattle.read_entry.specs.Readers.{RawLocal, raw_local}

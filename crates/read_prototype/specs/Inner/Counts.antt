@@ -1,23 +1,21 @@
 -- What a walk keeps of the parts of a function: how long its lists are, whether its source is spelt, and where its words and its constants begin.
-use Rattle.std.specs.Prelude.{Bool, true, false}
-use Rattle.format.specs.Read.{Read, ok, refused}
-use Rattle.slice.specs.Shown.{cursor_at}
-use Rattle.read_field.specs.declared.string.OptionString.{OptionString}
-use Rattle.read_field.specs.declared.string.OptionString.TheVariants as string
+use Rattle.std.specs.Prelude.{Option, Result}
+use Rattle.format.specs.declared.refusal.Refusal.{Refusal}
+use Rattle.read_field.specs.declared.string.StringAt.{StringAt}
+use Rattle.slice.specs.declared.cursor.Cursor.{Cursor}
+use Rattle.std.specs.Prelude.{Bool}
+use Rattle.std.specs.Option.{is_some}
+use Rattle.format.specs.Read.{Read}
+use Rattle.read_field.specs.Shown.{shown_as}
 use Rattle.read_prototype.specs.declared.parts.Head as declared-head
 use Rattle.read_prototype.specs.declared.parts.Tail as declared-tail
 use Rattle.read_prototype.specs.declared.pass.HeadCounts.{HeadCounts}
-use Rattle.read_prototype.specs.declared.pass.HeadCountsResult.{HeadCountsResult}
-use Rattle.read_prototype.specs.declared.pass.HeadCountsResult.TheVariants as head-answer
 use Rattle.read_prototype.specs.declared.pass.TailCounts.{TailCounts}
-use Rattle.read_prototype.specs.declared.pass.TailCountsResult.{TailCountsResult}
-use Rattle.read_prototype.specs.declared.pass.TailCountsResult.TheVariants as tail-answer
 use Rattle.read_prototype.specs.Parts.{Head, Tail}
 use Rattle.read_prototype.specs.PartsShown.{head_of, tail_of}
 
-abbrev pub is_spelt : OptionString → Bool
-is_spelt (string.Some t) = true
-is_spelt string.None = false
+abbrev pub is_spelt : Option StringAt → Bool
+is_spelt = is_some
 
 -- of what the code shows of the parts
 abbrev pub head_kept : declared-head.Head → HeadCounts
@@ -45,10 +43,8 @@ head_counts h = head_kept (head_of h)
 abbrev pub tail_counts : Tail → TailCounts
 tail_counts t = tail_kept (tail_of t)
 
-abbrev pub head_counts_result : Read Head → HeadCountsResult
-head_counts_result (ok h to rest) = head-answer.Ok (head_counts h) (cursor_at to)
-head_counts_result (refused q) = head-answer.Err q
+abbrev pub head_counts_result : Read Head → Result (HeadCounts × Cursor) Refusal
+head_counts_result = shown_as head_counts
 
-abbrev pub tail_counts_result : Read Tail → TailCountsResult
-tail_counts_result (ok t to rest) = tail-answer.Ok (tail_counts t) (cursor_at to)
-tail_counts_result (refused q) = tail-answer.Err q
+abbrev pub tail_counts_result : Read Tail → Result (TailCounts × Cursor) Refusal
+tail_counts_result = shown_as tail_counts

@@ -1,14 +1,14 @@
 -- What a walk shows of a function: its row.
 --     row_of p              the row of the function p
 --     lookup n k ps        of functions that are numbered from k on, the one with the number n, if it is among them
+use Rattle.std.specs.Prelude as prelude
+use Rattle.std.specs.Prelude.{Some, None}
 use Rattle.std.specs.Prelude.{cond, List, [], ◌∷◌, ℕ, ◌+◌, eqb, length}
 use Rattle.std.proofs.Math.Option.{Option, none, some}
 use Rattle.format.specs.Reading.{Prototype}
 use Rattle.read_field.specs.Shown.{option_string}
-use Rattle.read_prototype.specs.declared.row.ListAt.{ListAt}
+use Rattle.read_list.specs.declared.ListAt.{ListAt}
 use Rattle.read_prototype.specs.declared.row.FunctionRow.{FunctionRow}
-use Rattle.read_prototype.specs.declared.row.OptionRow.{OptionRow}
-use Rattle.read_prototype.specs.declared.row.OptionRow.TheVariants as option
 
 abbrev pub list_at : {A : Type 0} → List A → ℕ → ListAt
 list_at items place = record { count = length items; place = place }
@@ -34,9 +34,9 @@ row_of p = record {
   };
 }
 
-abbrev pub shown_row : Option Prototype → OptionRow
-shown_row none = option.None
-shown_row (some p) = option.Some (row_of p)
+abbrev pub shown_row : Option Prototype → prelude.Option FunctionRow
+shown_row none = None
+shown_row (some p) = Some (row_of p)
 
 abbrev pub lookup : ℕ → ℕ → List Prototype → Option Prototype
 lookup n k [] = none

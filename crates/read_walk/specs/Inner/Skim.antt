@@ -2,18 +2,18 @@
 --     entered L left w     a function that nests in another, below which functions nest at most `left` deep; `enteredBy f` where f reads the function
 --     on w k               where the next function stands, behind a walk that began at w
 --     skim_result w o       what a walk that began at w shows of what was read
+use Rattle.std.specs.Prelude.{Result, Ok, Err}
+use Rattle.format.specs.declared.refusal.Refusal.{Refusal}
 use Rattle.std.specs.Prelude.{List, ℕ, zero, suc, ◌+◌, length}
 use Rattle.format.specs.declared.limits.ResourceLimits.{ResourceLimits}
 use Rattle.format.specs.declared.refusal.Refusal.TheVariants.{NestingDepth, TotalPrototypes}
 use Rattle.format.specs.Reading.{Prototype}
 use Rattle.format.specs.GrammarChunk as grammar
 use Rattle.format.specs.GrammarChunk.{instructions_of}
-use Rattle.format.specs.Read.{Read, ok, refused, Reader, next, ◌>>=◌, ◌>>◌, here, refuse, at_most}
+use Rattle.format.specs.Read.{Read, ok, refused, Reader, ◌>>=◌, ◌>>◌, here, refuse, at_most}
 use Rattle.format.specs.ReadChunk.{function}
 use Rattle.slice.specs.Shown.{cursor_at}
 use Rattle.read_walk.specs.declared.walk.Skimmed.{Skimmed}
-use Rattle.read_walk.specs.declared.walk.SkimResult.{SkimResult}
-use Rattle.read_walk.specs.declared.walk.SkimResult.TheVariants as skim
 
 abbrev pub entered_by : (ℕ → grammar.Where → Reader (List Prototype)) → ResourceLimits → ℕ → grammar.Where → Reader (List Prototype)
 entered_by f L zero w = do
@@ -34,6 +34,6 @@ on w k = record { number = k.number; instructions = k.instructions; depth = w.de
 abbrev pub skimmed_of : grammar.Where → List Prototype → ℕ → Skimmed
 skimmed_of w ps to = record { next = cursor_at to; number = w.number + length ps; instructions = w.instructions + instructions_of ps }
 
-abbrev pub skim_result : grammar.Where → Read (List Prototype) → SkimResult
-skim_result w (ok ps to rest) = skim.Ok (skimmed_of w ps to)
-skim_result w (refused q) = skim.Err q
+abbrev pub skim_result : grammar.Where → Read (List Prototype) → Result Skimmed Refusal
+skim_result w (ok ps to rest) = Ok (skimmed_of w ps to)
+skim_result w (refused q) = Err q

@@ -5,6 +5,7 @@
 --     repeats_at            whether the one that is spelt at a place is the one that is spelt at another
 --     unpadded_at s at      the place behind the zero groups from the place on
 --     handed               where the source is spelt that the functions in a function inherit: at the function's own place, or where its parent's is
+use Rattle.std.specs.Prelude as prelude
 use Rattle.std.specs.Prelude.{◌≡◌, Bool, false, cond, [], ◌∷◌, ℕ, ◌+◌, ◌-◌, ◌≤◌, eqb, length, take, drop}
 use Rattle.std.proofs.Math.Option.{Option, none, some}
 use Rattle.format.specs.Form.{Bytes}
@@ -14,7 +15,6 @@ use Rattle.format.specs.ReadFields.{string}
 use Rattle.format.specs.ReadHeader.{same_bytes}
 use Rattle.format.specs.FullCopy.{equal_sources}
 use Rattle.read_field.specs.declared.string.StringAt.{StringAt}
-use Rattle.read_field.specs.declared.string.OptionString.{OptionString}
 use Rattle.read_field.specs.Shown.{option_string}
 
 abbrev pub Stands : Bytes → Option LuaString → Type 0
@@ -27,7 +27,7 @@ string_at t = record { place = t.place; len = length t.bytes }
 pub record SameString (s : Bytes) (first second : StringAt) (r : Bool) : Type 0 where
   pub is : (t u : LuaString) → first ≡ string_at t → second ≡ string_at u → Stands s (some t) → Stands s (some u) → r ≡ same_bytes t.bytes u.bytes
 
-pub record ParentsOwn (s : Bytes) (spelt : StringAt) (parent : OptionString) (r : Bool) : Type 0 where
+pub record ParentsOwn (s : Bytes) (spelt : StringAt) (parent : prelude.Option StringAt) (r : Bool) : Type 0 where
   pub is : (t : LuaString) (p : Option LuaString) → spelt ≡ string_at t → parent ≡ option_string p → Stands s (some t) → Stands s p → r ≡ equal_sources (some t) p
 
 abbrev pub spelt : Read (Option LuaString) → Option LuaString

@@ -1,5 +1,4 @@
 -- `read_entry::constant::float` meets its contract: by what was read. Assumes nothing.
-use borrow.Author.Rules.{rules}
 use Rattle.read_entry.proofs.constant.float.Goals as goal
 
 pub returns-in-Err : goal.returns-in-Err

@@ -1,5 +1,4 @@
 -- `read_entry::constant::integer` meets its contract: by what was read. Assumes nothing.
-use borrow.Author.Rules.{rules}
 use mir.Syntax.{w64}
 use mir.Facts.{to_z-of_z}
 use Rattle.read_entry.proofs.constant.integer.Goals as goal

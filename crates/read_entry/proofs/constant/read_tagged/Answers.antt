@@ -1,5 +1,4 @@
 -- `read_entry::constant::read_tagged` meets its contract: by the tag, and what was read behind it (`Constants.antt`). Assumes nothing.
-use borrow.Author.Rules.{rules}
 use borrow.Author.Tests.{ne_eqb}
 use lib.ListN.{drop}
 use Rattle.format.specs.ReadFields.{field, string}

@@ -1,6 +1,5 @@
 -- `read_entry::constant::signed` meets its contract (`Signed.antt`). Assumes nothing.
 use native.Mathlib.Omega.{arith}
-use borrow.Author.Rules.{rules}
 use mir.Syntax.{w64}
 use Rattle.read_entry.proofs.Signed.{negative_fits, negative_is}
 use Rattle.read_entry.proofs.constant.signed.Goals as goal

@@ -1,16 +1,14 @@
 -- `read_entry::debug::read_anchor` meets its contract: at each return the calls say which case of the reader holds (`DebugInfo.antt`). Assumes nothing.
 use mathlib.Core.Path.{sym, ◌∙◌}
-use borrow.Author.Rules.{rules}
-use Rattle.read_entry.proofs.DebugInfo.{pc_refused, line_refused, anchor-read}
+use Rattle.std.proofs.lemmas.Result.{err_from_is_err_and}
+use Rattle.read_entry.proofs.DebugInfo.{line_refused, anchor-read}
 use Rattle.read_entry.proofs.debug.read_anchor.Goals as goal
 
-pub returns-in-Err : goal.returns-in-Err
-returns-in-Err c = let a = c.args in pc_refused a.s.now a.cursor.at _ (sym c.in-Err.is ∙ c.read_value-pc.ensures)
+pub returns-in_err-line : goal.returns-in_err-line
+returns-in_err-line c = let a = c.args in
+    let p = err_from_is_err_and c.from_residual-in_err-line.result c.from_residual-in_err-line.ensures.1 in
+    rw (p.1, p.2) (line_refused a.s.now a.cursor.at _ _ (sym c.in_ok-pc.was ∙ c.read_value.ensures) _ (sym c.in_err-line.was ∙ c.read_value-2.ensures))
 
-pub returns-in-Err-line : goal.returns-in-Err-line
-returns-in-Err-line c = let a = c.args in
-    line_refused a.s.now a.cursor.at _ _ (sym c.in-Ok.is ∙ c.read_value-pc.ensures) _ (sym c.in-Err-line.is ∙ c.read_value-line.ensures)
-
-pub returns-in-Ok-line : goal.returns-in-Ok-line
-returns-in-Ok-line c = let a = c.args in
-    anchor-read a.s.now a.cursor.at _ _ (sym c.in-Ok.is ∙ c.read_value-pc.ensures) _ _ (sym c.in-Ok-line.is ∙ c.read_value-line.ensures)
+pub returns : goal.returns
+returns c = let a = c.args in
+    anchor-read a.s.now a.cursor.at _ _ (sym c.in_ok-pc.was ∙ c.read_value.ensures) _ _ (sym c.in_ok-line.was ∙ c.read_value-2.ensures)

@@ -1,6 +1,5 @@
 -- `read_entry::pass::add_absent` meets its contract: by whether the string is there. Assumes nothing.
 use mathlib.Core.Path.{sym}
-use borrow.Author.Rules.{rules}
 use Rattle.format_spelling.specs.Inner.Tally.{counts}
 use Rattle.format_spelling.proofs.Sums.{join_same}
 use Rattle.read_entry.proofs.pass.add_absent.Goals as goal

@@ -1,28 +1,28 @@
 -- `read_entry::pass::pass_locals` meets its contract. The invariant: there is room, and what all local variables show and add those left show and add (`TurnsCounted.antt`). Assumes nothing.
+use Rattle.std.proofs.lemmas.Result.{err_from_is_err_and}
 use mathlib.Core.Path.{sym, ◌∙◌}
 use native.Mathlib.Omega.{arith}
-use borrow.Author.Rules.{rules}
-use Rattle.format.specs.ReadChunk.{local}
 use Rattle.format.proofs.ExactChunk.{exact_local}
-use Rattle.format_spelling.specs.ReadSpelling as count
 use Rattle.format_spelling.proofs.SpellingLaws.{tells_local}
 use Rattle.format_spelling.proofs.Few.{few_local}
 use Rattle.format_spelling.proofs.Covers.{covers_few}
-use Rattle.read_entry.proofs.TurnsCounted.{Left, begins, ends, stops, goes_on_lem}
+use Rattle.read_entry.proofs.TurnsCounted.{begins, ends, stops, goes_on_lem}
 use Rattle.read_entry.proofs.pass.pass_locals.Goals as goal
 
-pub loop-left-init : goal.loop-left-init
-loop-left-init c = begins c.requires
+pub loop-init : goal.loop-init
+loop-init c = begins (omega arith) c.requires
 
-pub pass_local-passed-requires : goal.pass_local-passed-requires
-pass_local-passed-requires c = c.loop-left.invariant.room
+pub pass_local-requires : goal.pass_local-requires
+pass_local-requires c = c.loop.invariant.room
 
-pub returns-in-Err : goal.returns-in-Err
-returns-in-Err c = let both = stops c.loop-left.invariant (omega arith) (sym c.in-Err.is ∙ c.pass_local-passed.ensures.value) in record { value = both.0; adds = both.1 }
+pub returns-in_err-next : goal.returns-in_err-next
+returns-in_err-next c =
+    let p = err_from_is_err_and c.from_residual.result c.from_residual.ensures.1 in
+    rw (p.1, p.2) (let both = stops c.loop.invariant (omega arith) (sym c.in_err-next.was ∙ c.pass_local.ensures.value) in record { value = both.0; adds = both.1 })
 
-pub loop-left-preserved : goal.loop-left-preserved
-loop-left-preserved c = let limit = c.args.max_string_bytes in
-    goes_on_lem c.loop-left.invariant (omega arith) (exact_local limit) (covers_few (exact_local limit) (tells_local limit) (few_local limit)) (sym c.in-Ok.is ∙ c.pass_local-passed.ensures.value) c.pass_local-passed.ensures.adds
+pub loop-preserved : goal.loop-preserved
+loop-preserved c = let limit = c.args.max_string_bytes in
+    goes_on_lem c.loop.invariant (omega arith) (exact_local limit) (covers_few (exact_local limit) (tells_local limit) (few_local limit)) (sym c.in_ok-next.was ∙ c.pass_local.ensures.value) c.pass_local.ensures.adds
 
 pub returns : goal.returns
-returns c = let both = ends c.loop-left.invariant (omega arith) in record { value = both.0; adds = both.1 }
+returns c = let both = ends c.loop.invariant (omega arith) in record { value = both.0; adds = both.1 }

@@ -1,6 +1,5 @@
 -- `read_entry::runs::skip_upvalues` meets its contract: by how many single bytes are there (`FixedWidth.antt`). Assumes nothing.
 use native.Mathlib.Omega.{arith}
-use borrow.Author.Rules.{rules}
 use lib.ListN.{drop, length-drop}
 use Rattle.read_entry.proofs.FixedWidth.{upvalues_enough, upvalues-short}
 use Rattle.read_entry.proofs.runs.skip_upvalues.Goals as goal

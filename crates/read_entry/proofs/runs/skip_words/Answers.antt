@@ -1,7 +1,6 @@
 -- `read_entry::runs::skip_words` meets its contract: by how many words are there (`FixedWidth.antt`). Assumes nothing.
 use Prim.Native.Nat.{◌/◌}
 use native.Mathlib.Omega.{arith}
-use borrow.Author.Rules.{rules}
 use lib.ListN.{drop, length-drop}
 use Rattle.read_entry.proofs.FixedWidth.{fields_enough, fields_short}
 use Rattle.read_entry.proofs.runs.skip_words.Goals as goal

@@ -1,6 +1,5 @@
 -- `read_field::field::read_u64_le` meets its contract: by whether as many bytes are there. Assumes nothing.
 use native.Mathlib.Omega.{arith}
-use borrow.Author.Rules.{rules}
 use lib.ListN.{drop, length-drop}
 use Rattle.format.proofs.Steps.{field-short, field_enough}
 use Rattle.read_field.proofs.field.read_u64_le.Goals as goal

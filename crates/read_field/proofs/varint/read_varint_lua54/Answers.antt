@@ -3,7 +3,6 @@ use mathlib.Core.Path.{◌≡◌, sym, ◌∙◌, ap}
 use mathlib.Core.Bool.{false}
 use Prim.Native.Nat.{ℕ, ◌<◌, ◌≤◌, ◌+◌, ◌-◌, ◌*◌}
 use native.Mathlib.Omega.{arith}
-use borrow.Author.Rules.{rules}
 use borrow.Author.Tests.{ne_eqb}
 use lib.Dec.{eqb}
 use lib.ListN.{length, drop, get_or}
@@ -13,9 +12,7 @@ use Rattle.format.specs.Read.{ok}
 use Rattle.format.specs.ReadFields.{groups, number}
 use Rattle.format_spelling.specs.ReadSpelling.{is_padded}
 use Rattle.format.proofs.Steps.{groups-short, groups-last}
-use Rattle.read_field.specs.declared.varint.NumberResult.TheVariants as answer
 use Rattle.read_field.specs.Shown.{number_result}
-use Rattle.read_field.proofs.Numbers.{told_refused, told_read}
 use Rattle.read_field.proofs.varint.read_varint_lua54.Goals as goal
 
 -- (helper, to look at)
@@ -39,17 +36,3 @@ returns-then-byte-ge128 c =
     let w = c.wide-byte in
     let plain : is_padded (drop a.cursor.at a.s.now) ≡ false = leads a.s.now a.cursor.at w.result (omega arith) w.ensures.0 ∙ ne_eqb w.result 0 (λ z. omega (arith, z)) in
     sym (ap (λ b. number_result b (number a.cursor.at (drop a.cursor.at a.s.now))) plain ∙ ap (number_result false) (one_byte a.s.now a.cursor.at w.result (omega arith) w.ensures.0 (omega arith) (omega arith)))
-
-pub returns-in-Err : goal.returns-in-Err
-returns-in-Err c =
-    let a = c.args in
-    let s = drop a.cursor.at a.s.now in
-    told_refused (is_padded s) (number a.cursor.at s) _ (sym c.in-Err.is ∙ c.read_groups-read.ensures)
-
-pub returns-in-Ok : goal.returns-in-Ok
-returns-in-Ok c =
-    let a = c.args in
-    let w = c.wide-byte in
-    let s = drop a.cursor.at a.s.now in
-    ap (answer.Ok c.in-Ok.value c.in-Ok.next) (sym (leads a.s.now a.cursor.at w.result (omega arith) w.ensures.0))
-    ∙ told_read (is_padded s) (number a.cursor.at s) c.in-Ok.value c.in-Ok.next (sym c.in-Ok.is ∙ c.read_groups-read.ensures)

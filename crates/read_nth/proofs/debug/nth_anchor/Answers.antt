@@ -1,21 +1,16 @@
 -- `read_nth::debug::nth_anchor` meets its contract: those before the entry are passed over, then it is read (`Passing.antt`). Assumes nothing.
 use mathlib.Core.Path.{sym, ◌∙◌}
-use borrow.Author.Rules.{rules}
 use Rattle.format.specs.ReadChunk.{anchor}
 use Rattle.format.proofs.Exact.{exact_many}
 use Rattle.format.proofs.ExactChunk.{exact_anchor}
 use Rattle.read_entry.specs.Shown.{anchor_result}
 use Rattle.format_spelling.proofs.Tallies.{room_unused}
-use Rattle.read_nth.proofs.Passing.{first_refused, second_read}
+use Rattle.read_nth.proofs.Passing.{second_read}
 use Rattle.read_nth.proofs.debug.nth_anchor.Goals as goal
 
-pub pass_anchors-passed-requires : goal.pass_anchors-passed-requires
-pass_anchors-passed-requires c = room_unused _
+pub pass_anchors-requires : goal.pass_anchors-requires
+pass_anchors-requires c = room_unused _
 
-pub returns-in-Err : goal.returns-in-Err
-returns-in-Err c = let a = c.args in
-    first_refused (exact_many a.entry exact_anchor) anchor anchor_result a.s.now a.cursor.at _ (sym c.in-Err.is ∙ c.pass_anchors-passed.ensures.value)
-
-pub returns-in-Ok : goal.returns-in-Ok
-returns-in-Ok c = let a = c.args in
-    second_read (exact_many a.entry exact_anchor) anchor anchor_result a.s.now a.cursor.at _ (sym c.in-Ok.is ∙ c.pass_anchors-passed.ensures.value) c.read_anchor.ensures
+pub returns : goal.returns
+returns c = let a = c.args in
+    second_read (exact_many a.entry exact_anchor) anchor anchor_result a.s.now a.cursor.at _ (sym c.in_ok-next.was ∙ c.pass_anchors.ensures.value) c.read_anchor.ensures

@@ -1,5 +1,4 @@
 -- `read_walk::source::parents_own` meets its contract (`Sources.antt`). Assumes nothing.
-use borrow.Author.Rules.{rules}
 use Rattle.read_walk.proofs.Sources.{none_outer, some_outer}
 use Rattle.read_walk.proofs.source.parents_own.Goals as goal
 

@@ -1,6 +1,5 @@
 -- `read_walk::source::repeats` meets its contract: by whether a source is spelt at the first place (`Sources.antt`). Assumes nothing.
 use mathlib.Core.Path.{sym, subst, ◌∙◌}
-use borrow.Author.Rules.{rules}
 use Rattle.read_walk.specs.Inner.Source.{ParentsOwn, source_at}
 use Rattle.read_walk.proofs.Sources.{not-spelt, own_is}
 use Rattle.read_walk.proofs.source.repeats.Goals as goal

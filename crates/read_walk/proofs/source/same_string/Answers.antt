@@ -1,5 +1,4 @@
 -- `read_walk::source::same_string` meets its contract (`Sources.antt`). Assumes nothing.
-use borrow.Author.Rules.{rules}
 use Rattle.read_walk.proofs.Sources.{differ, no_room, compared}
 use Rattle.read_walk.proofs.source.same_string.Goals as goal
 

@@ -1,6 +1,5 @@
 -- `read_walk::source::source_at` meets its contract: by what was read at the place (`Sources.antt`). Assumes nothing.
 use mathlib.Core.Path.{sym, ◌∙◌}
-use borrow.Author.Rules.{rules}
 use lib.ListN.{drop}
 use Rattle.format.specs.ReadFields.{string}
 use Rattle.read_walk.proofs.Sources.{none_read, some_read}

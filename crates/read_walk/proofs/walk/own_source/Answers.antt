@@ -3,7 +3,6 @@ use mathlib.Core.Path.{◌≡◌, refl, sym, subst, ◌∙◌, ap}
 use mathlib.Core.Bool.{Bool, true, cond}
 use Prim.Native.Nat.{ℕ}
 use lib.Dec.{eqb}
-use borrow.Author.Rules.{rules}
 use Rattle.format_spelling.specs.Spelling.{◌⊕◌}
 use Rattle.format_spelling.specs.Inner.Tally.{counts, Fits}
 use Rattle.format_spelling.proofs.Sums.{join_same}

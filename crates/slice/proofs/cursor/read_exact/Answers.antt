@@ -1,6 +1,5 @@
 -- `slice::cursor::read_exact` meets its contract: by whether as many bytes are there. Assumes nothing.
 use native.Mathlib.Omega.{arith}
-use borrow.Author.Rules.{rules}
 use lib.ListN.{drop, length-drop}
 use Rattle.format.proofs.Steps.{run_short, run_enough}
 use Rattle.slice.proofs.cursor.read_exact.Goals as goal

@@ -1,6 +1,5 @@
 -- `slice::cursor::remaining` meets its contract. Assumes nothing.
 use native.Mathlib.Omega.{arith}
-use borrow.Author.Rules.{rules}
 use lib.ListN.{length-drop}
 use Rattle.slice.proofs.cursor.remaining.Goals as goal
 

@@ -1,7 +1,6 @@
 -- `slice::cursor::short` meets its contract: each answer rewrites with the test that led to it. Assumes nothing.
 use Prim.Native.Nat.{◌+◌, ◌^◌}
 use native.Mathlib.Omega.{arith}
-use borrow.Author.Rules.{rules}
 use borrow.Author.Tests.{lt-ltb, le-ltb}
 use Rattle.slice.proofs.cursor.short.Goals as goal
 

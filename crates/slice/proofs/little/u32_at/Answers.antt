@@ -1,6 +1,4 @@
 -- `slice::little::u32_at` meets its contract (`Fields.antt`'s `four`). Assumes nothing.
-use native.Mathlib.Omega.{arith}
-use borrow.Author.Rules.{rules}
 use Rattle.slice.proofs.Fields.{four}
 use Rattle.slice.proofs.little.u32_at.Goals as goal
 

@@ -1,5 +1,4 @@
 -- `slice::little::u64_at` meets its contract (`Fields.antt`'s `eight`). Assumes nothing.
-use borrow.Author.Rules.{rules}
 use Rattle.slice.proofs.Fields.{eight}
 use Rattle.slice.proofs.little.u64_at.Goals as goal
 
