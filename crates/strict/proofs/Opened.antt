@@ -5,6 +5,7 @@
 --     in_ceilings                  what a walk asks of the limits
 --     refused_so, same-reading     the answer, by what judging showed
 -- Assumes nothing.
+use Rattle.std.specs.Prelude.{Result, Ok, Err}
 use mathlib.Core.Path.{◌≡◌, sym, ◌∙◌, ap}
 use mathlib.Core.Bool.{true, false}
 use mathlib.Core.List.{List, [], ◌∷◌}
@@ -32,17 +33,13 @@ use Rattle.format_strict.specs.ReadStrict.{strict_function, strict_main, strict_
 use Rattle.format_strict.proofs.ExactStrict.{exact_strict_header}
 use Rattle.format_strict.proofs.StrictLaws.{strict_is-read}
 use Rattle.slice.specs.declared.cursor.Cursor.{Cursor}
-use Rattle.slice.specs.declared.cursor.CursorResult.{CursorResult}
-use Rattle.slice.specs.declared.cursor.CursorResult.TheVariants as cursor
 use Rattle.slice.specs.Inner.Results.{cursor_result}
 use Rattle.read_field.proofs.Shows.{onward, cursor_err, cursor_ok}
 use Rattle.read_list.proofs.Within.{regroup}
 use Rattle.read_walk.specs.declared.walk.Skimmed.{Skimmed}
-use Rattle.read_walk.specs.declared.walk.SkimResult.TheVariants as skim
 use Rattle.read_walk.specs.Inner.Skim.{skimmed_of, skim_result}
 use Rattle.read_walk.proofs.OneFunction.{skim_err}
 use Rattle.format.specs.declared.spelling.Spelling.{Spelling}
-use Rattle.show_chunk.specs.declared.summary.SummaryAnswer.TheVariants as answer
 use Rattle.show_chunk.specs.Summaries.{shown_summary}
 use Rattle.strict_entry.proofs.Chains.{value}
 use Rattle.strict.specs.Inner.Opening.{strict_opening}
@@ -89,10 +86,10 @@ main-is : (L : ResourceLimits) (at : ℕ) (s : Bytes) → next (strict_opening a
 main-is L at s = simp regroup
 
 module _ (L : ResourceLimits) (s : Bytes) where
-  pub opening_refused : {x : CursorResult} {q : Refusal} → x ≡ cursor_result (strict_opening 0 s) → x ≡ cursor.Err q → x ≡ cursor_result (strict_main L 0 s)
+  pub opening_refused : {x : Result Cursor Refusal} {q : Refusal} → x ≡ cursor_result (strict_opening 0 s) → x ≡ Err q → x ≡ cursor_result (strict_main L 0 s)
   opening_refused {q = q} e told = told ∙ sym (ap cursor_result (sym (main-is L 0 s) ∙ ap (λ o. next o (main_behind L)) (cursor_err (strict_opening 0 s) q (sym told ∙ e))))
 
-  module _ {x : CursorResult} {c : Cursor} (e : x ≡ cursor_result (strict_opening 0 s)) (told : x ≡ cursor.Ok c) where
+  module _ {x : Result Cursor Refusal} {c : Cursor} (e : x ≡ cursor_result (strict_opening 0 s)) (told : x ≡ Ok c) where
     abbrev functions-at : Read (List Prototype)
     functions-at = strict_function L L.max_nesting_depth outermost c.at (drop c.at s)
 
@@ -102,24 +99,24 @@ module _ (L : ResourceLimits) (s : Bytes) where
     to_functions : strict_main L 0 s ≡ next functions-at made
     to_functions = sym (main-is L 0 s) ∙ ap (λ o. next o (main_behind L)) (onward exact_opening s 0 (cursor_ok (strict_opening 0 s) c (sym told ∙ e)).was)
 
-    pub functions-refused : (q : Refusal) → skim.Err q ≡ skim_result outermost functions-at → cursor.Err q ≡ cursor_result (strict_main L 0 s)
+    pub functions-refused : (q : Refusal) → Err q ≡ skim_result outermost functions-at → Err q ≡ cursor_result (strict_main L 0 s)
     functions-refused q h = sym (ap cursor_result (to_functions ∙ ap (λ o. next o made) (skim_err outermost functions-at q h)))
 
-    pub functions-passed : (k : Skimmed) → skim.Ok k ≡ skim_result outermost functions-at → cursor.Ok k.next ≡ cursor_result (strict_main L 0 s)
+    pub functions-passed : (k : Skimmed) → Ok k ≡ skim_result outermost functions-at → Ok k.next ≡ cursor_result (strict_main L 0 s)
     functions-passed k h = by functions-at h ∙ sym (ap cursor_result to_functions)
       where
-        by : (o : Read (List Prototype)) → skim.Ok k ≡ skim_result outermost o → cursor.Ok k.next ≡ cursor_result (next o made)
-        by (ok ps to rest) h = let all : k ≡ skimmed_of outermost ps to = cc in ap (λ k. cursor.Ok k.next) all
+        by : (o : Read (List Prototype)) → Ok k ≡ skim_result outermost o → Ok k.next ≡ cursor_result (next o made)
+        by (ok ps to rest) h = let all : k ≡ skimmed_of outermost ps to = cc in ap (λ k. Ok k.next) all
         by (refused q) h = absurd (let z : ◌≡◌ {A = ℕ} 0 1 = cc in omega arith)
 
 -- ## The answer
 module _ (L : ResourceLimits) (s : Bytes) (k : Spelling) where
-  pub above : within_ceilings L ≡ false → answer.Err LimitAboveCeiling ≡ shown_summary k (strict_read L s)
+  pub above : within_ceilings L ≡ false → Err LimitAboveCeiling ≡ shown_summary k (strict_read L s)
   unfolding strict_read
   above e = rw e
 
   module _ (within : within_ceilings L ≡ true) where
-    pub too_long : L.max_input_bytes < length s → answer.Err InputBytes ≡ shown_summary k (strict_read L s)
+    pub too_long : L.max_input_bytes < length s → Err InputBytes ≡ shown_summary k (strict_read L s)
     unfolding strict_read
     too_long h = rw (within, lt-leb (length s) L.max_input_bytes h)
 
@@ -128,11 +125,11 @@ module _ (L : ResourceLimits) (s : Bytes) (k : Spelling) where
       unfolding strict_read
       by_main = rw (within, le-leb (length s) L.max_input_bytes short)
 
-      pub refused_so : (q : Refusal) → cursor.Err q ≡ cursor_result (strict_main L 0 s) → answer.Err q ≡ shown_summary k (strict_read L s)
+      pub refused_so : (q : Refusal) → Err q ≡ cursor_result (strict_main L 0 s) → Err q ≡ shown_summary k (strict_read L s)
       refused_so q e = sym (ap (shown_summary k) (by_main ∙ ap (outcome L) (cursor_err (strict_main L 0 s) q e)))
 
       -- what is read strictly is what is read
-      pub same-reading : (c : Cursor) → cursor.Ok c ≡ cursor_result (strict_main L 0 s) → read L s ≡ strict_read L s
+      pub same-reading : (c : Cursor) → Ok c ≡ cursor_result (strict_main L 0 s) → read L s ≡ strict_read L s
       same-reading c e =
           let p = cursor_ok (strict_main L 0 s) c e in
           let all : strict_read L s ≡ shown (reading L p.value c.at p.was.rest) = by_main ∙ ap (outcome L) p.was.is in

@@ -5,6 +5,8 @@
 --     tag-..               a constant's tag
 --     two, named           what an anchor and a local variable end as: two ints, a string and two ints
 -- Assumes nothing.
+use Rattle.std.specs.Prelude as prelude
+use Rattle.std.specs.Prelude.{Some, None, Result, Ok, Err}
 use mathlib.Core.Path.{◌≡◌, refl, sym, ◌∙◌, ap}
 use mathlib.Core.List.{[], ◌∷◌}
 use mathlib.Core.Option.{Option, none, some, get_or}
@@ -22,34 +24,21 @@ use Rattle.format.specs.ReadFields.{field, string}
 use Rattle.format.proofs.ExactFields.{exact_field}
 use Rattle.format_strict.specs.ReadStrict.{int, there, strict_tagged, strict_constant, strict_anchor, strict_local}
 use Rattle.slice.specs.declared.cursor.Cursor.{Cursor}
-use Rattle.slice.specs.declared.cursor.CursorResult.{CursorResult}
-use Rattle.slice.specs.declared.cursor.CursorResult.TheVariants as cursor
 use Rattle.slice.specs.Shown.{cursor_at}
 use Rattle.slice.specs.Inner.Results.{cursor_result}
-use Rattle.read_field.specs.declared.field.U8Result.TheVariants as u8
-use Rattle.read_field.specs.declared.field.U64Result.TheVariants as u64
-use Rattle.read_field.specs.declared.string.OptionString.{OptionString}
-use Rattle.read_field.specs.declared.string.OptionString.TheVariants as option
 use Rattle.read_field.specs.declared.string.StringAt.{StringAt}
-use Rattle.read_field.specs.declared.string.StringResult.TheVariants as str
-use Rattle.read_field.specs.Shown.{u8_result, u64_result, string_result}
-use Rattle.read_field.proofs.Shows.{onward, u8_err, u8_ok, u64_err, string_err}
+use Rattle.read_field.specs.Shown.{shown, option_string, string_result}
+use Rattle.read_field.proofs.Shows.{onward, shown_ok}
 use Rattle.strict_entry.proofs.Chains.{value, alike}
 
 -- ## Ends of what was read
-pub int-end : (o : Read ℕ) (v : ℕ) (c : Cursor) → u64.Ok v c ≡ u64_result o → cursor.Ok c ≡ cursor_result o
-int-end (ok w to rest) v c e = let same : c ≡ cursor_at to = cc in ap cursor.Ok same
+pub int-end : (o : Read ℕ) (v : ℕ) (c : Cursor) → Ok (v, c) ≡ shown o → Ok c ≡ cursor_result o
+int-end (ok w to rest) v c e = let both : ◌≡◌ {A = ℕ × Cursor} (v, c) (w, cursor_at to) = cc in ap (λ p. Ok p.1) both
 int-end (refused q) v c e = absurd (let z : ◌≡◌ {A = ℕ} 0 1 = cc in omega arith)
 
-pub int_stop : (o : Read ℕ) (q : Refusal) → u64.Err q ≡ u64_result o → cursor.Err q ≡ cursor_result o
-int_stop o q e = sym (ap cursor_result (u64_err o q e))
-
-pub string-end : (o : Read (Option LuaString)) (t : OptionString) (c : Cursor) → str.Ok t c ≡ string_result o → cursor.Ok c ≡ cursor_result o
-string-end (ok w to rest) t c e = let same : c ≡ cursor_at to = cc in ap cursor.Ok same
+pub string-end : (o : Read (Option LuaString)) (t : prelude.Option StringAt) (c : Cursor) → Ok (t, c) ≡ string_result o → Ok c ≡ cursor_result o
+string-end (ok w to rest) t c e = let both : ◌≡◌ {A = prelude.Option StringAt × Cursor} (t, c) (option_string w, cursor_at to) = cc in ap (λ p. Ok p.1) both
 string-end (refused q) t c e = absurd (let z : ◌≡◌ {A = ℕ} 0 1 = cc in omega arith)
-
-pub string_stop : (o : Read (Option LuaString)) (q : Refusal) → str.Err q ≡ string_result o → cursor.Err q ≡ cursor_result o
-string_stop o q e = sym (ap cursor_result (string_err o q e))
 
 -- eight bytes that are passed over
 pub eight : {B : Type 0} (f : ℕ → B) (at : ℕ) (s : Bytes) → cursor_result (run 8 at s) ≡ cursor_result (next (field 8 at s) (λ n. give (f n)))
@@ -57,27 +46,29 @@ eight f at s = sym (value (field 8 at s) f ∙ value (run 8 at s) little)
 
 -- ## A string that must be there
 module _ (at : ℕ) where
-  pub present_stop : (o : Read (Option LuaString)) (q : Refusal) → str.Err q ≡ string_result o → cursor.Err q ≡ cursor_result (next o (there at))
-  present_stop o q e = sym (ap (λ o. cursor_result (next o (there at))) (string_err o q e))
-
-  pub present-none : (o : Read (Option LuaString)) (c : Cursor) → str.Ok option.None c ≡ string_result o → cursor.Err (NullString at) ≡ cursor_result (next o (there at))
+  pub present-none : (o : Read (Option LuaString)) (c : Cursor) → Ok (None, c) ≡ string_result o → Err (NullString at) ≡ cursor_result (next o (there at))
   present-none (ok none to rest) c e = refl
-  present-none (ok (some t) to rest) c e = absurd (let z : ◌≡◌ {A = ℕ} 0 1 = cc in omega arith)
+  present-none (ok (some t) to rest) c e =
+      let both : ◌≡◌ {A = prelude.Option StringAt × Cursor} (None, c) (option_string (some t), cursor_at to) = cc in
+      let absent : ◌≡◌ {A = prelude.Option StringAt} None (option_string (some t)) = ap (λ p. p.0) both in
+      absurd (let z : ◌≡◌ {A = ℕ} 0 1 = cc in omega arith)
   present-none (refused q) c e = absurd (let z : ◌≡◌ {A = ℕ} 0 1 = cc in omega arith)
 
-  pub present_some : (o : Read (Option LuaString)) (t : StringAt) (c : Cursor) → str.Ok (option.Some t) c ≡ string_result o → cursor.Ok c ≡ cursor_result (next o (there at))
-  present_some (ok none to rest) t c e = absurd (let z : ◌≡◌ {A = ℕ} 0 1 = cc in omega arith)
-  present_some (ok (some u) to rest) t c e = let same : c ≡ cursor_at to = cc in ap cursor.Ok same
+  pub present_some : (o : Read (Option LuaString)) (t : StringAt) (c : Cursor) → Ok (Some t, c) ≡ string_result o → Ok c ≡ cursor_result (next o (there at))
+  present_some (ok none to rest) t c e =
+      let both : ◌≡◌ {A = prelude.Option StringAt × Cursor} (Some t, c) (None, cursor_at to) = cc in
+      let present : ◌≡◌ {A = prelude.Option StringAt} (Some t) None = ap (λ p. p.0) both in
+      absurd (let z : ◌≡◌ {A = ℕ} 0 1 = cc in omega arith)
+  present_some (ok (some u) to rest) t c e =
+      let both : ◌≡◌ {A = prelude.Option StringAt × Cursor} (Some t, c) (option_string (some u), cursor_at to) = cc in
+      ap (λ p. Ok p.1) both
   present_some (refused q) t c e = absurd (let z : ◌≡◌ {A = ℕ} 0 1 = cc in omega arith)
 
 -- ## A constant's tag
 module _ (s : Bytes) (limit at : ℕ) where
-  pub tag_refused : (q : Refusal) → u8.Err q ≡ u8_result (field 1 at (drop at s)) → cursor.Err q ≡ cursor_result (strict_constant limit at (drop at s))
-  tag_refused q e = rw (u8_err (field 1 at (drop at s)) q e)
-
-  pub tag_read : (v : ℕ) (c : Cursor) → u8.Ok v c ≡ u8_result (field 1 at (drop at s)) → {r : CursorResult} → r ≡ cursor_result (strict_tagged limit at v c.at (drop c.at s))
+  pub tag_read : (v : ℕ) (c : Cursor) → Ok (v, c) ≡ shown (field 1 at (drop at s)) → {r : Result Cursor Refusal} → r ≡ cursor_result (strict_tagged limit at v c.at (drop c.at s))
       → r ≡ cursor_result (strict_constant limit at (drop at s))
-  tag_read v c e f = rw (onward (exact_field 1) s at (u8_ok (field 1 at (drop at s)) v c e)) f
+  tag_read v c e f = rw (onward (exact_field 1) s at (shown_ok (field 1 at (drop at s)) v c e)) f
 
 -- ## Anchors and local variables, by their parts
 abbrev pub anchor_of : ℕ → ℕ → AbsLineInfo

@@ -18,7 +18,7 @@ use Rattle.format.proofs.Every.{Every, any, every_then, every_is, every_given, e
 use Rattle.format_strict.specs.GrammarStrict.{Int, StrictCounted, StrictCountedUpTo, StrictConstant, StrictAnchor, StrictLocal}
 use Rattle.format_strict.proofs.ExactStrict.{exact_int, exact_strict_counted, exact_strict_counted_up_to, exact_strict_constant, exact_strict_anchor, exact_strict_local}
 use Rattle.read_entry.specs.Readers.{Count}
-use Rattle.read_prototype.specs.Front.{Front, sizes}
+use Rattle.read_prototype.specs.Front.{Front}
 use Rattle.read_prototype.specs.Parts.{Head, Tail}
 use Rattle.read_prototype.proofs.FrontAnswers.{SizesForm, exact_sizes}
 use Rattle.strict_walk.specs.Inner.StrictParts.{strict_code, strict_protos, strict_line_info, strict_front, strict_lists, strict_head, strict_tail}

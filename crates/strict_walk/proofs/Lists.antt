@@ -1,9 +1,11 @@
 -- Lists behind their counts, passed over: what the code shows of the count and of the end of the items is what the reader shows of the list.
---     count_stops, count_passes        for any reader of a count, and of as many items: the end
---     length_stops, length-read        the length too
---     up_to, code_is                   a list whose count is held to limits, by a reader of that count
+--     count_passes     for any reader of a count, and of as many items: the end
+--     length-read      the length too
+--     up_to, code_is   a list whose count is held to limits, by a reader of that count
 -- A count that is held to a limit: read_list's `held-..`, where nothing is counted.
 -- Assumes nothing.
+use Rattle.std.specs.Prelude.{Result, Ok, Err}
+use Rattle.read_list.specs.declared.ListAt.{ListAt}
 use mathlib.Core.Path.{◌≡◌, refl, sym, ◌∙◌, ap}
 use mathlib.Core.List.{List, []}
 use Prim.Native.Nat.{ℕ, ◌+◌, ◌<◌, ◌≤◌}
@@ -21,30 +23,21 @@ use Rattle.format_strict.specs.GrammarStrict.{Int}
 use Rattle.format_strict.specs.ReadStrict.{int, strict_counted_up_to}
 use Rattle.format_strict.proofs.ExactStrict.{exact_int}
 use Rattle.slice.specs.declared.cursor.Cursor.{Cursor}
-use Rattle.slice.specs.declared.cursor.CursorResult.{CursorResult}
-use Rattle.slice.specs.declared.cursor.CursorResult.TheVariants as cursor
 use Rattle.slice.specs.Inner.Results.{cursor_result}
-use Rattle.read_field.specs.declared.field.U64Result.{U64Result}
-use Rattle.read_field.specs.declared.field.U64Result.TheVariants as u64
-use Rattle.read_field.specs.Shown.{u64_result}
-use Rattle.read_field.proofs.Shows.{onward, u64_err, u64_ok}
-use Rattle.read_list.specs.declared.ListResult.{ListResult}
-use Rattle.read_list.specs.declared.ListResult.TheVariants as list
+use Rattle.read_field.specs.Shown.{shown}
+use Rattle.read_field.proofs.Shows.{onward, shown_ok}
 use Rattle.read_list.specs.Inner.Shown.{listed_of, list_result}
-use Rattle.read_list.proofs.Listing.{Sized, behind_count, Held, exact_held, held, held-refused, held_above, held-within, tested_then, count-refused, count-read}
+use Rattle.read_list.proofs.Listing.{Sized, behind_count, Held, exact_held, held, held_above, held-within, tested_then, count-read}
 use Rattle.strict_entry.proofs.Chains.{value}
 use Rattle.strict_walk.specs.Inner.StrictParts.{int_up_to, strict_code_count, strict_code}
 use Rattle.strict_walk.specs.Inner.Results.{length_result}
 
 -- ## A count within a limit
-module _ {r : Reader ℕ} {F : Form ℕ} (exact : Exact r F) (f : ℕ → ℕ) (limit : ℕ) (q : Refusal) (s : Bytes) (at : ℕ) {z : U64Result} (e : z ≡ u64_result (r at (drop at s))) where
-  pub within-refused : {p : Refusal} → z ≡ u64.Err p → z ≡ u64_result (held r f limit q at (drop at s))
-  within-refused told = (held-refused exact f limit q s at (e, adds_none {t = []}) told).0
-
-  pub within_above : {v : ℕ} {c : Cursor} → z ≡ u64.Ok v c → limit < f v → u64.Err q ≡ u64_result (held r f limit q at (drop at s))
+module _ {r : Reader ℕ} {F : Form ℕ} (exact : Exact r F) (f : ℕ → ℕ) (limit : ℕ) (q : Refusal) (s : Bytes) (at : ℕ) {z : Result (ℕ × Cursor) Refusal} (e : z ≡ shown (r at (drop at s))) where
+  pub within_above : {v : ℕ} {c : Cursor} → z ≡ Ok (v, c) → limit < f v → Err q ≡ shown (held r f limit q at (drop at s))
   within_above told h = (held_above exact f limit q s at (e, adds_none {t = []}) told h).0
 
-  pub within_limit : {v : ℕ} {c : Cursor} → z ≡ u64.Ok v c → f v ≤ limit → u64.Ok v c ≡ u64_result (held r f limit q at (drop at s))
+  pub within_limit : {v : ℕ} {c : Cursor} → z ≡ Ok (v, c) → f v ≤ limit → Ok (v, c) ≡ shown (held r f limit q at (drop at s))
   within_limit told h = (held-within exact f limit q s at (e, adds_none {t = []}) told h).0
 
 pub exact_int_up_to : (limit : ℕ) (q : Refusal) → Exact (int_up_to limit q) (Held Int (λ n. n) limit)
@@ -54,28 +47,22 @@ pub exact_code_count : (per-proto before total at : ℕ) → Exact (held (int_up
 exact_code_count per-proto before total at = exact_held (exact_int_up_to per-proto (Instructions at)) (λ n. before + n) total (TotalInstructions at)
 
 -- ## The end of a list
-module _ {A : Type 0} {count : Reader ℕ} {F : Form ℕ} (exact : Exact count F) (r : ℕ → Reader (List A)) (s : Bytes) (at : ℕ) {z : U64Result} (e : z ≡ u64_result (count at (drop at s))) where
-  pub count_stops : {q : Refusal} → z ≡ u64.Err q → cursor.Err q ≡ cursor_result ((count >>= behind_count r) at (drop at s))
-  count_stops {q} told = sym (ap (λ o. cursor_result (next o (behind_count r))) (u64_err (count at (drop at s)) q (sym told ∙ e)))
-
-  pub count_passes : {v : ℕ} {c : Cursor} → z ≡ u64.Ok v c → {y : CursorResult} → y ≡ cursor_result (r v c.at (drop c.at s)) → y ≡ cursor_result ((count >>= behind_count r) at (drop at s))
+module _ {A : Type 0} {count : Reader ℕ} {F : Form ℕ} (exact : Exact count F) (r : ℕ → Reader (List A)) (s : Bytes) (at : ℕ) {z : Result (ℕ × Cursor) Refusal} (e : z ≡ shown (count at (drop at s))) where
+  pub count_passes : {v : ℕ} {c : Cursor} → z ≡ Ok (v, c) → {y : Result Cursor Refusal} → y ≡ cursor_result (r v c.at (drop c.at s)) → y ≡ cursor_result ((count >>= behind_count r) at (drop at s))
   count_passes {v} {c} told rest =
-      rest ∙ sym (ap (λ o. cursor_result (next o (behind_count r))) (onward exact s at (u64_ok (count at (drop at s)) v c (sym told ∙ e))) ∙ value (r v c.at (drop c.at s)) (λ items. record { place = c.at; items = items }))
+      rest ∙ sym (ap (λ o. cursor_result (next o (behind_count r))) (onward exact s at (shown_ok (count at (drop at s)) v c (sym told ∙ e))) ∙ value (r v c.at (drop c.at s)) (λ items. record { place = c.at; items = items }))
 
 -- ## Its length too
-abbrev pub length_of : ListResult → U64Result
-length_of (list.Ok n place c) = u64.Ok n c
-length_of (list.Err q) = u64.Err q
+abbrev pub length_of : Result (ListAt × Cursor) Refusal → Result (ℕ × Cursor) Refusal
+length_of (Ok (l, c)) = Ok (l.count, c)
+length_of (Err q) = Err q
 
 length-is : {A : Type 0} (o : Read (Listed A)) → length_of (list_result o) ≡ length_result o
 length-is (ok l to rest) = refl
 length-is (refused q) = refl
 
-module _ {A : Type 0} {count : Reader ℕ} {F : Form ℕ} (exact : Exact count F) (r : ℕ → Reader (List A)) (sized : (n : ℕ) → Sized (r n) n) (s : Bytes) (at : ℕ) {z : U64Result} (e : z ≡ u64_result (count at (drop at s))) where
-  pub length_stops : {q : Refusal} → z ≡ u64.Err q → u64.Err q ≡ length_result ((count >>= behind_count r) at (drop at s))
-  length_stops told = ap length_of (count-refused exact sized s at told e) ∙ length-is ((count >>= behind_count r) at (drop at s))
-
-  pub length-read : {v : ℕ} {c : Cursor} → z ≡ u64.Ok v c → {x : CursorResult} → x ≡ cursor_result (r v c.at (drop c.at s)) → length_of (listed_of x v c.at) ≡ length_result ((count >>= behind_count r) at (drop at s))
+module _ {A : Type 0} {count : Reader ℕ} {F : Form ℕ} (exact : Exact count F) (r : ℕ → Reader (List A)) (sized : (n : ℕ) → Sized (r n) n) (s : Bytes) (at : ℕ) {z : Result (ℕ × Cursor) Refusal} (e : z ≡ shown (count at (drop at s))) where
+  pub length-read : {v : ℕ} {c : Cursor} → z ≡ Ok (v, c) → {x : Result Cursor Refusal} → x ≡ cursor_result (r v c.at (drop c.at s)) → length_of (listed_of x v c.at) ≡ length_result ((count >>= behind_count r) at (drop at s))
   length-read told p = ap length_of (count-read exact sized s at told e p refl) ∙ length-is ((count >>= behind_count r) at (drop at s))
 
 -- ## Counts that are held to limits

@@ -1,7 +1,7 @@
 -- Those passed so far by `pass_functions`, wherever the first of them stands: its loop's invariant.
 -- Assumes nothing.
 use Prim.Native.Nat.{ℕ}
-use mathlib.Core.Path.{◌≡◌}
+use mathlib.Core.Path.{◌≡◌, subst}
 use mathlib.Core.List.{List, []}
 use Rattle.format.specs.declared.limits.ResourceLimits.{ResourceLimits}
 use Rattle.format.specs.Form.{Bytes}
@@ -18,3 +18,7 @@ pub record Passed (s : Bytes) (L : ResourceLimits) (left n from : ℕ) (k : Skim
 
 pub begin : (s : Bytes) (L : ResourceLimits) (left n : ℕ) (k : Skimmed) (w : Where) → k.number ≡ w.number → k.instructions ≡ w.instructions → Passed s L left n k.next.at k n w
 begin s L left n k w e i = record { passed = []; so_far = starts (entered_by (strict_function L) L left) s w n k e i }
+
+-- the same, by another term for how many are left
+pub as_many : {s : Bytes} {L : ResourceLimits} {left n from : ℕ} {k : Skimmed} {more same : ℕ} {w : Where} → more ≡ same → Passed s L left n from k more w → Passed s L left n from k same w
+as_many {s} {L} {left} {n} {from} {k} {w = w} e p = subst (λ more. Passed s L left n from k more w) e p

@@ -6,51 +6,37 @@ ghost use Rattle.format.specs.ReadChunk.{forest};
 ghost use Rattle.format_strict.specs.ReadStrict.{strict_function};
 ghost use Rattle.read_walk.specs.Inner.Skim.{entered_by, skim_result};
 
-use crate::parts::{HeadPassed, pass_head, pass_tail};
+use crate::parts::{pass_head, pass_tail};
 use format::limits::ResourceLimits;
 use format::refusal::Refusal;
-use read_walk::walk::{SkimResult, Skimmed};
-use slice::cursor::CursorResult;
+use read_walk::walk::Skimmed;
 
 // Passes over a function and all that nest in it, at most `left` deep. Ruled out: nested functions that are not counted, instructions that are counted twice.
 #[cycle(pass_function_pass_functions)]
-fn pass_function(s: &[u8], limits: ResourceLimits, left: usize, from: Skimmed) -> SkimResult
+fn pass_function(
+    s: &[u8],
+    limits: ResourceLimits,
+    left: usize,
+    from: Skimmed,
+) -> Result<Skimmed, Refusal>
     requires { Walkable limits × (from.number ≤ MOST) }
     ensures { (w : grammar.Where) → from.number ≡ w.number → from.instructions ≡ w.instructions → result ≡ skim_result w (strict_function limits left w from.next.at (drop from.next.at s.now)) }
 {
-    let begins = pass_head(s, limits, from.instructions, from.next);
-    match begins {
-        HeadPassed::Err(refusal) => SkimResult::Err(refusal),
-        HeadPassed::Ok {
-            instructions: instructions,
-            protos: protos,
-            next: behind,
-        } => {
-            let mut nested = Skimmed {
-                next: behind,
-                number: from.number + 1,
-                instructions: from.instructions + instructions,
-            };
-            if protos > 0 {
-                let inner = pass_functions(s, limits, protos, left, nested);
-                match inner {
-                    SkimResult::Err(refusal) => return SkimResult::Err(refusal),
-                    SkimResult::Ok(later) => {
-                        nested = later;
-                    }
-                }
-            }
-            let ends = pass_tail(s, limits.max_string_bytes, nested.next);
-            match ends {
-                CursorResult::Err(refusal) => SkimResult::Err(refusal),
-                CursorResult::Ok(next) => SkimResult::Ok(Skimmed {
-                    next: next,
-                    number: nested.number,
-                    instructions: nested.instructions,
-                }),
-            }
-        }
+    let (instructions, protos, behind) = pass_head(s, limits, from.instructions, from.next)?;
+    let mut nested = Skimmed {
+        next: behind,
+        number: from.number + 1,
+        instructions: from.instructions + instructions,
+    };
+    if protos > 0 {
+        nested = pass_functions(s, limits, protos, left, nested)?;
     }
+    let next = pass_tail(s, limits.max_string_bytes, nested.next)?;
+    Ok(Skimmed {
+        next,
+        number: nested.number,
+        instructions: nested.instructions,
+    })
 }
 
 // Passes over n functions one after the other, each nested in a function below which functions nest at most `left` deep.
@@ -61,34 +47,31 @@ fn pass_functions(
     n: usize,
     left: usize,
     from: Skimmed,
-) -> SkimResult
+) -> Result<Skimmed, Refusal>
     requires { Walkable limits }
     ensures { (w : grammar.Where) → from.number ≡ w.number → from.instructions ≡ w.instructions → result ≡ skim_result w (forest n (entered_by (strict_function limits) limits left) w from.next.at (drop from.next.at s.now)) }
 {
     let mut passed = from;
-    let mut more = n;
-    while more > 0 {
+    for _ in 0..n {
         let at = passed.next.at;
         if left == 0 {
-            return SkimResult::Err(Refusal::NestingDepth(at));
+            return Err(Refusal::NestingDepth(at));
         }
         if limits.max_total_prototypes < passed.number {
-            return SkimResult::Err(Refusal::TotalPrototypes(at));
+            return Err(Refusal::TotalPrototypes(at));
         }
-        let one = pass_function(s, limits, left - 1, passed);
-        match one {
-            SkimResult::Err(refusal) => return SkimResult::Err(refusal),
-            SkimResult::Ok(later) => {
-                passed = later;
-            }
-        }
-        more -= 1;
+        passed = pass_function(s, limits, left - 1, passed)?;
     }
-    SkimResult::Ok(passed)
+    Ok(passed)
 }
 
 // Passes over main and all that nest in it, at most `left` deep: as one function of a list, so that the compiler puts pass_function, which then has one caller, into the loop.
-pub fn pass_main(s: &[u8], limits: ResourceLimits, left: usize, from: Skimmed) -> SkimResult
+pub fn pass_main(
+    s: &[u8],
+    limits: ResourceLimits,
+    left: usize,
+    from: Skimmed,
+) -> Result<Skimmed, Refusal>
     requires { Walkable limits × (left ≤ DEEPEST) }
     ensures { (w : grammar.Where) → w.number ≡ 0 → from.number ≡ w.number → from.instructions ≡ w.instructions → result ≡ skim_result w (strict_function limits left w from.next.at (drop from.next.at s.now)) }
 {

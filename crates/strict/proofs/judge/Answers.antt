@@ -1,22 +1,28 @@
 -- `strict::judge` meets its contract: by what stands before main and what a walk over the functions showed (`Opened.antt`). Assumes nothing.
+use Rattle.std.proofs.lemmas.Result.{err_from_is_err_and}
 use mathlib.Core.Path.{refl, sym, ◌∙◌}
-use borrow.Author.Rules.{rules}
 use Rattle.format.specs.GrammarChunk.{outermost}
 use Rattle.strict.proofs.Opened.{opening_refused, functions-refused, functions-passed}
 use Rattle.strict.proofs.judge.Goals as goal
 
-pub returns-in_default : goal.returns-in_default
-returns-in_default c = let a = c.args in opening_refused a.limits a.s.now c.pass_opening-opening.ensures c.in_default.is
-
-pub pass_main-functions-requires : goal.pass_main-functions-requires
-pass_main-functions-requires c = c.requires
-
-pub returns-in-Err : goal.returns-in-Err
-returns-in-Err c =
+pub returns-in_err-first : goal.returns-in_err-first
+returns-in_err-first c =
     let a = c.args in
-    functions-refused a.limits a.s.now c.pass_opening-opening.ensures c.in-Ok.is _ (sym c.in-Err.is ∙ c.pass_main-functions.ensures outermost refl refl refl)
+    let p = err_from_is_err_and c.from_residual.result c.from_residual.ensures.1 in
+    rw (p.1, p.2) (sym c.in_err-first.was ∙ opening_refused a.limits a.s.now c.pass_opening.ensures c.in_err-first.was)
 
-pub returns-in-Ok-functions : goal.returns-in-Ok-functions
-returns-in-Ok-functions c =
+pub pass_main-requires : goal.pass_main-requires
+pass_main-requires c = c.requires
+
+pub returns-in_err-passed : goal.returns-in_err-passed
+returns-in_err-passed c =
     let a = c.args in
-    functions-passed a.limits a.s.now c.pass_opening-opening.ensures c.in-Ok.is _ (sym c.in-Ok-functions.is ∙ c.pass_main-functions.ensures outermost refl refl refl)
+    let p = err_from_is_err_and c.from_residual-in_err-passed.result c.from_residual-in_err-passed.ensures.1 in
+    rw (p.1, p.2)
+    (functions-refused a.limits a.s.now c.pass_opening.ensures c.in_ok-first.was _
+    (sym c.in_err-passed.was ∙ c.pass_main.ensures outermost refl refl refl))
+
+pub returns : goal.returns
+returns c =
+    let a = c.args in
+    functions-passed a.limits a.s.now c.pass_opening.ensures c.in_ok-first.was _ (sym c.in_ok-passed.was ∙ c.pass_main.ensures outermost refl refl refl)

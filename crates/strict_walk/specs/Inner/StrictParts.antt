@@ -6,7 +6,7 @@ use Rattle.format.specs.declared.refusal.Refusal.TheVariants.{Instructions, Tota
 use Rattle.format.specs.declared.entry.UpvalueDesc.{UpvalueDesc}
 use Rattle.format.specs.Reading.{ConstantValue}
 use Rattle.format.specs.GrammarChunk.{Listed}
-use Rattle.format.specs.Read.{Reader, next, ◌>>=◌, ◌>>◌, give, here, at_most, run, many}
+use Rattle.format.specs.Read.{Reader, ◌>>=◌, ◌>>◌, give, here, at_most, run, many}
 use Rattle.format.specs.ReadFields.{field, string}
 use Rattle.format.specs.ReadChunk.{upvalue}
 use Rattle.format_strict.specs.ReadStrict.{int, strict_counted, strict_counted_up_to, strict_constant, strict_anchor, strict_local}

@@ -1,14 +1,8 @@
 -- `strict_entry::pass::pass_anchors` meets its contract. The invariant: what all anchors show those left show (`Turns.antt`). Assumes nothing.
-use mathlib.Core.Path.{sym, ◌∙◌}
-use native.Mathlib.Omega.{arith}
-use borrow.Author.Rules.{rules}
+use Prim.Native.Nat.{◌-◌}
 use Rattle.format_strict.specs.ReadStrict.{strict_anchor}
-use Rattle.format_strict.proofs.ExactStrict.{exact_strict_anchor}
-use Rattle.strict_entry.proofs.Turns.{Left, begins, ends, stops, goes_on_lem}
+use Rattle.strict_entry.proofs.Turns.{Left}
 use Rattle.strict_entry.proofs.pass.pass_anchors.Given as goal
 
-abbrev pub invariant-loop-left : goal.invariant-loop-left
-invariant-loop-left l = Left strict_anchor l.s l.n l.initial.next.at l.left l.next.at
-
-abbrev pub decreases-loop-left : goal.decreases-loop-left
-decreases-loop-left l = l.left
+abbrev pub invariant-loop : goal.invariant-loop
+invariant-loop l = Left strict_anchor l.s l.n l.initial.next.at (l.n - l.counter) l.next.at

@@ -1,20 +1,21 @@
 -- `strict_entry::pass::pass_strings` meets its contract. The invariant: what all strings show those left show (`Turns.antt`). Assumes nothing.
+use Rattle.std.proofs.lemmas.Result.{err_from_is_err_and}
 use mathlib.Core.Path.{sym, ◌∙◌}
 use native.Mathlib.Omega.{arith}
-use borrow.Author.Rules.{rules}
-use Rattle.format.specs.ReadFields.{string}
 use Rattle.format.proofs.ExactFields.{exact_string}
-use Rattle.strict_entry.proofs.Turns.{Left, begins, ends, stops, goes_on_lem}
+use Rattle.strict_entry.proofs.Turns.{begins, ends, stops, goes_on_lem}
 use Rattle.strict_entry.proofs.pass.pass_strings.Goals as goal
 
-pub loop-left-init : goal.loop-left-init
-loop-left-init c = begins
+pub loop-init : goal.loop-init
+loop-init c = begins (omega arith)
 
-pub returns-in-Err : goal.returns-in-Err
-returns-in-Err c = stops c.loop-left.invariant (omega arith) (sym c.in-Err.is ∙ c.pass_string-passed.ensures)
+pub returns-in_err-next : goal.returns-in_err-next
+returns-in_err-next c =
+    let p = err_from_is_err_and c.from_residual.result c.from_residual.ensures.1 in
+    rw (p.1, p.2) (stops c.loop.invariant (omega arith) (sym c.in_err-next.was ∙ c.pass_string.ensures))
 
-pub loop-left-preserved : goal.loop-left-preserved
-loop-left-preserved c = goes_on_lem c.loop-left.invariant (omega arith) (exact_string c.args.max_string_bytes) (sym c.in-Ok.is ∙ c.pass_string-passed.ensures)
+pub loop-preserved : goal.loop-preserved
+loop-preserved c = goes_on_lem c.loop.invariant (omega arith) (exact_string c.args.max_string_bytes) (sym c.in_ok-next.was ∙ c.pass_string.ensures)
 
 pub returns : goal.returns
-returns c = ends c.loop-left.invariant (omega arith)
+returns c = ends c.loop.invariant (omega arith)

@@ -1,14 +1,8 @@
 -- `strict_entry::pass::pass_strings` meets its contract. The invariant: what all strings show those left show (`Turns.antt`). Assumes nothing.
-use mathlib.Core.Path.{sym, ◌∙◌}
-use native.Mathlib.Omega.{arith}
-use borrow.Author.Rules.{rules}
+use Prim.Native.Nat.{◌-◌}
 use Rattle.format.specs.ReadFields.{string}
-use Rattle.format.proofs.ExactFields.{exact_string}
-use Rattle.strict_entry.proofs.Turns.{Left, begins, ends, stops, goes_on_lem}
+use Rattle.strict_entry.proofs.Turns.{Left}
 use Rattle.strict_entry.proofs.pass.pass_strings.Given as goal
 
-abbrev pub invariant-loop-left : goal.invariant-loop-left
-invariant-loop-left l = Left (string l.max_string_bytes) l.s l.n l.initial.next.at l.left l.next.at
-
-abbrev pub decreases-loop-left : goal.decreases-loop-left
-decreases-loop-left l = l.left
+abbrev pub invariant-loop : goal.invariant-loop
+invariant-loop l = Left (string l.max_string_bytes) l.s l.n l.initial.next.at (l.n - l.counter) l.next.at

@@ -1,7 +1,6 @@
 -- `strict_entry::pass::pass_tagged` meets its contract: by the tag (`Entries.antt`). Assumes nothing.
 use mathlib.Core.Path.{sym, ◌∙◌}
 use mathlib.Core.Logic.{inl, inr, ⊎_elim}
-use borrow.Author.Rules.{rules}
 use borrow.Author.Tests.{ne_eqb}
 use lib.ListN.{drop}
 use Rattle.format.specs.Reading.{integer, float, short_string, long_string}

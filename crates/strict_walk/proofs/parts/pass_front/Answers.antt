@@ -1,6 +1,6 @@
 -- `strict_walk::parts::pass_front` meets its contract: a source, two ints and three bytes, one behind the other (strict_entry's `Chains.antt`). Assumes nothing.
-use mathlib.Core.Path.{◌∙◌}
-use borrow.Author.Rules.{rules}
+use Rattle.std.proofs.lemmas.Result.{err_from_is_err_and}
+use mathlib.Core.Path.{sym, ◌∙◌}
 use lib.ListN.{drop}
 use Rattle.format.specs.ReadFields.{string}
 use Rattle.format.proofs.ExactFields.{exact_string}
@@ -11,22 +11,19 @@ use Rattle.strict_walk.proofs.Continued.{front_of, behind_last, behind_first, be
 use Rattle.strict_walk.proofs.HeadAnswers.{three}
 use Rattle.strict_walk.proofs.parts.pass_front.Goals as goal
 
-pub returns-in_default : goal.returns-in_default
-returns-in_default c =
+pub returns-in_err-further : goal.returns-in_err-further
+returns-in_err-further c =
     let a = c.args in
-    stops (string a.max_string_bytes) (behind_source) a.s.now a.cursor.at c.pass_string-source.ensures c.in_default.is
+    let p = err_from_is_err_and c.from_residual-in_err-further.result c.from_residual-in_err-further.ensures.1 in
+    rw (p.1, p.2) (sym c.in_err-further.was ∙ passes (string a.max_string_bytes) (behind_source) a.s.now a.cursor.at c.pass_string.ensures (exact_string a.max_string_bytes) c.in_ok-behind.was (λ source. stops int (behind_first source) a.s.now c.in_ok-behind.behind.at c.pass_int.ensures c.in_err-further.was))
 
-pub returns-in_default-first : goal.returns-in_default-first
-returns-in_default-first c =
+pub returns-in_err-next : goal.returns-in_err-next
+returns-in_err-next c =
     let a = c.args in
-    passes (string a.max_string_bytes) (behind_source) a.s.now a.cursor.at c.pass_string-source.ensures (exact_string a.max_string_bytes) c.in-Ok.is (λ source. stops int (behind_first source) a.s.now c.in-Ok.behind.at c.pass_int-first.ensures c.in_default-first.is)
-
-pub returns-in_default-last : goal.returns-in_default-last
-returns-in_default-last c =
-    let a = c.args in
-    passes (string a.max_string_bytes) (behind_source) a.s.now a.cursor.at c.pass_string-source.ensures (exact_string a.max_string_bytes) c.in-Ok.is (λ source. passes int (behind_first source) a.s.now c.in-Ok.behind.at c.pass_int-first.ensures exact_int c.in-Ok-first.is (λ first. stops int (behind_last source first) a.s.now c.in-Ok-first.further.at c.pass_int-last.ensures c.in_default-last.is))
+    let p = err_from_is_err_and c.from_residual-in_err-next.result c.from_residual-in_err-next.ensures.1 in
+    rw (p.1, p.2) (sym c.in_err-next.was ∙ passes (string a.max_string_bytes) (behind_source) a.s.now a.cursor.at c.pass_string.ensures (exact_string a.max_string_bytes) c.in_ok-behind.was (λ source. passes int (behind_first source) a.s.now c.in_ok-behind.behind.at c.pass_int.ensures exact_int c.in_ok-further.was (λ first. stops int (behind_last source first) a.s.now c.in_ok-further.further.at c.pass_int-2.ensures c.in_err-next.was)))
 
 pub returns : goal.returns
 returns c =
     let a = c.args in
-    passes (string a.max_string_bytes) (behind_source) a.s.now a.cursor.at c.pass_string-source.ensures (exact_string a.max_string_bytes) c.in-Ok.is (λ source. passes int (behind_first source) a.s.now c.in-Ok.behind.at c.pass_int-first.ensures exact_int c.in-Ok-first.is (λ first. passes int (behind_last source first) a.s.now c.in-Ok-first.further.at c.pass_int-last.ensures exact_int c.in-Ok-last.is (λ last. c.skip_upvalues.ensures ∙ three (front_of source first last) c.in-Ok-last.next.at (drop c.in-Ok-last.next.at a.s.now))))
+    passes (string a.max_string_bytes) (behind_source) a.s.now a.cursor.at c.pass_string.ensures (exact_string a.max_string_bytes) c.in_ok-behind.was (λ source. passes int (behind_first source) a.s.now c.in_ok-behind.behind.at c.pass_int.ensures exact_int c.in_ok-further.was (λ first. passes int (behind_last source first) a.s.now c.in_ok-further.further.at c.pass_int-2.ensures exact_int c.in_ok-next.was (λ last. c.skip_upvalues.ensures ∙ three (front_of source first last) c.in_ok-next.next.at (drop c.in_ok-next.next.at a.s.now))))
