@@ -6,14 +6,13 @@ use mathlib.Core.Path.{◌≡◌, refl}
 use mathlib.Core.List.{List, [], ◌∷◌, map}
 use Prim.Native.Nat.{ℕ}
 use lib.IntN.{negsuc}
+use Rattle.std.specs.Prelude.{Option, Some, None, Result, Ok, Err}
+use Rattle.format.specs.declared.refusal.Refusal.{Refusal}
 use Rattle.format.specs.declared.refusal.Refusal.TheVariants.{FieldRange, NoOpcode}
 use Rattle.format.specs.Refusals.{reported, bare}
+use Rattle.word_opcodes.specs.declared.opcode.Opcode54.{Opcode54}
 use Rattle.word_opcodes.specs.declared.opcode.Opcode54.TheVariants.{Loadi, Jmp}
-use Rattle.word_opcodes.specs.declared.opcode.OptionOpcode54.{OptionOpcode54}
-use Rattle.word_opcodes.specs.declared.opcode.OptionOpcode54.TheVariants.{Some, None}
 use Rattle.word_fields.specs.declared.instruction.RawInstruction54.{RawInstruction54}
-use Rattle.word_fields.specs.declared.instruction.Encoded.{Encoded}
-use Rattle.word_fields.specs.declared.instruction.Encoded.TheVariants.{Word, Refused}
 use Rattle.word_fields.specs.Word.{decoded, encoded}
 
 -- what is asked: a word's opcode, the word of some fields, or a word encoded back from its own
@@ -23,8 +22,8 @@ pub data Question : Type 0 where
   back_from : ℕ → Question
 
 pub data Answer : Type 0 where
-  opcode : OptionOpcode54 → Answer
-  word : Encoded → Answer
+  opcode : Option Opcode54 → Answer
+  word : Result ℕ Refusal → Answer
 
 abbrev pub answer : Question → Answer
 answer (opcode_of w) = opcode (decoded w).opcode
@@ -67,10 +66,10 @@ jmp r = record {
 
 unfoldable pub cases : RawInstruction54 → List (Question × Answer)
 cases r =
-    (word_of (loadi r), word (Word 0x7fff0081)) ∷
-    (word_of (jmp r), word (Word 0x7fffff38)) ∷
+    (word_of (loadi r), word (Ok 0x7fff0081)) ∷
+    (word_of (jmp r), word (Ok 0x7fffff38)) ∷
     (opcode_of 0x00000053, opcode None) ∷
-    (back_from 0x00000053, word (Refused NoOpcode)) ∷ []
+    (back_from 0x00000053, word (Err NoOpcode)) ∷ []
 
 pub all_hold : (r : RawInstruction54) → map (λ c. answer c.0) (cases r) ≡ map (λ c. c.1) (cases r)
 unfolding cases loadi jmp decoded encoded

@@ -11,15 +11,13 @@ use lib.Bits.{bit_or, or_block, or_zero_r, or_shifted_r}
 use lib.Dec.{ltb}
 use lib.IntN.{ℤ, pos, negsuc, ◌+ℤ◌}
 use borrow.Author.Tests.{ltb-true}
+use Rattle.std.specs.Prelude.{Some, None, Result, Ok, Err}
+use Rattle.format.specs.declared.refusal.Refusal.{Refusal}
 use Rattle.format.specs.declared.refusal.Refusal.TheVariants.{FieldRange}
 use Rattle.word_opcodes.specs.declared.opcode.Opcode54.{Opcode54}
-use Rattle.word_opcodes.specs.declared.opcode.OptionOpcode54.TheVariants.{Some}
 use Rattle.word_opcodes.specs.declared.opcode.OpMode54.{OpMode54}
 use Rattle.word_opcodes.specs.declared.opcode.OpMode54.TheVariants.{IABC, IABx, IAsBx, IAx, IsJ}
 use Rattle.word_fields.specs.declared.instruction.RawInstruction54.{RawInstruction54}
-use Rattle.word_fields.specs.declared.instruction.Encoded.{Encoded}
-use Rattle.word_fields.specs.declared.instruction.Encoded.TheVariants.{Word, Refused}
-use Rattle.word_fields.specs.declared.instruction.Unbiased.TheVariants.{In, Out}
 use Rattle.word_opcodes.specs.Lopcodes.{◌<<◌, ◌∣◌, cast_uint, CREATE-ABCk, CREATE-ABx, CREATE-Ax, CREATE-sJ}
 use Rattle.word_opcodes.specs.Lopcodes.{POS-OP, POS-A, POS-k, POS-B, POS-C, POS-Bx, POS-Ax, SIZE-OP, SIZE-A, SIZE-B, SIZE-C, SIZE-Bx, SIZE-Ax, SIZE-sJ}
 use Rattle.word_opcodes.specs.Lopcodes.{OFFSET-sBx, OFFSET-sJ}
@@ -69,18 +67,19 @@ module _ (o : ℕ) (ho : o < 2 ^ SIZE-OP) where
         ∙ omega arith
 
 -- an answer that is a word
-picked : (t : Bool) (s : ℕ) {w : ℕ} → cond t (Word s) (Refused FieldRange) ≡ Word w → (t ≡ true) × (s ≡ w)
+picked : (t : Bool) (s : ℕ) {w : ℕ} → cond t (Ok s) (Err FieldRange) ≡ Ok w → (t ≡ true) × (s ≡ w)
 picked true s e = (refl, cc)
 picked false s e = let z : ◌≡◌ {A = ℕ} 0 1 = cc in absurd (omega arith)
 
 -- with a signed field in it
-unpicked : (z : ℤ) (limit : ℕ) (f : ℕ → Encoded) {w : ℕ} → with_unbiased (unbiased z limit) f ≡ Word w → (n : ℕ) × (z ≡ pos n) × (f n ≡ Word w)
+unpicked : (z : ℤ) (limit : ℕ) (f : ℕ → Result ℕ Refusal) {w : ℕ} → with_unbiased (unbiased z limit) f ≡ Ok w
+    → (n : ℕ) × (z ≡ pos n) × (f n ≡ Ok w)
 unpicked (pos n) limit f {w} e = go (ltb n limit) refl
   where
-    go : (t : Bool) → ltb n limit ≡ t → (m : ℕ) × (pos n ≡ pos m) × (f m ≡ Word w)
-    go true s = (n, refl, sym (ap (λ x. with_unbiased (cond x (In n) Out) f) s) ∙ e)
+    go : (t : Bool) → ltb n limit ≡ t → (m : ℕ) × (pos n ≡ pos m) × (f m ≡ Ok w)
+    go true s = (n, refl, sym (ap (λ x. with_unbiased (cond x (Some n) None) f) s) ∙ e)
     go false s =
-        let none : Refused FieldRange ≡ Word w = sym (ap (λ x. with_unbiased (cond x (In n) Out) f) s) ∙ e in
+        let none : Err FieldRange ≡ Ok w = sym (ap (λ x. with_unbiased (cond x (Some n) None) f) s) ∙ e in
         let z : ◌≡◌ {A = ℕ} 0 1 = cc in
         absurd (omega arith)
 unpicked (negsuc n) limit f e = let z : ◌≡◌ {A = ℕ} 0 1 = cc in absurd (omega arith)
@@ -89,19 +88,21 @@ module _ (o : Opcode54) where
   low : number_of o < 2 ^ SIZE-OP
   low = omega (arith, number_lt o)
 
-  is_abx : {w : ℕ} (a v : ℕ) → a < 2 ^ 8 → encodedIABx o a v ≡ Word w → (w ≡ CREATE-ABx (number_of o) a v) × (v < 2 ^ SIZE-Bx)
+  is_abx : {w : ℕ} (a v : ℕ) → a < 2 ^ 8 → encodedIABx o a v ≡ Ok w
+      → (w ≡ CREATE-ABx (number_of o) a v) × (v < 2 ^ SIZE-Bx)
   is_abx a v ha e =
       let p = picked (ltb v (2 ^ SIZE-Bx)) _ e in
       let hv = ltb-true v (2 ^ SIZE-Bx) p.0 in
       (sym (of_abx (number_of o) low a ha v hv ∙ p.1), hv)
 
-  is_ax : {w : ℕ} (v : ℕ) → encodedIAx o v ≡ Word w → (w ≡ CREATE-Ax (number_of o) v) × (v < 2 ^ SIZE-Ax)
+  is_ax : {w : ℕ} (v : ℕ) → encodedIAx o v ≡ Ok w → (w ≡ CREATE-Ax (number_of o) v) × (v < 2 ^ SIZE-Ax)
   is_ax v e =
       let p = picked (ltb v (2 ^ SIZE-Ax)) _ e in
       let hv = ltb-true v (2 ^ SIZE-Ax) p.0 in
       (sym (of_ax (number_of o) low v hv ∙ p.1), hv)
 
-  by_mode_lem : {w : ℕ} (r : RawInstruction54) → Bytes r → (m : OpMode54) → by_mode m o r ≡ Word w → w ≡ created m (number_of o) r
+  by_mode_lem : {w : ℕ} (r : RawInstruction54) → Bytes r → (m : OpMode54) → by_mode m o r ≡ Ok w
+      → w ≡ created m (number_of o) r
   by_mode_lem r h IABC e =
       let p = picked (ltb r.k 2) _ e in
       sym (of_abc (number_of o) low r.a h.a r.b r.c r.k h.b h.c (ltb-true r.k 2 p.0) ∙ p.1)
@@ -117,5 +118,6 @@ module _ (o : Opcode54) where
       p.0 ∙ sym (or_zero_r (CREATE-Ax (number_of o) u.0))
       ∙ ap (λ v. CREATE-sJ (number_of o) v 0) (sym (ap cast_uint u.1 ∙ mod-eq_of_lt (omega arith)))
 
-pub words : (r : RawInstruction54) → Bytes r → (o : Opcode54) (w : ℕ) → r.opcode ≡ Some o → encoded r ≡ Word w → w ≡ created (mode_of o) (number_of o) r
+pub words : (r : RawInstruction54) → Bytes r → (o : Opcode54) (w : ℕ) → r.opcode ≡ Some o → encoded r ≡ Ok w
+    → w ≡ created (mode_of o) (number_of o) r
 words r h o w f e = by_mode_lem o r h (mode_of o) (chosen r f refl refl refl ∙ e)

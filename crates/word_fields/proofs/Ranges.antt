@@ -10,16 +10,13 @@ use lib.Dec.{ltb, leb}
 use lib.IntN.{ℤ, pos, negsuc, sub_ℕ, ◌+ℤ◌}
 use lib.Signed.{le_z}
 use borrow.Author.Tests.{lt-ltb, le-ltb, leb-true, leb-false}
+use Rattle.std.specs.Prelude.{Option, Some, None, Result, Ok, Err}
+use Rattle.format.specs.declared.refusal.Refusal.{Refusal}
 use Rattle.format.specs.declared.refusal.Refusal.TheVariants.{FieldRange}
 use Rattle.word_opcodes.specs.declared.opcode.Opcode54.{Opcode54}
-use Rattle.word_opcodes.specs.declared.opcode.OptionOpcode54.TheVariants.{Some}
 use Rattle.word_opcodes.specs.declared.opcode.OpMode54.{OpMode54}
 use Rattle.word_opcodes.specs.declared.opcode.OpMode54.TheVariants.{IABC, IABx, IAsBx, IAx, IsJ}
 use Rattle.word_fields.specs.declared.instruction.RawInstruction54.{RawInstruction54}
-use Rattle.word_fields.specs.declared.instruction.Encoded.{Encoded}
-use Rattle.word_fields.specs.declared.instruction.Encoded.TheVariants.{Word, Refused}
-use Rattle.word_fields.specs.declared.instruction.Unbiased.{Unbiased}
-use Rattle.word_fields.specs.declared.instruction.Unbiased.TheVariants.{In, Out}
 use Rattle.word_opcodes.specs.Table.{mode_of}
 use Rattle.word_fields.specs.Word.{unbiased, with_unbiased, encodedIABx, encodedIAx, by_mode, encoded}
 use Rattle.word_fields.proofs.Words.{chosen}
@@ -32,15 +29,15 @@ in_range IAsBx r = le_z (negsuc 65534) r.sbx && le_z r.sbx (pos 65536)
 in_range IAx r = ltb r.ax (2 ^ 25)
 in_range IsJ r = le_z (negsuc 16777214) r.sj && le_z r.sj (pos 16777216)
 
-abbrev pub is_word : Encoded → Bool
-is_word (Word w) = true
-is_word (Refused x) = false
+abbrev pub is_word : Result ℕ Refusal → Bool
+is_word (Ok w) = true
+is_word (Err x) = false
 
-abbrev is_in : Unbiased → Bool
-is_in (In n) = true
-is_in Out = false
+abbrev is_in : Option ℕ → Bool
+is_in (Some n) = true
+is_in None = false
 
-of_pick : (t : Bool) (n : ℕ) → is_in (cond t (In n) Out) ≡ t
+of_pick : (t : Bool) (n : ℕ) → is_in (cond t (Some n) None) ≡ t
 of_pick true n = refl
 of_pick false n = refl
 
@@ -61,15 +58,17 @@ signed k (negsuc n) = go (leb n k) refl
     go false e = rw (lt-ltb (suc k) (suc n) (omega (arith, leb-false n k e)), e)
 
 -- what is handed on makes a word
-handed : (z : ℤ) (limit : ℕ) (f : ℕ → Encoded) → ((n : ℕ) → is_word (f n) ≡ ltb n limit) → is_word (with_unbiased (unbiased z limit) f) ≡ is_in (unbiased z limit)
+handed : (z : ℤ) (limit : ℕ) (f : ℕ → Result ℕ Refusal) → ((n : ℕ) → is_word (f n) ≡ ltb n limit)
+    → is_word (with_unbiased (unbiased z limit) f) ≡ is_in (unbiased z limit)
 handed (pos n) limit f h = go (ltb n limit) refl
   where
-    go : (t : Bool) → ltb n limit ≡ t → is_word (with_unbiased (cond (ltb n limit) (In n) Out) f) ≡ is_in (cond (ltb n limit) (In n) Out)
+    go : (t : Bool) → ltb n limit ≡ t → is_word (with_unbiased (cond (ltb n limit) (Some n) None) f)
+        ≡ is_in (cond (ltb n limit) (Some n) None)
     go true e = rw e (h n ∙ e)
     go false e = rw e
 handed (negsuc n) limit f h = refl
 
-of_word : (t : Bool) (s : ℕ) → is_word (cond t (Word s) (Refused FieldRange)) ≡ t
+of_word : (t : Bool) (s : ℕ) → is_word (cond t (Ok s) (Err FieldRange)) ≡ t
 of_word true s = refl
 of_word false s = refl
 

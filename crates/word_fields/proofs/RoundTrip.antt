@@ -12,15 +12,13 @@ use lib.IntN.{pos, ◌+ℤ◌, ◌-ℤ◌, -ℤ-+ℤ_cancel}
 use lib.ListN.{get_or}
 use lib.Pow.{pow_pos}
 use borrow.Author.Tests.{lt-ltb, ltb-true}
+use Rattle.std.specs.Prelude.{Some, None, Result, Ok, Err}
+use Rattle.format.specs.declared.refusal.Refusal.{Refusal}
+use Rattle.format.specs.declared.refusal.Refusal.TheVariants.{NoOpcode}
 use Rattle.word_opcodes.specs.declared.opcode.Opcode54.{Opcode54}
 use Rattle.word_opcodes.specs.declared.opcode.Opcode54.TheVariants.{Move}
-use Rattle.word_opcodes.specs.declared.opcode.OptionOpcode54.TheVariants.{Some, None}
 use Rattle.word_opcodes.specs.declared.opcode.OpMode54.{OpMode54}
 use Rattle.word_opcodes.specs.declared.opcode.OpMode54.TheVariants.{IABC, IABx, IAsBx, IAx, IsJ}
-use Rattle.word_fields.specs.declared.instruction.Encoded.{Encoded}
-use Rattle.word_fields.specs.declared.instruction.Encoded.TheVariants.{Word, Refused}
-use Rattle.word_fields.specs.declared.instruction.Unbiased.TheVariants.{In, Out}
-use Rattle.format.specs.declared.refusal.Refusal.TheVariants.{NoOpcode}
 use Rattle.word_opcodes.specs.Lopcodes.{POS-OP, POS-A, POS-k, POS-B, POS-C, POS-Bx, POS-Ax, POS-sJ}
 use Rattle.word_opcodes.specs.Lopcodes.{SIZE-OP, SIZE-A, SIZE-B, SIZE-C, SIZE-Bx, SIZE-Ax, SIZE-sJ}
 use Rattle.word_opcodes.specs.Lopcodes.{OFFSET-sBx, OFFSET-sJ}
@@ -50,26 +48,26 @@ module _ (w : ℕ) (fits : w < 2 ^ 32) where
         ∙ low_bits POS-C SIZE-C w
         ∙ mod-eq_of_lt fits
 
-    abx : encodedIABx o (bits POS-A SIZE-A w) (bits POS-Bx SIZE-Bx w) ≡ Word w
+    abx : encodedIABx o (bits POS-A SIZE-A w) (bits POS-Bx SIZE-Bx w) ≡ Ok w
     abx =
         rw (small POS-Bx SIZE-Bx w)
-        (ap Word (ap (λ x. x + at POS-Bx (bits POS-Bx SIZE-Bx w)) with_a ∙ low_bits POS-Bx SIZE-Bx w ∙ mod-eq_of_lt fits))
+        (ap Ok (ap (λ x. x + at POS-Bx (bits POS-Bx SIZE-Bx w)) with_a ∙ low_bits POS-Bx SIZE-Bx w ∙ mod-eq_of_lt fits))
 
-    ax : encodedIAx o (bits POS-Ax SIZE-Ax w) ≡ Word w
+    ax : encodedIAx o (bits POS-Ax SIZE-Ax w) ≡ Ok w
     ax =
         rw (small POS-Ax SIZE-Ax w)
-        (ap Word (ap (λ x. x + at POS-Ax (bits POS-Ax SIZE-Ax w)) lowest ∙ low_bits POS-Ax SIZE-Ax w ∙ mod-eq_of_lt fits))
+        (ap Ok (ap (λ x. x + at POS-Ax (bits POS-Ax SIZE-Ax w)) lowest ∙ low_bits POS-Ax SIZE-Ax w ∙ mod-eq_of_lt fits))
 
     -- a signed field, with its offset taken off and added again
-    signed : (p n offset : ℕ) (f : ℕ → Encoded)
+    signed : (p n offset : ℕ) (f : ℕ → Result ℕ Refusal)
         → with_unbiased (unbiased (pos (bits p n w) -ℤ pos offset +ℤ pos offset) (2 ^ n)) f ≡ f (bits p n w)
     signed p n offset f =
         ap (λ z. with_unbiased (unbiased z (2 ^ n)) f) (-ℤ-+ℤ_cancel (pos (bits p n w)) (pos offset))
-        ∙ ap (λ t. with_unbiased (cond t (In (bits p n w)) Out) f) (small p n w)
+        ∙ ap (λ t. with_unbiased (cond t (Some (bits p n w)) None) f) (small p n w)
 
-    back : (m : OpMode54) → by_mode m o (decoded w) ≡ Word w
+    back : (m : OpMode54) → by_mode m o (decoded w) ≡ Ok w
     unfolding decoded
-    back IABC = rw (small POS-k 1 w) (ap Word abc)
+    back IABC = rw (small POS-k 1 w) (ap Ok abc)
     back IABx = abx
     back IAsBx = signed POS-Bx SIZE-Bx OFFSET-sBx (encodedIABx o (bits POS-A SIZE-A w)) ∙ abx
     back IAx = ax
@@ -79,7 +77,7 @@ module _ (w : ℕ) (fits : w < 2 ^ 32) where
   num : ℕ
   num = bits POS-OP SIZE-OP w
 
-  named : num ≤ 82 → encoded (decoded w) ≡ Word w
+  named : num ≤ 82 → encoded (decoded w) ≡ Ok w
   unfolding decoded num
   named h =
       let under : num < 83 = omega arith in
@@ -87,18 +85,18 @@ module _ (w : ℕ) (fits : w < 2 ^ 32) where
       sym (chosen (decoded w) (ap (λ t. cond t (Some o) None) (lt-ltb num 83 under)) refl refl refl)
       ∙ back o (number_at num under) (mode_of o)
 
-  unnamed : encoded (decoded w) ≡ Word w → num ≤ 82
+  unnamed : encoded (decoded w) ≡ Ok w → num ≤ 82
   unfolding decoded encoded num
   unnamed e = go (ltb num 83) refl
     where
       go : (t : Bool) → ltb num 83 ≡ t → num ≤ 82
       go true s = omega (arith, ltb-true num 83 s)
       go false s =
-          let refused : Refused NoOpcode ≡ Word w
+          let refused : Err NoOpcode ≡ Ok w
           = sym (ap (λ t. by_opcode (cond t (Some (get_or opcodes num Move)) None) (decoded w)) s) ∙ e in
           let z : ◌≡◌ {A = ℕ} 0 1 = cc in
           absurd (omega arith)
 
-pub same_word : (w : ℕ) → w < 2 ^ 32 → (encoded (decoded w) ≡ Word w) ↔ (bits POS-OP SIZE-OP w ≤ 82)
+pub same_word : (w : ℕ) → w < 2 ^ 32 → (encoded (decoded w) ≡ Ok w) ↔ (bits POS-OP SIZE-OP w ≤ 82)
 unfolding num
 same_word w fits = (unnamed w fits, named w fits)

@@ -10,12 +10,12 @@ use lib.Arith.{digits_lt}
 use lib.Bits.{bit_or, or_shifted_r}
 use lib.Dec.{T, leb, leb→le}
 use lib.Pow.{pow-add, shl_exact, mod-pow-add}
+use Rattle.std.specs.Prelude.{Some, Result}
+use Rattle.format.specs.declared.refusal.Refusal.{Refusal}
 use Rattle.word_opcodes.specs.Lopcodes.{◌<<◌, ◌∣◌}
 use Rattle.word_opcodes.specs.declared.opcode.Opcode54.{Opcode54}
-use Rattle.word_opcodes.specs.declared.opcode.OptionOpcode54.TheVariants.{Some}
 use Rattle.word_opcodes.specs.declared.opcode.OpMode54.{OpMode54}
 use Rattle.word_fields.specs.declared.instruction.RawInstruction54.{RawInstruction54}
-use Rattle.word_fields.specs.declared.instruction.Encoded.{Encoded}
 use Rattle.word_opcodes.specs.Table.{mode_of}
 use Rattle.word_fields.specs.Word.{at, bits, by_mode, by_opcode, encoded}
 
@@ -35,7 +35,7 @@ add n v {x} {s} {p} b h t = record {
 pub low_bits : (p n w : ℕ) → w % 2 ^ p + at p (bits p n w) ≡ w % 2 ^ (n + p)
 low_bits p n w = add_comm (w % 2 ^ p) (at p (bits p n w)) ∙ sym (mod-pow-add w n p)
 
-pub chosen : (r : RawInstruction54) {o : Opcode54} {m m' : OpMode54} {u : Encoded}
+pub chosen : (r : RawInstruction54) {o : Opcode54} {m m' : OpMode54} {u : Result ℕ Refusal}
     → r.opcode ≡ Some o → m ≡ mode_of o → m ≡ m' → u ≡ by_mode m' o r → u ≡ encoded r
 unfolding encoded
 chosen r {o} f e k u = u ∙ ap (λ x. by_mode x o r) (sym k ∙ e) ∙ ap (λ x. by_opcode x r) (sym f)

@@ -3,13 +3,13 @@ ghost use Rattle.std.specs.Prelude.{◌≡◌, ◌+ℤ◌};
 ghost use Rattle.word_fields.specs.Word.{decoded, unbiased, encodedIABC, encodedIABx, encodedIAs_bx, encodedIAx, encoded_isJ, encoded};
 
 use format::refusal::Refusal;
-use word_opcodes::opcode::{OpMode54, Opcode54, OptionOpcode54};
+use word_opcodes::opcode::{OpMode54, Opcode54};
 
 // The fields of a 32-bit instruction word. From bit 0: opcode 7 bits, A 8, k 1, B 8, C 8; Bx is 17 bits from bit 15, Ax and sJ 25 from bit 7.
 #[derive(Clone, Copy)]
 pub struct RawInstruction54 {
     pub opcode_num: u8,
-    pub opcode: OptionOpcode54,
+    pub opcode: Option<Opcode54>,
     pub a: u8,
     pub k: u8,
     pub b: u8,
@@ -20,13 +20,6 @@ pub struct RawInstruction54 {
     pub sbx: i32,
     pub ax: u32,
     pub sj: i32,
-}
-
-// A word, or the refusal: NoOpcode, 28, before FieldRange, 27.
-#[derive(Clone, Copy)]
-pub enum Encoded {
-    Word(u32),
-    Refused(Refusal),
 }
 
 impl RawInstruction54 {
@@ -72,12 +65,12 @@ impl RawInstruction54 {
     }
 
     // The word of mode iABC. Ruled out: a word where k is 2; B and C exchanged.
-    pub fn encode_iabc(opcode: Opcode54, a: u8, b: u8, c: u8, k: u8) -> Encoded
+    pub fn encode_iabc(opcode: Opcode54, a: u8, b: u8, c: u8, k: u8) -> Result<u32, Refusal>
         ensures { result ≡ encodedIABC opcode a b c k }
     {
         let num = opcode.number();
         if k < 2 {
-            return Encoded::Word(
+            return Ok(
                 num as u32
                     | ((a as u32) << 7)
                     | ((k as u32) << 15)
@@ -85,61 +78,54 @@ impl RawInstruction54 {
                     | ((c as u32) << 24),
             );
         }
-        Encoded::Refused(Refusal::FieldRange)
+        Err(Refusal::FieldRange)
     }
 
     // The word of mode iABx. Ruled out: a word where Bx is 131,072; Bx from bit 16 on.
-    pub fn encode_iabx(opcode: Opcode54, a: u8, bx: u32) -> Encoded
+    pub fn encode_iabx(opcode: Opcode54, a: u8, bx: u32) -> Result<u32, Refusal>
         ensures { result ≡ encodedIABx opcode a bx }
     {
         let num = opcode.number();
         if bx < 131072 {
-            return Encoded::Word(num as u32 | ((a as u32) << 7) | (bx << 15));
+            return Ok(num as u32 | ((a as u32) << 7) | (bx << 15));
         }
-        Encoded::Refused(Refusal::FieldRange)
+        Err(Refusal::FieldRange)
     }
 
     // The word of mode i_as_bx. Ruled out: a refusal where sBx is 65,536; a word where it is -65,536.
-    pub fn encode_iasbx(opcode: Opcode54, a: u8, sbx: i32) -> Encoded
+    pub fn encode_iasbx(opcode: Opcode54, a: u8, sbx: i32) -> Result<u32, Refusal>
         ensures { result ≡ encodedIAs_bx opcode a sbx }
     {
-        let Unbiased::In(bx) = unbias(sbx, Self::OFFSET_SBX, 131072) else {
-            return Encoded::Refused(Refusal::FieldRange);
-        };
+        let bx = unbias(sbx, Self::OFFSET_SBX, 131072).ok_or(Refusal::FieldRange)?;
         Self::encode_iabx(opcode, a, bx)
     }
 
     // The word of mode i_ax. Ruled out: a word where Ax is 33,554,432; Ax from bit 15 on.
-    pub fn encode_iax(opcode: Opcode54, ax: u32) -> Encoded
+    pub fn encode_iax(opcode: Opcode54, ax: u32) -> Result<u32, Refusal>
         ensures { result ≡ encodedIAx opcode ax }
     {
         let num = opcode.number();
         if ax < 33554432 {
-            return Encoded::Word(num as u32 | (ax << 7));
+            return Ok(num as u32 | (ax << 7));
         }
-        Encoded::Refused(Refusal::FieldRange)
+        Err(Refusal::FieldRange)
     }
 
     // The word of mode isJ. Ruled out: a refusal where sJ is 16,777,216; a word where it is -16,777,216.
-    pub fn encode_isj(opcode: Opcode54, sj: i32) -> Encoded
+    pub fn encode_isj(opcode: Opcode54, sj: i32) -> Result<u32, Refusal>
         ensures { result ≡ encoded_isJ opcode sj }
     {
-        let Unbiased::In(ax) = unbias(sj, Self::OFFSET_SJ, 33554432) else {
-            return Encoded::Refused(Refusal::FieldRange);
-        };
+        let ax = unbias(sj, Self::OFFSET_SJ, 33554432).ok_or(Refusal::FieldRange)?;
         Self::encode_iax(opcode, ax)
     }
 
-    // The word of the opcode and of the fields that its mode uses. Ruled out: 27 where there is no opcode; a refusal for a field that the mode
-    // does not use.
+    // The word of the opcode and of the fields that its mode uses; or the refusal NoOpcode, 28, before FieldRange, 27.
+    // Ruled out: 27 where there is no opcode; a refusal for a field that the mode does not use.
     #[tactic(auto, unfolding(crate::specs::Word::encoded))]
-    pub fn encode(self) -> Encoded
+    pub fn encode(self) -> Result<u32, Refusal>
         ensures { result ≡ encoded self }
     {
-        let opcode = self.opcode;
-        let OptionOpcode54::Some(op) = opcode else {
-            return Encoded::Refused(Refusal::NoOpcode);
-        };
+        let op = self.opcode.ok_or(Refusal::NoOpcode)?;
         let mode = op.mode();
         match mode {
             OpMode54::IABC => Self::encode_iabc(op, self.a, self.b, self.c, self.k),
@@ -151,24 +137,17 @@ impl RawInstruction54 {
     }
 }
 
-// The number that a signed field's bits spell, if they can.
-#[derive(Clone, Copy)]
-enum Unbiased {
-    In(u32),
-    Out,
-}
-
-// A signed field with its offset added, where that is a natural below the limit.
-fn unbias(z: i32, offset: i32, limit: u32) -> Unbiased
+// A signed field with its offset added, where that is a natural below the limit: the number that its bits spell.
+fn unbias(z: i32, offset: i32, limit: u32) -> Option<u32>
     ensures { result ≡ unbiased (z +ℤ offset) limit }
 {
     let sum = z as i64 + offset as i64;
     if sum < 0 {
-        return Unbiased::Out;
+        return None;
     }
     let n = sum as u64;
     if n < limit as u64 {
-        return Unbiased::In(n as u32);
+        return Some(n as u32);
     }
-    Unbiased::Out
+    None
 }

@@ -9,13 +9,13 @@ use mathlib.Core.List.{List, [], ◌∷◌, ◌++◌, map}
 use mathlib.Core.Bool.{Bool, true, false}
 use Prim.Native.Nat.{ℕ, zero, suc}
 use lib.Dec.{eqb}
-use Rattle.word_opcodes.specs.declared.opcode.OptionOpcode54.{OptionOpcode54}
-use Rattle.word_opcodes.specs.declared.opcode.OptionOpcode54.TheVariants.{Some, None}
+use Rattle.std.specs.Prelude.{Option, Some, None}
+use Rattle.word_opcodes.specs.declared.opcode.Opcode54.{Opcode54}
 use Rattle.word_opcodes.specs.declared.opcode.Opcode54.TheVariants as op
 use Rattle.word_opcodes.specs.Table.{opcode_at, mode_of, mode_number}
 
 -- the mode of a number; 5 where it is no opcode's
-abbrev mode : OptionOpcode54 → ℕ
+abbrev mode : Option Opcode54 → ℕ
 mode (Some o) = mode_number (mode_of o)
 mode None = 5
 

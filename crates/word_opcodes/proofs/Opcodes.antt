@@ -15,9 +15,9 @@ use lib.Dec.{eqb, eqb→eq, ltb, lit<}
 use lib.ListN.{get_or}
 use borrow.Author.Tests.{lt-ltb, ltb-true}
 use denote.Enum.Declared.{tag_of}
+use Rattle.std.specs.Prelude.{Some, None}
 use Rattle.word_opcodes.specs.declared.opcode.Opcode54.{Opcode54}
 use Rattle.word_opcodes.specs.declared.opcode.Opcode54.TheVariants.{Move}
-use Rattle.word_opcodes.specs.declared.opcode.OptionOpcode54.TheVariants.{Some, None}
 use Rattle.word_opcodes.specs.Lopcodes.{iABC, luaP_opmodes}
 use Rattle.word_opcodes.specs.Table.{opcodes, opcode_at, number_of, mode_number, mode_of}
 use Rattle.word_opcodes.specs.contracts.opcode.Opcode54.{enum, the_type}

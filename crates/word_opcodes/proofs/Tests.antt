@@ -1,10 +1,9 @@
 -- What a test that antt computes says of each thing that it went through.
 --     below k f, at        the test f passes at each number below k
---     Passed k x, passed       x is none of the numbers below k, as a `match` tells its last arm, and so at least k
 -- Assumes nothing.
 use mathlib.Core.Path.{◌≡◌, refl, subst}
 use mathlib.Core.Bool.{Bool, true, false, ◌&&◌}
-use Prim.Native.Nat.{ℕ, zero, suc, ◌<◌, ◌≤◌}
+use Prim.Native.Nat.{ℕ, zero, suc, ◌<◌}
 use native.Mathlib.Nat.{not-suc-le-zero}
 use native.Mathlib.Omega.{arith}
 use lib.Dec.{T, ltb}
@@ -27,15 +26,3 @@ at (suc k) f t n h = go (at k f (both-parts (f k) (below k f) t).1 n) (ltb n k) 
     go rest false e =
         let last : k ≡ n = omega (arith, ltb-false n k e) in
         subst (λ (m : ℕ). T (f m)) last (both-parts (f k) (below k f) t).0
-
-abbrev pub Passed : ℕ → ℕ → Type 0
-Passed zero x = Unit {0}
-Passed (suc k) x = Passed k x × (x ≡ k → ⊥)
-
-pub passed : (k x : ℕ) → Passed k x → k ≤ x
-passed zero x p = omega arith
-passed (suc k) x p = go (passed k x p.0) (ltb k x) refl
-  where
-    go : k ≤ x → (more : Bool) → ltb k x ≡ more → suc k ≤ x
-    go least true e = ltb-true k x e
-    go least false e = absurd (p.1 (omega (arith, ltb-false k x e)))

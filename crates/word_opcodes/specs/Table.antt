@@ -4,11 +4,9 @@
 --     number_of        an opcode's number
 --     modes, mode_number       the five modes, and a mode's number
 --     mode_of          an opcode's mode
-use Rattle.std.specs.Prelude.{cond, ℕ, List, [], ◌∷◌, ltb, get_or}
+use Rattle.std.specs.Prelude.{cond, ℕ, List, [], ◌∷◌, ltb, get_or, Option, Some, None}
 use Rattle.word_opcodes.specs.declared.opcode.Opcode54.{Opcode54}
 use Rattle.word_opcodes.specs.declared.opcode.Opcode54.TheVariants as op
-use Rattle.word_opcodes.specs.declared.opcode.OptionOpcode54.{OptionOpcode54}
-use Rattle.word_opcodes.specs.declared.opcode.OptionOpcode54.TheVariants.{Some, None}
 use Rattle.word_opcodes.specs.declared.opcode.OpMode54.{OpMode54}
 use Rattle.word_opcodes.specs.declared.opcode.OpMode54.TheVariants.{IABC, IABx, IAsBx, IAx, IsJ}
 use Rattle.word_opcodes.specs.Lopcodes.{iABC, iABx, i_as_bx, i_ax, isJ, NUM-OPCODES, luaP_opmodes}
@@ -25,7 +23,7 @@ opcodes =
     op.Return0 ∷ op.Return1 ∷ op.Forloop ∷ op.Forprep ∷ op.Tforprep ∷ op.Tforcall ∷ op.Tforloop ∷ op.Setlist ∷
     op.Closure ∷ op.Vararg ∷ op.Varargprep ∷ op.Extraarg ∷ []
 
-abbrev pub opcode_at : ℕ → OptionOpcode54
+abbrev pub opcode_at : ℕ → Option Opcode54
 opcode_at n = cond (ltb n NUM-OPCODES) (Some (get_or opcodes n op.Move)) None
 
 abbrev pub number_of : Opcode54 → ℕ

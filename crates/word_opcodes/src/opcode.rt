@@ -1,7 +1,10 @@
 // opcodes.rs: the opcodes of Lua 5.4, their numbers and their modes.
 ghost use Rattle.std.specs.Borrow.{Bor};
-ghost use Rattle.std.specs.Prelude.{◌≡◌, get_or};
-ghost use Rattle.word_opcodes.specs.Table.{opcodes, opcode_at, number_of, mode_of};
+ghost use Rattle.std.specs.Prelude.{◌≡◌, ok_or};
+ghost use Rattle.format.specs.declared.refusal.Refusal.TheVariants.{NoOpcode};
+ghost use Rattle.word_opcodes.specs.Table.{opcode_at, number_of, mode_of};
+
+use format::refusal::Refusal;
 
 // The 83 opcodes, in the order of their numbers (lopcodes.h, OpCode).
 #[derive(Clone, Copy)]
@@ -91,13 +94,6 @@ pub enum Opcode54 {
     Extraarg = 82,
 }
 
-// An opcode, or none.
-#[derive(Clone, Copy)]
-pub enum OptionOpcode54 {
-    Some(Opcode54),
-    None,
-}
-
 // How an instruction's fields lie in its word (lopcodes.h, OpMode).
 #[derive(Clone, Copy)]
 pub enum OpMode54 {
@@ -110,104 +106,95 @@ pub enum OpMode54 {
 
 impl Opcode54 {
     // The opcode of a number, if there is one. Ruled out: an opcode for 83; MOVE for every number.
-    pub fn from_u8(op: u8) -> OptionOpcode54
+    // A match and no table: a constant array is a value, copied at each call.
+    pub fn from_u8(op: u8) -> Option<Opcode54>
         ensures { result ≡ opcode_at op }
     {
-        if op < 83 {
-            return OptionOpcode54::Some(Self::at_number(op));
-        }
-        OptionOpcode54::None
-    }
-
-    // What the table has at a number; MOVE beyond its end. A match and no table: a constant array is a value, copied at each call.
-    fn at_number(op: u8) -> Self
-        ensures { result ≡ get_or opcodes op Opcode54.Move }
-    {
         match op {
-            0 => Opcode54::Move,
-            1 => Opcode54::Loadi,
-            2 => Opcode54::Loadf,
-            3 => Opcode54::Loadk,
-            4 => Opcode54::Loadkx,
-            5 => Opcode54::Loadfalse,
-            6 => Opcode54::Lfalseskip,
-            7 => Opcode54::Loadtrue,
-            8 => Opcode54::Loadnil,
-            9 => Opcode54::Getupval,
-            10 => Opcode54::Setupval,
-            11 => Opcode54::Gettabup,
-            12 => Opcode54::Gettable,
-            13 => Opcode54::Geti,
-            14 => Opcode54::Getfield,
-            15 => Opcode54::Settabup,
-            16 => Opcode54::Settable,
-            17 => Opcode54::Seti,
-            18 => Opcode54::Setfield,
-            19 => Opcode54::Newtable,
-            20 => Opcode54::SelfOp,
-            21 => Opcode54::Addi,
-            22 => Opcode54::Addk,
-            23 => Opcode54::Subk,
-            24 => Opcode54::Mulk,
-            25 => Opcode54::Modk,
-            26 => Opcode54::Powk,
-            27 => Opcode54::Divk,
-            28 => Opcode54::Idivk,
-            29 => Opcode54::Bandk,
-            30 => Opcode54::Bork,
-            31 => Opcode54::Bxork,
-            32 => Opcode54::Shri,
-            33 => Opcode54::Shli,
-            34 => Opcode54::Add,
-            35 => Opcode54::Sub,
-            36 => Opcode54::Mul,
-            37 => Opcode54::Mod,
-            38 => Opcode54::Pow,
-            39 => Opcode54::Div,
-            40 => Opcode54::Idiv,
-            41 => Opcode54::Band,
-            42 => Opcode54::Bor,
-            43 => Opcode54::Bxor,
-            44 => Opcode54::Shl,
-            45 => Opcode54::Shr,
-            46 => Opcode54::Mmbin,
-            47 => Opcode54::Mmbini,
-            48 => Opcode54::Mmbink,
-            49 => Opcode54::Unm,
-            50 => Opcode54::Bnot,
-            51 => Opcode54::Not,
-            52 => Opcode54::Len,
-            53 => Opcode54::Concat,
-            54 => Opcode54::Close,
-            55 => Opcode54::Tbc,
-            56 => Opcode54::Jmp,
-            57 => Opcode54::Eq,
-            58 => Opcode54::Lt,
-            59 => Opcode54::Le,
-            60 => Opcode54::Eqk,
-            61 => Opcode54::Eqi,
-            62 => Opcode54::Lti,
-            63 => Opcode54::Lei,
-            64 => Opcode54::Gti,
-            65 => Opcode54::Gei,
-            66 => Opcode54::Test,
-            67 => Opcode54::Testset,
-            68 => Opcode54::Call,
-            69 => Opcode54::Tailcall,
-            70 => Opcode54::Return,
-            71 => Opcode54::Return0,
-            72 => Opcode54::Return1,
-            73 => Opcode54::Forloop,
-            74 => Opcode54::Forprep,
-            75 => Opcode54::Tforprep,
-            76 => Opcode54::Tforcall,
-            77 => Opcode54::Tforloop,
-            78 => Opcode54::Setlist,
-            79 => Opcode54::Closure,
-            80 => Opcode54::Vararg,
-            81 => Opcode54::Varargprep,
-            82 => Opcode54::Extraarg,
-            _ => Opcode54::Move,
+            0 => Some(Opcode54::Move),
+            1 => Some(Opcode54::Loadi),
+            2 => Some(Opcode54::Loadf),
+            3 => Some(Opcode54::Loadk),
+            4 => Some(Opcode54::Loadkx),
+            5 => Some(Opcode54::Loadfalse),
+            6 => Some(Opcode54::Lfalseskip),
+            7 => Some(Opcode54::Loadtrue),
+            8 => Some(Opcode54::Loadnil),
+            9 => Some(Opcode54::Getupval),
+            10 => Some(Opcode54::Setupval),
+            11 => Some(Opcode54::Gettabup),
+            12 => Some(Opcode54::Gettable),
+            13 => Some(Opcode54::Geti),
+            14 => Some(Opcode54::Getfield),
+            15 => Some(Opcode54::Settabup),
+            16 => Some(Opcode54::Settable),
+            17 => Some(Opcode54::Seti),
+            18 => Some(Opcode54::Setfield),
+            19 => Some(Opcode54::Newtable),
+            20 => Some(Opcode54::SelfOp),
+            21 => Some(Opcode54::Addi),
+            22 => Some(Opcode54::Addk),
+            23 => Some(Opcode54::Subk),
+            24 => Some(Opcode54::Mulk),
+            25 => Some(Opcode54::Modk),
+            26 => Some(Opcode54::Powk),
+            27 => Some(Opcode54::Divk),
+            28 => Some(Opcode54::Idivk),
+            29 => Some(Opcode54::Bandk),
+            30 => Some(Opcode54::Bork),
+            31 => Some(Opcode54::Bxork),
+            32 => Some(Opcode54::Shri),
+            33 => Some(Opcode54::Shli),
+            34 => Some(Opcode54::Add),
+            35 => Some(Opcode54::Sub),
+            36 => Some(Opcode54::Mul),
+            37 => Some(Opcode54::Mod),
+            38 => Some(Opcode54::Pow),
+            39 => Some(Opcode54::Div),
+            40 => Some(Opcode54::Idiv),
+            41 => Some(Opcode54::Band),
+            42 => Some(Opcode54::Bor),
+            43 => Some(Opcode54::Bxor),
+            44 => Some(Opcode54::Shl),
+            45 => Some(Opcode54::Shr),
+            46 => Some(Opcode54::Mmbin),
+            47 => Some(Opcode54::Mmbini),
+            48 => Some(Opcode54::Mmbink),
+            49 => Some(Opcode54::Unm),
+            50 => Some(Opcode54::Bnot),
+            51 => Some(Opcode54::Not),
+            52 => Some(Opcode54::Len),
+            53 => Some(Opcode54::Concat),
+            54 => Some(Opcode54::Close),
+            55 => Some(Opcode54::Tbc),
+            56 => Some(Opcode54::Jmp),
+            57 => Some(Opcode54::Eq),
+            58 => Some(Opcode54::Lt),
+            59 => Some(Opcode54::Le),
+            60 => Some(Opcode54::Eqk),
+            61 => Some(Opcode54::Eqi),
+            62 => Some(Opcode54::Lti),
+            63 => Some(Opcode54::Lei),
+            64 => Some(Opcode54::Gti),
+            65 => Some(Opcode54::Gei),
+            66 => Some(Opcode54::Test),
+            67 => Some(Opcode54::Testset),
+            68 => Some(Opcode54::Call),
+            69 => Some(Opcode54::Tailcall),
+            70 => Some(Opcode54::Return),
+            71 => Some(Opcode54::Return0),
+            72 => Some(Opcode54::Return1),
+            73 => Some(Opcode54::Forloop),
+            74 => Some(Opcode54::Forprep),
+            75 => Some(Opcode54::Tforprep),
+            76 => Some(Opcode54::Tforcall),
+            77 => Some(Opcode54::Tforloop),
+            78 => Some(Opcode54::Setlist),
+            79 => Some(Opcode54::Closure),
+            80 => Some(Opcode54::Vararg),
+            81 => Some(Opcode54::Varargprep),
+            82 => Some(Opcode54::Extraarg),
+            _ => None,
         }
     }
 
@@ -235,5 +222,16 @@ impl Opcode54 {
             Opcode54::Extraarg => OpMode54::IAx,
             _ => OpMode54::IABC,
         }
+    }
+}
+
+// As `from_u8`, with the refusal 28 in place of none. Ruled out: another refusal.
+impl TryFrom<u8> for Opcode54 {
+    type Error = Refusal;
+
+    ghost try_from_gives = { λ op r. r ≡ ok_or (opcode_at op) NoOpcode };
+
+    fn try_from(op: u8) -> Result<Self, Refusal> {
+        Self::from_u8(op).ok_or(Refusal::NoOpcode)
     }
 }
