@@ -3,6 +3,8 @@
 --     memory_holds     what then stands there: the copy, and behind it what stood there; on a refusal all that stood there
 -- Told apart: the chunk handed back untouched, a byte behind the copy touched, memory touched on a refusal, 26 before 1, room of the copy's length not enough.
 -- Assumes nothing.
+use Rattle.std.specs.Prelude.{ℕ, Result, Ok, Err}
+use Rattle.format.specs.declared.refusal.Refusal.{Refusal}
 use mathlib.Core.Path.{◌≡◌, refl}
 use mathlib.Core.List.{List, [], ◌∷◌, ◌++◌, map}
 use lib.ListN.{length, replicate, set, take}
@@ -13,8 +15,6 @@ use Rattle.format.specs.ReadChunk.{body, function, read}
 use Rattle.format.specs.Copy.{list_bytes, behind_source, copy}
 use Rattle.format.specs.Shortest.{shortest}
 use Rattle.format.proofs.Distinct.{header, little}
-use Rattle.copy.specs.declared.whole.CopyAnswer.{CopyAnswer}
-use Rattle.copy.specs.declared.whole.CopyAnswer.TheVariants.{Ok, Err}
 use Rattle.copy.specs.Copied.{shown_length, shown_copy, copy_written}
 
 -- format 3, byte 31 is 7
@@ -27,7 +27,7 @@ copied = set header 5 0 ++ (0 ∷ little) ++ 9 ∷ []
 record Case : Type 0 where
   input : Bytes
   lent : Bytes
-  answer : CopyAnswer
+  answer : Result ℕ Refusal
   then : Bytes
 
 cases : List Case

@@ -1,7 +1,8 @@
 -- A whole chunk copied, in the code's terms: by what the calls showed and put.
---     functions_stops, functions-put   main and the trailing bytes, by what the bytes of the functions are
+--     functions-put    main and the trailing bytes, by what the bytes of the functions are
 --     main-put         of the archive copy
 -- Assumes nothing.
+use Rattle.std.specs.Prelude.{Result, Ok, Err}
 use mathlib.Core.Path.{◌≡◌, refl, sym, ◌∙◌, ap}
 use mathlib.Core.Bool.{true}
 use mathlib.Core.List.{List, [], ◌∷◌, ◌++◌}
@@ -18,19 +19,15 @@ use Rattle.format.specs.GrammarChunk.{outermost, instructions_of}
 use Rattle.format.specs.Read.{Read, ok}
 use Rattle.format.specs.ReadChunk.{function}
 use Rattle.format.specs.Copy.{field_bytes, header_bytes, functions_bytes, upvalues_of_main}
-use Rattle.format.proofs.Exact.{never}
 use Rattle.format.proofs.ExactChunk.{exact_function}
 use Rattle.format.proofs.Left.{left}
 use Rattle.slice.specs.Shown.{cursor_at}
 use Rattle.read_walk.specs.declared.walk.Skimmed.{Skimmed}
-use Rattle.read_walk.specs.declared.walk.SkimResult.TheVariants as skim
 use Rattle.read_walk.specs.Inner.Skim.{skim_result}
-use Rattle.read_walk.proofs.OneFunction.{skim_err}
 use Rattle.slice.specs.Inner.Splice.{splice}
 use Rattle.slice.proofs.Splices.{splice-before}
 use Rattle.copy_put.specs.Inner.Put.{Put}
 use Rattle.copy_put.proofs.Writes.{put_then}
-use Rattle.copy.specs.declared.whole.CopyAnswer.TheVariants as answer
 use Rattle.copy_parts.specs.Inner.Parts.{function_bytes}
 use Rattle.copy.specs.Inner.Answers.{chunkBy, chunk_bytes, Answers}
 use Rattle.copy_parts.proofs.PutParts.{put_as}
@@ -54,15 +51,10 @@ put-before {a} {b} {n} {after} {m} {l} {l₁} {l₂} e p q = record {
     size h = omega (arith, simp length-append at h)
 
 -- ## Main and the trailing bytes
-pub functions_stops : {bytes : List Prototype → Bytes → Bytes} (o : Read (List Prototype)) (q : Refusal) {l l' : Bytes} → skim.Err q ≡ skim_result outermost o → Answers bytes o l (answer.Err q) l'
-functions_stops o q e =
-    let is = skim_err outermost o q e in
-    record { stops = λ p f. let same : q ≡ p = (let both = sym is ∙ f in cc) in ap answer.Err same; puts = λ x to rest f. absurd (never (sym is ∙ f)) }
-
-not-refused : {k : Skimmed} {q : Refusal} → skim.Ok k ≡ skim.Err q → ⊥
+not-refused : {k : Skimmed} {q : Refusal} → ◌≡◌ {A = Result Skimmed Refusal} (Ok k) (Err q) → ⊥
 not-refused e = let z : ◌≡◌ {A = ℕ} 0 1 = cc in omega arith
 
-ends_there : (k : Skimmed) (ps : List Prototype) (to : ℕ) (rest : Bytes) → skim.Ok k ≡ skim_result outermost (ok ps to rest) → k.next.at ≡ to
+ends_there : (k : Skimmed) (ps : List Prototype) (to : ℕ) (rest : Bytes) → Ok k ≡ skim_result outermost (ok ps to rest) → k.next.at ≡ to
 ends_there k ps to rest e = let all : k ≡ record { next = cursor_at to; number = 0 + length ps; instructions = 0 + instructions_of ps } = cc in ap (λ k. k.next.at) all
 
 abbrev pub functions_at : ResourceLimits → Bytes → ℕ → Read (List Prototype)
@@ -81,13 +73,13 @@ module _ (its : List Prototype → Bytes) (s : Bytes) (short : length s ≤ MOST
       let behind = length-append (its ps) rest in
       omega arith
 
-  pub functions-put : (k : Skimmed) (upvalues n : ℕ) → skim.Ok k ≡ skim_result outermost (functions_at L s at) → n ≡ length (drop k.next.at s)
+  pub functions-put : (k : Skimmed) (upvalues n : ℕ) → Ok k ≡ skim_result outermost (functions_at L s at) → n ≡ length (drop k.next.at s)
       → {l l₁ l₂ l' : Bytes} {after m len : ℕ}
       → ((ps : List Prototype) (to : ℕ) (rest : Bytes) → functions_at L s at ≡ ok ps to rest → upvalues ≡ upvalues_of_main ps)
       → ((ps : List Prototype) (to : ℕ) (rest : Bytes) → functions_at L s at ≡ ok ps to rest → Put (its ps) 32 l after l₁)
       → Put (header_bytes 0 ++ field_bytes 1 upvalues) 0 l₁ m l₂
       → (n ≤ length s - k.next.at → Put (take n (drop k.next.at s)) after l₂ len l')
-      → Answers (chunkBy its) (functions_at L s at) l (answer.Ok len) l'
+      → Answers (chunkBy its) (functions_at L s at) l (Ok len) l'
   functions-put k upvalues n e size {l} {l₁} {l₂} {l'} {after} {m} {len} u p q r = record {
     stops = λ x f. absurd (not-refused (e ∙ ap (skim_result outermost) f));
     puts = λ ps to rest f. record { len = len; is = refl; small = small-copy ps to rest f; put = all ps to rest f (ends_there k ps to rest (e ∙ ap (skim_result outermost) f)) };
@@ -108,13 +100,13 @@ functions_are [] = refl
 functions_are (p ∷ ps) = refl
 
 module _ (s : Bytes) (bytes : Below 256 s) (short : length s ≤ MOST) (L : ResourceLimits) (at : ℕ) where
-  pub main-put : (k : Skimmed) (upvalues n : ℕ) → skim.Ok k ≡ skim_result outermost (functions_at L s at) → n ≡ length (drop k.next.at s)
+  pub main-put : (k : Skimmed) (upvalues n : ℕ) → Ok k ≡ skim_result outermost (functions_at L s at) → n ≡ length (drop k.next.at s)
       → {l l₁ l₂ l' : Bytes} {after m len : ℕ}
       → ((ps : List Prototype) (to : ℕ) (rest : Bytes) → functions_at L s at ≡ ok ps to rest → upvalues ≡ upvalues_of_main ps)
       → ((ps : List Prototype) (to : ℕ) (rest : Bytes) → functions_at L s at ≡ ok ps to rest → Put (function_bytes true ps) 32 l after l₁)
       → Put (header_bytes 0 ++ field_bytes 1 upvalues) 0 l₁ m l₂
       → (n ≤ length s - k.next.at → Put (take n (drop k.next.at s)) after l₂ len l')
-      → Answers chunk_bytes (functions_at L s at) l (answer.Ok len) l'
+      → Answers chunk_bytes (functions_at L s at) l (Ok len) l'
   main-put k upvalues n e size u p q r =
       functions-put functions_bytes s short L at (λ ps to rest f. rw (functions_are ps) at ((main-short s bytes L L.max_nesting_depth outermost at refl).holds f)) k upvalues n e size
       u (λ ps to rest f. put_as (functions_are ps) (p ps to rest f)) q r

@@ -2,6 +2,7 @@
 --     main-counted     where a chunk is read, they are as many as were counted there
 --     main-refused     and what stands there is not refused
 -- Assumes nothing.
+use Rattle.std.specs.Prelude.{Ok, Err}
 use mathlib.Core.Path.{◌≡◌, refl, sym, ◌∙◌, ap}
 use mathlib.Core.List.{List, ◌∷◌}
 use Prim.Native.Nat.{ℕ}
@@ -20,7 +21,6 @@ use Rattle.format.proofs.ExactChunk.{exact_main}
 use Rattle.format.proofs.ReadChunkLaws.{read_sound}
 use Rattle.slice.specs.declared.cursor.Cursor.{Cursor}
 use Rattle.read_prototype.specs.declared.pass.HeadCounts.{HeadCounts}
-use Rattle.read_prototype.specs.declared.pass.HeadCountsResult.TheVariants as counts-answer
 use Rattle.read_prototype.specs.Parts.{Head, head, Tail, tail}
 use Rattle.read_prototype.specs.Inner.Counts.{head_counts_result}
 use Rattle.read_prototype.specs.Inner.Whole.{prototype_of, inside}
@@ -54,14 +54,14 @@ module _ (s : Bytes) (L : ResourceLimits) (x : Reading) (is : read L s ≡ shown
       let c = read_sound L s x is in
       rw (← ap (λ (r : Reading). r.functions) c.shows) (main-at L s (ap (main L 0) c.whole ∙ (exact_main L).complete c.trailing c.main))
 
-  pub main-counted : (n : HeadCounts) (c : Cursor) → counts-answer.Ok n c ≡ head_counts_result (head L 0 32 (drop 32 s)) → n.upvalues ≡ upvalues_of_main x.functions
+  pub main-counted : (n : HeadCounts) (c : Cursor) → Ok (n, c) ≡ head_counts_result (head L 0 32 (drop 32 s)) → n.upvalues ≡ upvalues_of_main x.functions
   main-counted n c e =
       let o = counts-read s L 0 32 n c e in
       ap (λ (n : HeadCounts). n.upvalues) o.shows ∙ first_head s L L.max_nesting_depth 32 o.is place.reads
 
-  pub main-refused : (q : Refusal) → counts-answer.Err q ≡ head_counts_result (head L 0 32 (drop 32 s)) → ⊥
+  pub main-refused : (q : Refusal) → Err q ≡ head_counts_result (head L 0 32 (drop 32 s)) → ⊥
   main-refused q e = by (head L 0 32 (drop 32 s)) refl e
     where
-      by : (o : Read Head) → head L 0 32 (drop 32 s) ≡ o → counts-answer.Err q ≡ head_counts_result o → ⊥
+      by : (o : Read Head) → head L 0 32 (drop 32 s) ≡ o → Err q ≡ head_counts_result o → ⊥
       by (ok h to rest) p e = let z : ◌≡◌ {A = ℕ} 0 1 = cc in omega arith
       by (refused q) p e = never (sym (no_head s L L.max_nesting_depth outermost 32 p) ∙ place.reads)

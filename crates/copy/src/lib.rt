@@ -11,13 +11,13 @@ ghost use Rattle.format.specs.ReadChunk as format;
 ghost use Rattle.copy.specs.Copied.{shown_length, shown_copy, copy_written};
 
 use crate::plain::{begins_padded, is_plain, main_upvalues, put_plain};
-use crate::whole::{CopyAnswer, copy_chunk};
+use crate::whole::copy_chunk;
 use format::limits::ResourceLimits;
 use format::refusal::Refusal;
-use read_chunk::summary::{SpeltResult, judge_spelling};
+use read_chunk::summary::judge_spelling;
 
 // The length of a copy, by the walk.
-fn measure(s: &[u8], limits: ResourceLimits) -> CopyAnswer
+fn measure(s: &[u8], limits: ResourceLimits) -> Result<usize, Refusal>
     ensures { result ≡ shown_length (format.read limits s.now) }
 {
     let mut nowhere = [0u8; 1];
@@ -25,71 +25,53 @@ fn measure(s: &[u8], limits: ResourceLimits) -> CopyAnswer
 }
 
 // A copy, by the walk: the first measures, the second writes.
-fn respell(s: &[u8], limits: ResourceLimits, out: &mut [u8]) -> CopyAnswer
+fn respell(s: &[u8], limits: ResourceLimits, out: &mut [u8]) -> Result<usize, Refusal>
     ensures value { result ≡ shown_copy (length out.old) (format.read limits s.now) }
     ensures out_after { out.new ≡ copy_written out.old (format.read limits s.now) }
 {
-    let judged = measure(s, limits);
-    match judged {
-        CopyAnswer::Err(refusal) => CopyAnswer::Err(refusal),
-        CopyAnswer::Ok(len) => {
-            if out.len() < len {
-                return CopyAnswer::Err(Refusal::LentSpace);
-            }
-            copy_chunk(s, limits, out);
-            CopyAnswer::Ok(len)
-        }
+    let len = measure(s, limits)?;
+    if out.len() < len {
+        return Err(Refusal::LentSpace);
     }
+    copy_chunk(s, limits, out)
 }
 
 // The length of a chunk's archive copy. Ruled out: the length of the chunk itself where its copy is spelt otherwise, a length for a chunk that is refused.
-pub fn copy_length(s: &[u8], limits: ResourceLimits) -> CopyAnswer
+pub fn copy_length(s: &[u8], limits: ResourceLimits) -> Result<usize, Refusal>
     ensures { result ≡ shown_length (format.read limits s.now) }
 {
     if begins_padded(s) {
         return measure(s, limits);
     }
-    let judged = judge_spelling(s, limits);
-    match judged {
-        SpeltResult::Err(refusal) => CopyAnswer::Err(refusal),
-        SpeltResult::Ok {
-            summary: _,
-            spelling,
-        } => {
-            if !is_plain(spelling) {
-                return measure(s, limits);
-            }
-            CopyAnswer::Ok(s.len())
-        }
+    let (_, spelling) = judge_spelling(s, limits)?;
+    if !is_plain(spelling) {
+        return measure(s, limits);
     }
+    Ok(s.len())
 }
 
 // Writes the archive copy of a chunk at the start of `out`. The first pass judges; then bytes are copied, or two walks measure and write.
 // Ruled out: the chunk handed back untouched, memory that is touched where the answer is a refusal.
-pub fn encode_chunk_lua54(s: &[u8], limits: ResourceLimits, out: &mut [u8]) -> CopyAnswer
+pub fn encode_chunk_lua54(
+    s: &[u8],
+    limits: ResourceLimits,
+    out: &mut [u8],
+) -> Result<usize, Refusal>
     ensures value { result ≡ shown_copy (length out.old) (format.read limits s.now) }
     ensures out_after { out.new ≡ copy_written out.old (format.read limits s.now) }
 {
     if begins_padded(s) {
         return respell(s, limits, out);
     }
-    let judged = judge_spelling(s, limits);
-    match judged {
-        SpeltResult::Err(refusal) => CopyAnswer::Err(refusal),
-        SpeltResult::Ok {
-            summary: _,
-            spelling,
-        } => {
-            if !is_plain(spelling) {
-                return respell(s, limits, out);
-            }
-            if out.len() < s.len() {
-                CopyAnswer::Err(Refusal::LentSpace)
-            } else {
-                let upvalues = main_upvalues(s, limits);
-                put_plain(s, upvalues, out);
-                CopyAnswer::Ok(s.len())
-            }
-        }
+    let (_, spelling) = judge_spelling(s, limits)?;
+    if !is_plain(spelling) {
+        return respell(s, limits, out);
+    }
+    if out.len() < s.len() {
+        Err(Refusal::LentSpace)
+    } else {
+        let upvalues = main_upvalues(s, limits);
+        put_plain(s, upvalues, out);
+        Ok(s.len())
     }
 }

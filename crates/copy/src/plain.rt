@@ -11,7 +11,7 @@ use copy_put::raw::put_bytes;
 use format::limits::ResourceLimits;
 use format::spelling::Spelling;
 use read_chunk::MAIN_AT;
-use read_prototype::pass::{HeadCountsResult, pass_head};
+use read_prototype::pass::pass_head;
 use slice::cursor::{Cursor, remaining};
 
 // Whether no place is spelt otherwise. Ruled out: a sort of places that is not looked at.
@@ -44,8 +44,8 @@ pub fn main_upvalues(s: &[u8], limits: ResourceLimits) -> usize
     let mut unused = [0usize; 4];
     let begins = pass_head(s, limits, 0, Cursor { at: MAIN_AT }, &mut unused);
     match begins {
-        HeadCountsResult::Err(_) => 0,
-        HeadCountsResult::Ok { counts, next: _ } => counts.upvalues,
+        Err(_) => 0,
+        Ok((counts, _)) => counts.upvalues,
     }
 }
 

@@ -1,5 +1,5 @@
 -- What an entry's reader gives, and what the copy makes of it.
---     puts_of, puts-not    an entry that was read, with its bytes put; an entry that was not
+--     puts_of              an entry that was read, with its bytes put
 --     spelt_is, name-is    a string that stands in the slice is spelt as its bytes there
 --     Raw                  an entry of a fixed width: the copy's bytes are those that stand there
 -- Assumes nothing.
@@ -14,10 +14,9 @@ use lib.Dec.{leb}
 use borrow.Author.Tests.{leb-true}
 use lib.ListN.{length, take, drop, length-drop, take-append-drop}
 use lib.Seq.{length-take-le, take-add, drop-drop}
-use Rattle.format.specs.declared.refusal.Refusal.{Refusal}
 use Rattle.format.specs.Form.{Bytes, Below, Form}
 use Rattle.format.specs.GrammarFields.{LuaString, little}
-use Rattle.format.specs.Read.{Read, ok, refused, Reader, piece, run, many}
+use Rattle.format.specs.Read.{Read, ok, Reader, piece, run, many}
 use Rattle.format.specs.ReadFields.{field}
 use Rattle.format.specs.Shortest.{shortest}
 use Rattle.format.specs.ReadChunk.{upvalue}
@@ -40,9 +39,6 @@ module _ {A : Type 0} {bytes : A → Bytes} {o : Read A} {at : ℕ} {l : Bytes} 
     where
       same : (y : A) (up : ℕ) → x ≡ y → to ≡ up → (to ≡ up) × Put (bytes y) at l behind l'
       same y up e f = (f, rw (← e) p)
-
-  pub puts-not : {q : Refusal} {next : ℕ} → o ≡ refused q → Puts bytes o at l next behind l'
-  puts-not r = record { put = λ y up rest e. absurd (never (sym r ∙ e)) }
 
 -- ## Strings
 module _ (s : Bytes) where

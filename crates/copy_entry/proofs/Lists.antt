@@ -4,7 +4,7 @@
 -- Assumes nothing.
 use mathlib.Core.Path.{◌≡◌, refl, sym, subst, ◌∙◌, ap}
 use mathlib.Core.List.{List, [], ◌∷◌, map, flatten}
-use Prim.Native.Nat.{ℕ, suc, ◌-◌, ◌≤◌, ◌<◌}
+use Prim.Native.Nat.{ℕ, suc, ◌≤◌}
 use native.Mathlib.Omega.{arith}
 use lib.ListN.{length, drop}
 use Rattle.format.specs.Form.{Bytes, Form}
@@ -25,8 +25,8 @@ pub record Goes {A : Type 0} (r : Reader A) (bytes : A → Bytes) (s : Bytes) (c
   pub goes : {behind : ℕ} {l' : Bytes} → Gives bytes (many left r from (drop from s)) at l behind l' → Gives bytes (many count r place (drop place s)) at₀ l₀ behind l'
 
 module _ {A : Type 0} (r : Reader A) {F : Form A} (bytes : A → Bytes) (exact : Exact r F) (s : Bytes) where
-  pub starts : {count place at : ℕ} {l : Bytes} → Goes r bytes s count place at l count place at l
-  starts = record { goes = λ g. g }
+  pub starts : {count place at left : ℕ} {l : Bytes} → left ≡ count → Goes r bytes s count place at l left place at l
+  starts {count} {place} {at} {left} {l} all = subst (λ left. Goes r bytes s count place at l left place at l) (sym all) (record { goes = λ g. g })
 
   more-put : (n from at : ℕ) (l : Bytes) (to at' : ℕ) (l' : Bytes) {behind : ℕ} {l'' : Bytes} → Puts bytes (r from (drop from s)) at l to at' l' → Gives bytes (many n r to (drop to s)) at' l' behind l'' → Gives bytes (many (suc n) r from (drop from s)) at l behind l''
   unfolding flatten
@@ -46,11 +46,10 @@ module _ {A : Type 0} (r : Reader A) {F : Form A} (bytes : A → Bytes) (exact :
       first xs up rest (refused q) e₁ e = absurd (never e)
 
   module _ {count place at₀ : ℕ} {l₀ : Bytes} {left from at : ℕ} {l : Bytes} (k : Goes r bytes s count place at₀ l₀ left from at l) where
-    pub turns : {to at' : ℕ} {l' : Bytes} → 0 < left → Puts bytes (r from (drop from s)) at l to at' l' → Goes r bytes s count place at₀ l₀ (left - 1) to at' l'
-    turns {to} {at'} {l'} some p = record {
+    pub turns : {fewer to at' : ℕ} {l' : Bytes} → left ≡ suc fewer → Puts bytes (r from (drop from s)) at l to at' l' → Goes r bytes s count place at₀ l₀ fewer to at' l'
+    turns {fewer} {to} {at'} {l'} one p = record {
       goes = λ {behind} {l' = l''} g.
-          let e : suc (left - 1) ≡ left = omega arith in
-          k.goes (subst (λ n. Gives bytes (many n r from (drop from s)) at l behind l'') e (more-put (left - 1) from at l to at' l' p g));
+          k.goes (subst (λ n. Gives bytes (many n r from (drop from s)) at l behind l'') (sym one) (more-put fewer from at l to at' l' p g));
     }
 
     pub ends : {before : ℕ} {old : Bytes} → Put (shortest count) before old at₀ l₀ → left ≤ 0 → PutsAll bytes (many count r place (drop place s)) before old at l

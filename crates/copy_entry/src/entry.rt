@@ -1,26 +1,27 @@
 // The entries of a function's lists, read at a place of the chunk and put at a place of the copy: each is judged where it is copied.
-ghost use Rattle.std.specs.Prelude.{◌≡◌, drop};
+ghost use Rattle.std.specs.Prelude.{◌≡◌, drop, IfOk};
 ghost use Rattle.format.specs.Form.{Below};
 ghost use Rattle.format.specs.ReadFields.{string};
 ghost use Rattle.format.specs.ReadChunk.{constant, anchor, local};
 ghost use Rattle.format.specs.Copy.{constant_bytes, anchor_bytes, local_bytes, option_bytes};
 ghost use Rattle.copy_put.specs.Inner.Put.{Put, Puts};
 ghost use Rattle.slice.specs.Inner.Results.{cursor_result};
-ghost use Rattle.copy_entry.specs.Inner.Passed.{next_of};
+ghost use Rattle.copy_entry.specs.Inner.Passed.{cursor_of};
 ghost use Rattle.copy_entry.specs.Inner.Value.{Stood, value_bytes};
 
 use copy_put::number::put_varint;
 use copy_put::raw::put_between;
 use copy_put::text::{put_name, put_string, put_tagged};
-use read_entry::constant::{ConstantResult, ConstantValue, read_constant};
-use read_entry::debug::{AnchorResult, LocalResult, read_anchor, read_local};
-use read_field::string::{StringResult, read_string_lua54};
-use slice::cursor::{Cursor, CursorResult};
+use format::refusal::Refusal;
+use read_entry::constant::{ConstantValue, read_constant};
+use read_entry::debug::{read_anchor, read_local};
+use read_field::string::read_string_lua54;
+use slice::cursor::Cursor;
 
-// Behind what is read and put: the cursor in the chunk or the refusal, and the place in the copy.
+// Behind what is read and put: the cursor in the chunk, and the place in the copy.
 #[derive(Clone, Copy)]
 pub struct Passed {
-    pub read: CursorResult,
+    pub next: Cursor,
     pub behind: usize,
 }
 
@@ -31,46 +32,24 @@ pub fn copy_name(
     max_string_bytes: usize,
     out: &mut [u8],
     at: usize,
-) -> Passed
-    ensures read_value { result.read ≡ cursor_result (string max_string_bytes cursor.at (drop cursor.at s.now)) }
-    ensures puts { Puts option_bytes (string max_string_bytes cursor.at (drop cursor.at s.now)) at out.old (next_of result.read) result.behind out.new }
+) -> Result<Passed, Refusal>
+    ensures read_value { cursor_of result ≡ cursor_result (string max_string_bytes cursor.at (drop cursor.at s.now)) }
+    ensures puts { IfOk result (λ p. Puts option_bytes (string max_string_bytes cursor.at (drop cursor.at s.now)) at out.old p.next.at p.behind out.new) }
 {
-    let read = read_string_lua54(s, cursor, max_string_bytes);
-    match read {
-        StringResult::Err(refusal) => Passed {
-            read: CursorResult::Err(refusal),
-            behind: at,
-        },
-        StringResult::Ok { string, next } => {
-            let behind = put_string(s, string, out, at);
-            Passed {
-                read: CursorResult::Ok(next),
-                behind: behind,
-            }
-        }
-    }
+    let (string, next) = read_string_lua54(s, cursor, max_string_bytes)?;
+    let behind = put_string(s, string, out, at);
+    Ok(Passed { next, behind })
 }
 
 // Reads an anchor and puts its two numbers. Ruled out: pc and line exchanged, a padded number kept.
-pub fn copy_anchor(s: &[u8], cursor: Cursor, out: &mut [u8], at: usize) -> Passed
-    ensures read_value { result.read ≡ cursor_result (anchor cursor.at (drop cursor.at s.now)) }
-    ensures puts { Puts anchor_bytes (anchor cursor.at (drop cursor.at s.now)) at out.old (next_of result.read) result.behind out.new }
+pub fn copy_anchor(s: &[u8], cursor: Cursor, out: &mut [u8], at: usize) -> Result<Passed, Refusal>
+    ensures read_value { cursor_of result ≡ cursor_result (anchor cursor.at (drop cursor.at s.now)) }
+    ensures puts { IfOk result (λ p. Puts anchor_bytes (anchor cursor.at (drop cursor.at s.now)) at out.old p.next.at p.behind out.new) }
 {
-    let read = read_anchor(s, cursor);
-    match read {
-        AnchorResult::Err(refusal) => Passed {
-            read: CursorResult::Err(refusal),
-            behind: at,
-        },
-        AnchorResult::Ok { value, next } => {
-            let first = put_varint(out, at, value.pc as u64);
-            let behind = put_varint(out, first, value.line as u64);
-            Passed {
-                read: CursorResult::Ok(next),
-                behind: behind,
-            }
-        }
-    }
+    let (anchor, next) = read_anchor(s, cursor)?;
+    let first = put_varint(out, at, anchor.pc as u64);
+    let behind = put_varint(out, first, anchor.line as u64);
+    Ok(Passed { next, behind })
 }
 
 // Reads a local variable and puts its name and its two numbers. Ruled out: an absent name written as absent, startpc and endpc exchanged.
@@ -80,31 +59,15 @@ pub fn copy_local(
     max_string_bytes: usize,
     out: &mut [u8],
     at: usize,
-) -> Passed
-    ensures read_value { result.read ≡ cursor_result (local max_string_bytes cursor.at (drop cursor.at s.now)) }
-    ensures puts { Puts local_bytes (local max_string_bytes cursor.at (drop cursor.at s.now)) at out.old (next_of result.read) result.behind out.new }
+) -> Result<Passed, Refusal>
+    ensures read_value { cursor_of result ≡ cursor_result (local max_string_bytes cursor.at (drop cursor.at s.now)) }
+    ensures puts { IfOk result (λ p. Puts local_bytes (local max_string_bytes cursor.at (drop cursor.at s.now)) at out.old p.next.at p.behind out.new) }
 {
-    let read = read_local(s, cursor, max_string_bytes);
-    match read {
-        LocalResult::Err(refusal) => Passed {
-            read: CursorResult::Err(refusal),
-            behind: at,
-        },
-        LocalResult::Ok {
-            name,
-            startpc,
-            endpc,
-            next,
-        } => {
-            let named = put_name(s, name, out, at);
-            let first = put_varint(out, named, startpc as u64);
-            let behind = put_varint(out, first, endpc as u64);
-            Passed {
-                read: CursorResult::Ok(next),
-                behind: behind,
-            }
-        }
-    }
+    let (local, next) = read_local(s, cursor, max_string_bytes)?;
+    let named = put_name(s, local.name, out, at);
+    let first = put_varint(out, named, local.startpc as u64);
+    let behind = put_varint(out, first, local.endpc as u64);
+    Ok(Passed { next, behind })
 }
 
 // Puts a constant that was read between two places. A string's size is written anew; any other constant stays as it is.
@@ -135,22 +98,11 @@ pub fn copy_constant(
     max_string_bytes: usize,
     out: &mut [u8],
     at: usize,
-) -> Passed
-    ensures read_value { result.read ≡ cursor_result (constant max_string_bytes cursor.at (drop cursor.at s.now)) }
-    ensures puts { Below 256 s.now → Puts constant_bytes (constant max_string_bytes cursor.at (drop cursor.at s.now)) at out.old (next_of result.read) result.behind out.new }
+) -> Result<Passed, Refusal>
+    ensures read_value { cursor_of result ≡ cursor_result (constant max_string_bytes cursor.at (drop cursor.at s.now)) }
+    ensures puts { Below 256 s.now → IfOk result (λ p. Puts constant_bytes (constant max_string_bytes cursor.at (drop cursor.at s.now)) at out.old p.next.at p.behind out.new) }
 {
-    let read = read_constant(s, cursor, max_string_bytes);
-    match read {
-        ConstantResult::Err(refusal) => Passed {
-            read: CursorResult::Err(refusal),
-            behind: at,
-        },
-        ConstantResult::Ok { value, next } => {
-            let behind = put_value(s, cursor.at, next.at, value, out, at);
-            Passed {
-                read: CursorResult::Ok(next),
-                behind: behind,
-            }
-        }
-    }
+    let (value, next) = read_constant(s, cursor, max_string_bytes)?;
+    let behind = put_value(s, cursor.at, next.at, value, out, at);
+    Ok(Passed { next, behind })
 }

@@ -4,6 +4,8 @@
 --     memory_holds     what then stands there: the full copy, and behind it what stood there; on a refusal all that stood there
 -- Told apart: 26 judged by the archive copy's length, the archive copy written, a byte behind the copy touched, memory touched on a refusal.
 -- Assumes nothing.
+use Rattle.std.specs.Prelude.{ℕ, Result, Ok, Err}
+use Rattle.format.specs.declared.refusal.Refusal.{Refusal}
 use mathlib.Core.Path.{◌≡◌, refl}
 use mathlib.Core.List.{List, [], ◌∷◌, ◌++◌, map}
 use lib.ListN.{length, replicate, set, take}
@@ -15,8 +17,6 @@ use Rattle.format.specs.Copy.{list_bytes, behind_source, copy}
 use Rattle.format.specs.FullCopy.{all_within, full_function, full_copy}
 use Rattle.format.specs.Shortest.{shortest}
 use Rattle.format.proofs.Distinct.{header}
-use Rattle.copy.specs.declared.whole.CopyAnswer.{CopyAnswer}
-use Rattle.copy.specs.declared.whole.CopyAnswer.TheVariants.{Ok, Err}
 use Rattle.copy.specs.Copied.{shown_length}
 use Rattle.copy_full.specs.InFull.{shown_full_length, shown_full, full_written}
 
@@ -34,7 +34,7 @@ copied = set header 5 0 ++ (0 ∷ functions) ++ 9 ∷ []
 record Case : Type 0 where
   input : Bytes
   lent : Bytes
-  answer : CopyAnswer
+  answer : Result ℕ Refusal
   then : Bytes
 
 cases : List Case

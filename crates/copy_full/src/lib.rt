@@ -12,13 +12,12 @@ ghost use Rattle.copy_full.specs.InFull.{shown_full_length, shown_full, full_wri
 use crate::plain::is_plain_in_full;
 use crate::whole::full_chunk;
 use copy::plain::{begins_padded, main_upvalues, put_plain};
-use copy::whole::CopyAnswer;
 use format::limits::ResourceLimits;
 use format::refusal::Refusal;
-use read_chunk::summary::{SpeltResult, judge_spelling};
+use read_chunk::summary::judge_spelling;
 
 // The length of a full copy, by the walk.
-fn measure(s: &[u8], limits: ResourceLimits) -> CopyAnswer
+fn measure(s: &[u8], limits: ResourceLimits) -> Result<usize, Refusal>
     ensures { result ≡ shown_full_length (format.read limits s.now) }
 {
     let mut nowhere = [0u8; 1];
@@ -26,70 +25,48 @@ fn measure(s: &[u8], limits: ResourceLimits) -> CopyAnswer
 }
 
 // A full copy, by the walk: the first measures, the second writes.
-fn respell(s: &[u8], limits: ResourceLimits, out: &mut [u8]) -> CopyAnswer
+fn respell(s: &[u8], limits: ResourceLimits, out: &mut [u8]) -> Result<usize, Refusal>
     ensures value { result ≡ shown_full (length out.old) (format.read limits s.now) }
     ensures out_after { out.new ≡ full_written out.old (format.read limits s.now) }
 {
-    let judged = measure(s, limits);
-    match judged {
-        CopyAnswer::Err(refusal) => CopyAnswer::Err(refusal),
-        CopyAnswer::Ok(len) => {
-            if out.len() < len {
-                return CopyAnswer::Err(Refusal::LentSpace);
-            }
-            full_chunk(s, limits, out);
-            CopyAnswer::Ok(len)
-        }
+    let len = measure(s, limits)?;
+    if out.len() < len {
+        return Err(Refusal::LentSpace);
     }
+    full_chunk(s, limits, out)
 }
 
 // The length of a chunk's full copy. Ruled out: the length of the archive copy where a nested source is kept, the length of the chunk itself where its copy is spelt otherwise.
-pub fn full_copy_length(s: &[u8], limits: ResourceLimits) -> CopyAnswer
+pub fn full_copy_length(s: &[u8], limits: ResourceLimits) -> Result<usize, Refusal>
     ensures { result ≡ shown_full_length (format.read limits s.now) }
 {
     if begins_padded(s) {
         return measure(s, limits);
     }
-    let judged = judge_spelling(s, limits);
-    match judged {
-        SpeltResult::Err(refusal) => CopyAnswer::Err(refusal),
-        SpeltResult::Ok {
-            summary: _,
-            spelling,
-        } => {
-            if !is_plain_in_full(spelling) {
-                return measure(s, limits);
-            }
-            CopyAnswer::Ok(s.len())
-        }
+    let (_, spelling) = judge_spelling(s, limits)?;
+    if !is_plain_in_full(spelling) {
+        return measure(s, limits);
     }
+    Ok(s.len())
 }
 
 // Writes the full copy of a chunk at the start of `out`. Ruled out: 26 judged by the archive copy's length, memory that is touched where the answer is a refusal.
-pub fn full_copy(s: &[u8], limits: ResourceLimits, out: &mut [u8]) -> CopyAnswer
+pub fn full_copy(s: &[u8], limits: ResourceLimits, out: &mut [u8]) -> Result<usize, Refusal>
     ensures value { result ≡ shown_full (length out.old) (format.read limits s.now) }
     ensures out_after { out.new ≡ full_written out.old (format.read limits s.now) }
 {
     if begins_padded(s) {
         return respell(s, limits, out);
     }
-    let judged = judge_spelling(s, limits);
-    match judged {
-        SpeltResult::Err(refusal) => CopyAnswer::Err(refusal),
-        SpeltResult::Ok {
-            summary: _,
-            spelling,
-        } => {
-            if !is_plain_in_full(spelling) {
-                return respell(s, limits, out);
-            }
-            if out.len() < s.len() {
-                CopyAnswer::Err(Refusal::LentSpace)
-            } else {
-                let upvalues = main_upvalues(s, limits);
-                put_plain(s, upvalues, out);
-                CopyAnswer::Ok(s.len())
-            }
-        }
+    let (_, spelling) = judge_spelling(s, limits)?;
+    if !is_plain_in_full(spelling) {
+        return respell(s, limits, out);
+    }
+    if out.len() < s.len() {
+        Err(Refusal::LentSpace)
+    } else {
+        let upvalues = main_upvalues(s, limits);
+        put_plain(s, upvalues, out);
+        Ok(s.len())
     }
 }

@@ -7,18 +7,23 @@ ghost use Rattle.format.specs.ReadChunk as format;
 ghost use Rattle.format.specs.FullCopy.{full_functions, full_copy};
 ghost use Rattle.copy.specs.Inner.Answers.{chunkBy, Answers, CopiesBy};
 
-use copy::whole::CopyAnswer;
 use copy_full_walk::walk::copy_in_full;
 use copy_put::header::put_front;
 use copy_put::raw::{plus, put_bytes};
 use copy_walk::walk::within;
 use format::limits::ResourceLimits;
-use read_chunk::{OpeningResult, open_chunk};
-use read_walk::walk::{SkimResult, Skimmed};
+use format::refusal::Refusal;
+use read_chunk::open_chunk;
+use read_walk::walk::Skimmed;
 use slice::cursor::{Cursor, remaining};
 
 // Main, which begins at the cursor and has no function around it (no source is spelt at the end of the slice), with all that nest in it, then the header, of which one byte depends on main, then the trailing bytes.
-fn full_functions(s: &[u8], limits: ResourceLimits, cursor: Cursor, out: &mut [u8]) -> CopyAnswer
+fn full_functions(
+    s: &[u8],
+    limits: ResourceLimits,
+    cursor: Cursor,
+    out: &mut [u8],
+) -> Result<usize, Refusal>
     requires { (limits.max_nesting_depth ≤ DEEPEST) × Walkable limits }
     ensures { Below 256 s.now → length s.now ≤ MOST → Answers (chunkBy full_functions) (format.function limits limits.max_nesting_depth outermost cursor.at (drop cursor.at s.now)) out.old result out.new }
 {
@@ -29,29 +34,17 @@ fn full_functions(s: &[u8], limits: ResourceLimits, cursor: Cursor, out: &mut [u
         instructions: 0,
     };
     let start = within(32, out.len());
-    let main = copy_in_full(s, limits, s.len(), left, from, &mut out[start..]);
-    let walk = main.walk;
-    match walk {
-        SkimResult::Err(refusal) => CopyAnswer::Err(refusal),
-        SkimResult::Ok(walked) => {
-            let next = walked.next;
-            put_front(main.upvalues, out);
-            let behind = plus(32, main.len);
-            CopyAnswer::Ok(put_bytes(s, next.at, remaining(s, next), out, behind))
-        }
-    }
+    let main = copy_in_full(s, limits, s.len(), left, from, &mut out[start..])?;
+    put_front(main.upvalues, out);
+    let behind = plus(32, main.len);
+    let next = main.walk.next;
+    Ok(put_bytes(s, next.at, remaining(s, next), out, behind))
 }
 
 // A chunk under limits, judged; and its full copy at the start of the lent memory, if it has room there. Ruled out: a length without the trailing bytes, a chunk above the input limit copied.
-pub fn full_chunk(s: &[u8], limits: ResourceLimits, out: &mut [u8]) -> CopyAnswer
+pub fn full_chunk(s: &[u8], limits: ResourceLimits, out: &mut [u8]) -> Result<usize, Refusal>
     ensures { CopiesBy full_copy (format.read limits s.now) out.old result out.new }
 {
-    let begins = open_chunk(s, limits);
-    match begins {
-        OpeningResult::Err(refusal) => CopyAnswer::Err(refusal),
-        OpeningResult::Ok(opening) => {
-            let first = opening.next;
-            full_functions(s, limits, first, out)
-        }
-    }
+    let opening = open_chunk(s, limits)?;
+    full_functions(s, limits, opening.next, out)
 }

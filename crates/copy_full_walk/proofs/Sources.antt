@@ -4,6 +4,7 @@
 --     is-written               what a full copy writes of what is spelt
 --     its_written              the same of a head that was read, by what `source_of` showed
 -- Assumes nothing.
+use Rattle.std.specs.Prelude.{Some, None}
 use mathlib.Core.Path.{◌≡◌, refl, sym, ◌∙◌, ap, ap₂}
 use mathlib.Core.Bool.{Bool, true, false, not, cond}
 use mathlib.Core.Option.{Option, none, some}
@@ -19,7 +20,6 @@ use Rattle.format.specs.Copy.{option_bytes}
 use Rattle.format.specs.FullCopy.{equal_sources, nested_source}
 use Rattle.format.proofs.FullSources.{inherited}
 use Rattle.read_field.specs.declared.string.StringAt.{StringAt}
-use Rattle.read_field.specs.declared.string.OptionString.TheVariants as option
 use Rattle.read_field.specs.Shown.{option_string}
 use Rattle.read_prototype.specs.Parts.{Head, head}
 use Rattle.read_prototype.specs.Inner.Counts.{is_spelt}
@@ -33,10 +33,10 @@ use Rattle.copy_full_walk.specs.Inner.Source.{written, source_of}
 abbrev answered : ℕ → ℕ → Option LuaString → Option LuaString → Source
 answered at parent t p = record { own = handed (is_spelt (option_string t)) at parent; written = written t p }
 
-pub absent : (at parent : ℕ) (t p : Option LuaString) → option.None ≡ option_string t → record { own = parent; written = false } ≡ answered at parent t p
+pub absent : (at parent : ℕ) (t p : Option LuaString) → None ≡ option_string t → record { own = parent; written = false } ≡ answered at parent t p
 absent at parent t p e = rw (no_outer t e)
 
-pub spelt : (at parent : ℕ) (t p : Option LuaString) {x : StringAt} {b : Bool} → option.Some x ≡ option_string t → b ≡ repeats t p → record { own = at; written = not b } ≡ answered at parent t p
+pub spelt : (at parent : ℕ) (t p : Option LuaString) {x : StringAt} {b : Bool} → Some x ≡ option_string t → b ≡ repeats t p → record { own = at; written = not b } ≡ answered at parent t p
 spelt at parent none p e f = absurd (let z : ◌≡◌ {A = ℕ} 0 1 = cc in omega arith)
 spelt at parent (some t) p e f = rw f
 

@@ -2,7 +2,6 @@
 ghost use Rattle.std.specs.Prelude.{◌≡◌};
 ghost use Rattle.copy_full_walk.specs.Inner.Source.{source_of};
 
-use read_field::string::OptionString;
 use read_walk::source::{repeats, source_at, unpadded};
 
 // Where the source is spelt that the functions in a function inherit, and whether a full copy writes the function's own.
@@ -19,11 +18,11 @@ pub fn source_of(s: &[u8], max_string_bytes: usize, parent: usize, at: usize) ->
 {
     let name = source_at(s, max_string_bytes, at);
     match name {
-        OptionString::None => Source {
+        None => Source {
             own: parent,
             written: false,
         },
-        OptionString::Some(_) => {
+        Some(_) => {
             let same = repeats(s, max_string_bytes, at, parent);
             Source {
                 own: unpadded(s, at),

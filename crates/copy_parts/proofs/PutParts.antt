@@ -1,5 +1,7 @@
 -- The two parts of a function, put: by what the calls put of each list.
 -- Assumes nothing.
+use Rattle.std.specs.Prelude as prelude
+use Rattle.read_field.specs.declared.string.StringAt.{StringAt}
 use mathlib.Core.Path.{◌≡◌, sym, subst, ◌∙◌, ap}
 use mathlib.Core.Bool.{Bool, true, false, cond}
 use mathlib.Core.List.{[], ◌∷◌, ◌++◌}
@@ -26,7 +28,6 @@ use Rattle.read_prototype.specs.declared.parts.Tail as declared-tail
 use Rattle.read_prototype.specs.declared.front.Sizes.{Sizes}
 use Rattle.read_prototype.specs.Parts.{HeadLists, head_lists, Head, head, Tail, tail}
 use Rattle.read_prototype.specs.PartsShown.{lists_of, head_of, tail_of}
-use Rattle.read_field.specs.declared.string.OptionString.{OptionString}
 use Rattle.read_field.specs.Shown.{option_string}
 use Rattle.copy_put.specs.Inner.Put.{Put, PutsAll}
 use Rattle.copy_put.specs.Inner.Text.{There, spelt}
@@ -90,7 +91,7 @@ module _ (s : Bytes) where
       (all-put s (local limit) t.loc_vars tail'.loc_vars.count tail'.loc_vars.place (ap (λ x. x.loc_vars.count) shows) (ap (λ x. x.loc_vars.place) shows) z.loc_vars r)
       (all-put s (string limit) t.upvalue_names_lem tail'.upvalue_names.count tail'.upvalue_names.place (ap (λ x. x.upvalue_names.count) shows) (ap (λ x. x.upvalue_names.place) shows) z.upvalue_names_lem u)))
 
-  source-put : (named : Bool) (source : OptionString) (t : Option LuaString) {at b : ℕ} {k k' : Bytes} → StandsIf s t → source ≡ option_string t
+  source-put : (named : Bool) (source : prelude.Option StringAt) (t : Option LuaString) {at b : ℕ} {k k' : Bytes} → StandsIf s t → source ≡ option_string t
       → (There s source → Put (cond named (spelt s source) (shortest 0)) at k b k') → Put (source_bytes named t) at k b k'
   source-put true source t stands e p = string-put s t source stands e p
   source-put false source t stands e p = p (rw e (there-is s t stands))

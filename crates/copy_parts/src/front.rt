@@ -1,11 +1,12 @@
 // The front of a function, field by field: read as `read_front` of read_prototype reads it, and put into the copy in the same pass.
 // It has its own readers: a second caller of `read_front` would cost every walk, which has it inlined.
-ghost use Rattle.std.specs.Prelude.{◌≡◌, cond, [], ◌∷◌, drop};
+ghost use Rattle.std.specs.Prelude.{◌≡◌, cond, [], ◌∷◌, drop, IfOk};
 ghost use Rattle.format.specs.Shortest.{shortest};
 ghost use Rattle.read_prototype.specs.Front as spec;
 ghost use Rattle.read_prototype.specs.Inner.Results.{lines_result, sizes_result, front_result};
 ghost use Rattle.copy_put.specs.Inner.Put.{Put};
 ghost use Rattle.copy_put.specs.Inner.Text.{There, spelt};
+ghost use Rattle.copy_entry.specs.Inner.Passed.{cursor_of};
 ghost use Rattle.copy_parts.specs.Inner.Parts.{lines_bytes};
 ghost use Rattle.copy_parts.specs.Inner.Fronts.{lines_read, sizes_read, front_read, PutsLines, PutsSizes, PutsFront};
 
@@ -13,14 +14,15 @@ use copy_entry::entry::Passed;
 use copy_put::number::put_varint;
 use copy_put::raw::put_byte;
 use copy_put::text::put_string;
-use read_field::field::{U8Result, U64Result, read_u8};
-use read_field::string::{OptionString, StringResult, read_string_lua54};
+use format::refusal::Refusal;
+use read_field::field::read_u8;
+use read_field::string::{StringAt, read_string_lua54};
 use read_field::varint::read_value;
 use read_prototype::front::{Lines, Sizes};
-use slice::cursor::{Cursor, CursorResult};
+use slice::cursor::Cursor;
 
 // Main's source; a nested function's is written as absent.
-fn put_source(s: &[u8], named: bool, source: OptionString, out: &mut [u8]) -> usize
+fn put_source(s: &[u8], named: bool, source: Option<StringAt>, out: &mut [u8]) -> usize
     ensures { There s.now source → Put (cond named (spelt s.now source) (shortest 0)) 0 out.old result out.new }
 {
     if named {
@@ -36,40 +38,18 @@ fn put_lines(lines: Lines, out: &mut [u8], at: usize) -> usize
     put_varint(out, first, lines.last_line_defined as u64)
 }
 
-fn copy_lines(s: &[u8], cursor: Cursor, out: &mut [u8], at: usize) -> Passed
-    ensures read_value { result.read ≡ lines_read (lines_result (spec.lines cursor.at (drop cursor.at s.now))) }
-    ensures puts_lines { PutsLines (lines_result (spec.lines cursor.at (drop cursor.at s.now))) at out.old result.behind out.new }
+fn copy_lines(s: &[u8], cursor: Cursor, out: &mut [u8], at: usize) -> Result<Passed, Refusal>
+    ensures read_value { cursor_of result ≡ lines_read (lines_result (spec.lines cursor.at (drop cursor.at s.now))) }
+    ensures puts_lines { IfOk result (λ p. PutsLines (lines_result (spec.lines cursor.at (drop cursor.at s.now))) at out.old p.behind out.new) }
 {
-    let first = read_value(s, cursor);
-    match first {
-        U64Result::Err(refusal) => Passed {
-            read: CursorResult::Err(refusal),
-            behind: at,
-        },
-        U64Result::Ok {
-            value: line_defined,
-            next: further,
-        } => {
-            let last = read_value(s, further);
-            match last {
-                U64Result::Err(refusal) => Passed {
-                    read: CursorResult::Err(refusal),
-                    behind: at,
-                },
-                U64Result::Ok { value, next } => {
-                    let lines = Lines {
-                        line_defined: line_defined as usize,
-                        last_line_defined: value as usize,
-                    };
-                    let behind = put_lines(lines, out, at);
-                    Passed {
-                        read: CursorResult::Ok(next),
-                        behind: behind,
-                    }
-                }
-            }
-        }
-    }
+    let (line_defined, further) = read_value(s, cursor)?;
+    let (last_line_defined, next) = read_value(s, further)?;
+    let lines = Lines {
+        line_defined: line_defined as usize,
+        last_line_defined: last_line_defined as usize,
+    };
+    let behind = put_lines(lines, out, at);
+    Ok(Passed { next, behind })
 }
 
 fn put_sizes(sizes: Sizes, out: &mut [u8], at: usize) -> usize
@@ -80,53 +60,20 @@ fn put_sizes(sizes: Sizes, out: &mut [u8], at: usize) -> usize
     put_byte(out, second, sizes.maxstacksize)
 }
 
-fn copy_sizes(s: &[u8], cursor: Cursor, out: &mut [u8], at: usize) -> Passed
-    ensures read_value { result.read ≡ sizes_read (sizes_result (spec.sizes cursor.at (drop cursor.at s.now))) }
-    ensures puts_sizes { PutsSizes (sizes_result (spec.sizes cursor.at (drop cursor.at s.now))) at out.old result.behind out.new }
+fn copy_sizes(s: &[u8], cursor: Cursor, out: &mut [u8], at: usize) -> Result<Passed, Refusal>
+    ensures read_value { cursor_of result ≡ sizes_read (sizes_result (spec.sizes cursor.at (drop cursor.at s.now))) }
+    ensures puts_sizes { IfOk result (λ p. PutsSizes (sizes_result (spec.sizes cursor.at (drop cursor.at s.now))) at out.old p.behind out.new) }
 {
-    let first = read_u8(s, cursor);
-    match first {
-        U8Result::Err(refusal) => Passed {
-            read: CursorResult::Err(refusal),
-            behind: at,
-        },
-        U8Result::Ok {
-            value: numparams,
-            next: next1,
-        } => {
-            let second = read_u8(s, next1);
-            match second {
-                U8Result::Err(refusal) => Passed {
-                    read: CursorResult::Err(refusal),
-                    behind: at,
-                },
-                U8Result::Ok {
-                    value: is_vararg,
-                    next: next2,
-                } => {
-                    let third = read_u8(s, next2);
-                    match third {
-                        U8Result::Err(refusal) => Passed {
-                            read: CursorResult::Err(refusal),
-                            behind: at,
-                        },
-                        U8Result::Ok { value, next } => {
-                            let sizes = Sizes {
-                                numparams: numparams,
-                                is_vararg: is_vararg,
-                                maxstacksize: value,
-                            };
-                            let behind = put_sizes(sizes, out, at);
-                            Passed {
-                                read: CursorResult::Ok(next),
-                                behind: behind,
-                            }
-                        }
-                    }
-                }
-            }
-        }
-    }
+    let (numparams, further) = read_u8(s, cursor)?;
+    let (is_vararg, last) = read_u8(s, further)?;
+    let (maxstacksize, next) = read_u8(s, last)?;
+    let sizes = Sizes {
+        numparams,
+        is_vararg,
+        maxstacksize,
+    };
+    let behind = put_sizes(sizes, out, at);
+    Ok(Passed { next, behind })
 }
 
 // From the source to the three bytes, at the start of the lent memory. Ruled out: a nested function's source kept, the lines exchanged.
@@ -136,30 +83,12 @@ pub fn copy_front(
     max_string_bytes: usize,
     cursor: Cursor,
     out: &mut [u8],
-) -> Passed
-    ensures read_value { result.read ≡ front_read (front_result (spec.front max_string_bytes cursor.at (drop cursor.at s.now))) }
-    ensures puts_front { PutsFront s.now named (front_result (spec.front max_string_bytes cursor.at (drop cursor.at s.now))) out.old result.behind out.new }
+) -> Result<Passed, Refusal>
+    ensures read_value { cursor_of result ≡ front_read (front_result (spec.front max_string_bytes cursor.at (drop cursor.at s.now))) }
+    ensures puts_front { IfOk result (λ p. PutsFront s.now named (front_result (spec.front max_string_bytes cursor.at (drop cursor.at s.now))) out.old p.behind out.new) }
 {
-    let name = read_string_lua54(s, cursor, max_string_bytes);
-    match name {
-        StringResult::Err(refusal) => Passed {
-            read: CursorResult::Err(refusal),
-            behind: 0,
-        },
-        StringResult::Ok {
-            string: source,
-            next: next1,
-        } => {
-            let sourced = put_source(s, named, source, out);
-            let between = copy_lines(s, next1, out, sourced);
-            let lined = between.read;
-            match lined {
-                CursorResult::Err(refusal) => Passed {
-                    read: CursorResult::Err(refusal),
-                    behind: 0,
-                },
-                CursorResult::Ok(next2) => copy_sizes(s, next2, out, between.behind),
-            }
-        }
-    }
+    let (source, next) = read_string_lua54(s, cursor, max_string_bytes)?;
+    let behind = put_source(s, named, source, out);
+    let lines = copy_lines(s, next, out, behind)?;
+    copy_sizes(s, lines.next, out, lines.behind)
 }

@@ -13,10 +13,8 @@ fn store_groups(out: &mut [u8], at: usize, n: usize, v: u64)
     requires { at + n ≤ length out.old }
     ensures { out.new ≡ splice at (groups n v) out.old }
 {
-    let mut i = at + n;
     let mut rest = v;
-    while at < i {
-        i -= 1;
+    for i in (at..at + n).rev() {
         out[i] = (rest % 128) as u8;
         rest /= 128;
     }

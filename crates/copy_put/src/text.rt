@@ -6,7 +6,7 @@ ghost use Rattle.copy_put.specs.Inner.Text.{There, spelt, spelt_name};
 
 use crate::number::put_varint;
 use crate::raw::{put_byte, put_bytes};
-use read_field::string::{OptionString, StringAt};
+use read_field::string::StringAt;
 use slice::cursor::{Cursor, remaining};
 
 // A string that is there. Ruled out: the length without the 1 that is added, the bytes before the size.
@@ -23,25 +23,25 @@ fn put_present(s: &[u8], string: StringAt, out: &mut [u8], at: usize) -> usize
 }
 
 // A string, or its absence. Ruled out: an absent string written as empty, nothing written for it.
-pub fn put_string(s: &[u8], string: OptionString, out: &mut [u8], at: usize) -> usize
+pub fn put_string(s: &[u8], string: Option<StringAt>, out: &mut [u8], at: usize) -> usize
     ensures { There s.now string → Put (spelt s.now string) at out.old result out.new }
 {
     match string {
-        OptionString::None => put_varint(out, at, 0),
-        OptionString::Some(present) => put_present(s, present, out, at),
+        None => put_varint(out, at, 0),
+        Some(present) => put_present(s, present, out, at),
     }
 }
 
 // The name of a local variable: `?` where it is absent. Ruled out: an absent name written as absent, or as empty.
-pub fn put_name(s: &[u8], name: OptionString, out: &mut [u8], at: usize) -> usize
+pub fn put_name(s: &[u8], name: Option<StringAt>, out: &mut [u8], at: usize) -> usize
     ensures { There s.now name → Put (spelt_name s.now name) at out.old result out.new }
 {
     match name {
-        OptionString::None => {
+        None => {
             let behind = put_varint(out, at, 2);
             put_byte(out, behind, 63)
         }
-        OptionString::Some(present) => put_present(s, present, out, at),
+        Some(present) => put_present(s, present, out, at),
     }
 }
 

@@ -1,8 +1,8 @@
 -- A function copied, in the code's terms: by what the calls showed and put (read_walk's `OneFunction.antt` says what they show).
---     not-read         a walk that refuses may have put anything
 --     its_head, first  the head that was read, and where the first function stands that nests in it
 --     end-shows, whole-put     behind the end of a function: what is shown, and what was put
 -- Assumes nothing.
+use Rattle.std.specs.Prelude.{Result, Ok, Err}
 use mathlib.Core.Path.{◌≡◌, refl, sym, subst, ◌∙◌, ap}
 use mathlib.Core.Bool.{Bool}
 use mathlib.Core.List.{List, ◌∷◌, ◌++◌}
@@ -22,37 +22,22 @@ use Rattle.read_prototype.specs.Parts.{Head, head, Tail, tail}
 use Rattle.read_prototype.specs.Inner.Whole.{prototype_of, inside}
 use Rattle.read_prototype.specs.PartsShown.{head_of, head_result}
 use Rattle.read_walk.specs.declared.walk.Skimmed.{Skimmed}
-use Rattle.read_walk.specs.declared.walk.SkimResult.{SkimResult}
-use Rattle.read_walk.specs.declared.walk.SkimResult.TheVariants as skim
 use Rattle.read_walk.specs.Inner.Skim.{entered, skim_result}
 use Rattle.read_walk.proofs.HeadTail.{ReadOn, head_err, head_read, in_total}
 use Rattle.read_walk.proofs.OneFunction as one
-use Rattle.read_walk.proofs.OneFunction.{skim_err, Skims}
+use Rattle.read_walk.proofs.OneFunction.{Skims}
 use Rattle.copy_put.specs.Inner.Put.{Put}
 use Rattle.copy_put.proofs.Writes.{put_then}
 use Rattle.copy_parts.specs.Inner.Parts.{head_bytes, tail_bytes}
 use Rattle.copy_parts.specs.Inner.Ends.{PutsTail, end_shown}
 use Rattle.copy_parts.specs.declared.parts.Counts.{Counts}
-use Rattle.copy_parts.specs.declared.parts.CountsResult.TheVariants as counts-answer
 use Rattle.copy_parts.specs.Inner.Heads.{counts_of, head_counted, PutsHead}
 use Rattle.copy_parts.proofs.HeadPut.{CountsWere, counts_were, counts_stops}
 use Rattle.copy_walk.specs.Inner.Walk.{PutsFunction}
 use Rattle.copy_parts.proofs.PutParts.{put_as}
 
--- what a return with a refusal shows, and what is then asked of the memory
-module _ (bytes : Where → List Prototype → Bytes) (from : Skimmed) (o : Where → Read (List Prototype)) (r : SkimResult) (l : Bytes) (upvalues len : ℕ) (l' : Bytes) (q : Refusal) (is : r ≡ skim.Err q) where
-  pub not-read : ((w : Where) → from.number ≡ w.number → from.instructions ≡ w.instructions → skim.Err q ≡ skim_result w (o w))
-      → ((w : Where) → from.number ≡ w.number → from.instructions ≡ w.instructions → r ≡ skim_result w (o w)) × ((w : Where) → from.number ≡ w.number → from.instructions ≡ w.instructions → PutsFunction (bytes w) (o w) l upvalues len l')
-  not-read shows = (
-    λ w n i. is ∙ shows w n i,
-    λ w n i. record {
-      counts = λ ps to rest f. absurd (never (sym (skim_err w (o w) q (shows w n i)) ∙ f));
-      put = λ ps to rest f. absurd (never (sym (skim_err w (o w) q (shows w n i)) ∙ f));
-    },
-  )
-
 -- the instructions so far are within their limit
-pub counted_total : (s : Bytes) (L : ResourceLimits) (before at : ℕ) (h : Counts) (c : Cursor) → counts-answer.Ok h c ≡ head_counted (head_result (head L before at (drop at s))) → before + h.instructions ≤ L.max_total_instructions
+pub counted_total : (s : Bytes) (L : ResourceLimits) (before at : ℕ) (h : Counts) (c : Cursor) → Ok (h, c) ≡ head_counted (head_result (head L before at (drop at s))) → before + h.instructions ≤ L.max_total_instructions
 counted_total s L before at h c e =
     let were = counts_were (head_result (head L before at (drop at s))) h c e in
     subst (λ (h : Counts). before + h.instructions ≤ L.max_total_instructions) (sym were.counted) (in_total s L before at were.value c were.is)
@@ -61,10 +46,10 @@ module _ (s : Bytes) (L : ResourceLimits) (left : ℕ) (w : Where) (at : ℕ) {b
   as_begins : head L w.instructions at (drop at s) ≡ head L before at (drop at s)
   as_begins = ap (λ n. head L n at (drop at s)) (sym so_far)
 
-  pub head-refused : (q : Refusal) → counts-answer.Err q ≡ head_counted (head_result (head L before at (drop at s))) → skim.Err q ≡ skim_result w (function L left w at (drop at s))
+  pub head-refused : (q : Refusal) → Err q ≡ head_counted (head_result (head L before at (drop at s))) → Err q ≡ skim_result w (function L left w at (drop at s))
   head-refused q e = one.head-refused s L left w at q (as_begins ∙ head_err _ q (counts_stops (head_result (head L before at (drop at s))) q e))
 
-  module _ (h : Counts) (c₁ : Cursor) (e₁ : counts-answer.Ok h c₁ ≡ head_counted (head_result (head L before at (drop at s)))) where
+  module _ (h : Counts) (c₁ : Cursor) (e₁ : Ok (h, c₁) ≡ head_counted (head_result (head L before at (drop at s)))) where
     pub were : CountsWere (head_result (head L before at (drop at s))) h c₁
     were = counts_were (head_result (head L before at (drop at s))) h c₁ e₁
 
@@ -89,14 +74,14 @@ module _ (s : Bytes) (L : ResourceLimits) (left : ℕ) (w : Where) (at : ℕ) {b
     pub first_instructions : before + h.instructions ≡ first.instructions
     first_instructions = λ i. so_far i + (kept i).instructions
 
-    pub nested_refused : (q : Refusal) → skim.Err q ≡ skim_result first (forest h.protos (entered L left) first c₁.at (drop c₁.at s)) → skim.Err q ≡ skim_result w (function L left w at (drop at s))
+    pub nested_refused : (q : Refusal) → Err q ≡ skim_result first (forest h.protos (entered L left) first c₁.at (drop c₁.at s)) → Err q ≡ skim_result w (function L left w at (drop at s))
     nested_refused = one.nested_refused s L left w at c₁ head-on h.protos many
 
     module _ (k : Skimmed) (nested : Skims (forest h.protos (entered L left)) s first c₁.at k) where
       abbrev ends : Read Tail
       ends = tail L.max_string_bytes k.next.at (drop k.next.at s)
 
-      pub end-shows : (r : SkimResult) → r ≡ end_shown k ends → r ≡ skim_result w (function L left w at (drop at s))
+      pub end-shows : (r : Result Skimmed Refusal) → r ≡ end_shown k ends → r ≡ skim_result w (function L left w at (drop at s))
       end-shows r e = e ∙ by ends refl
         where
           by : (o : Read Tail) → ends ≡ o → end_shown k o ≡ skim_result w (function L left w at (drop at s))

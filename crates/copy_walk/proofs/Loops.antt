@@ -3,6 +3,7 @@
 --     Copies           in the loop: those passed are read (read_walk's `SoFar.antt`), and copied if what is asked of the function holds
 --     copies_none, copies_one, copies_all      before the first; behind one more; where none is left
 -- Assumes nothing.
+use Rattle.std.specs.Prelude.{Ok}
 use mathlib.Core.Path.{◌≡◌, refl, sym, ◌∙◌, ap}
 use mathlib.Core.List.{List, [], ◌∷◌, ◌++◌, append_assoc, append-nil, foldr, foldr-append}
 use mathlib.Core.Option.{Option}
@@ -16,7 +17,6 @@ use Rattle.format.specs.GrammarChunk.{Where}
 use Rattle.format.specs.Read.{ok}
 use Rattle.format.specs.ReadChunk.{function}
 use Rattle.read_walk.specs.declared.walk.Skimmed.{Skimmed}
-use Rattle.read_walk.specs.declared.walk.SkimResult.TheVariants as skim
 use Rattle.read_walk.specs.Inner.Skim.{entered, on, skim_result}
 use Rattle.read_walk.proofs.SoFar.{SoFar, starts, next-read, goes_on_lem}
 use Rattle.copy_put.specs.Inner.Put.{Put}
@@ -60,7 +60,7 @@ module _ {way : Way} {If : Type 0} {s : Bytes} (L : ResourceLimits) (left : ℕ)
   copies_all holds = all_copied (a.copied holds)
 
   module _ (made : (w : Where) (ps : List Prototype) (at to : ℕ) → Parts way w ps at to → Single way w.source ps at to) (bytes : If → Below 256 s) (some : 0 < more) (level : 0 < left) (few : k.number ≤ L.max_total_prototypes)
-      (later : Skimmed) (e : skim.Ok later ≡ skim_result (on w k) (function L (left - 1) (on w k) k.next.at (drop k.next.at s))) where
+      (later : Skimmed) (e : Ok later ≡ skim_result (on w k) (function L (left - 1) (on w k) k.next.at (drop k.next.at s))) where
     pub copies_one : {at' : ℕ} {l' : Bytes} → (If → (ps : List Prototype) (to : ℕ) (rest : Bytes) → function L (left - 1) (on w k) k.next.at (drop k.next.at s) ≡ ok ps to rest → Put (way.one w.source ps) at l at' l')
         → Copies way If s L left w n from at₀ l₀ later (more - 1) at' l'
     copies_one its =

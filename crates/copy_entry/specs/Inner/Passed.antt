@@ -1,19 +1,23 @@
 -- What is shown of an entry and of a list that are read and put in one pass.
---     next_of r                 the place behind what was read
---     PutsListed r bytes s o at l behind l'    where o shows a list, its entries, behind their count
-use Rattle.std.specs.Prelude.{◌≡◌, ℕ, drop}
+--     cursor_of, list_of        what was read of them: how far, and the list
+--     PutsListed r bytes s l at old new    the entries of the list l, behind their count, put at a place
+use Rattle.std.specs.Prelude.{Result, Ok, Err, ℕ, drop}
+use Rattle.format.specs.declared.refusal.Refusal.{Refusal}
 use Rattle.format.specs.Form.{Bytes}
 use Rattle.format.specs.Read.{Reader, many}
 use Rattle.slice.specs.declared.cursor.Cursor.{Cursor}
-use Rattle.slice.specs.declared.cursor.CursorResult.{CursorResult}
-use Rattle.slice.specs.declared.cursor.CursorResult.TheVariants as cursor
-use Rattle.read_list.specs.declared.ListResult.{ListResult}
-use Rattle.read_list.specs.declared.ListResult.TheVariants as list
+use Rattle.read_list.specs.declared.ListAt.{ListAt}
 use Rattle.copy_put.specs.Inner.Put.{PutsAll}
+use Rattle.copy_entry.specs.declared.entry.Passed.{Passed}
+use Rattle.copy_entry.specs.declared.listed.Listed.{Listed}
 
-abbrev pub next_of : CursorResult → ℕ
-next_of (cursor.Ok c) = c.at
-next_of (cursor.Err q) = 0
+abbrev pub cursor_of : Result Passed Refusal → Result Cursor Refusal
+cursor_of (Ok p) = Ok p.next
+cursor_of (Err q) = Err q
 
-pub record PutsListed {A : Type 0} (r : Reader A) (bytes : A → Bytes) (s : Bytes) (o : ListResult) (at : ℕ) (l : Bytes) (behind : ℕ) (l' : Bytes) : Type 0 where
-  pub put : (count place : ℕ) (c : Cursor) → o ≡ list.Ok count place c → PutsAll bytes (many count r place (drop place s)) at l behind l'
+abbrev pub list_of : Result Listed Refusal → Result (ListAt × Cursor) Refusal
+list_of (Ok l) = Ok (l.list, l.next)
+list_of (Err q) = Err q
+
+abbrev pub PutsListed : {A : Type 0} → Reader A → (A → Bytes) → Bytes → Listed → ℕ → Bytes → Bytes → Type 0
+PutsListed r bytes s l at old new = PutsAll bytes (many l.list.count r l.list.place (drop l.list.place s)) at old l.behind new

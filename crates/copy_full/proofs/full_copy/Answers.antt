@@ -1,25 +1,13 @@
 -- `copy_full::full_copy` meets its contract: by what judging showed (`PlainFull.antt`). Assumes nothing.
 use mathlib.Core.Path.{sym, ◌∙◌}
-use Rattle.format.specs.ReadChunk.{read}
-use Rattle.format.specs.FullCopy.{full_copy}
-use Rattle.copy.proofs.Outcomes.{all-bytes, by_refused}
-use Rattle.copy_full.proofs.PlainFull.{full_refused, full_short, full_whole}
+use Rattle.copy.proofs.Outcomes.{all-bytes}
+use Rattle.copy_full.proofs.PlainFull.{full_short, full_whole}
 use Rattle.copy_full.proofs.full_copy.Goals as goal
-
-pub returns-in-Err : goal.returns-in-Err
-returns-in-Err c =
-    let a = c.args in
-    let o = read a.limits a.s.now in
-    let both = by_refused full_copy a.out.now o _ (full_refused _ o _ (sym c.in-Err.is ∙ c.judge_spelling-judged.ensures)) in
-    record {
-      value = both.0;
-      out_after = both.1;
-    }
 
 pub returns-then-out-s : goal.returns-then-out-s
 returns-then-out-s c =
     let a = c.args in
-    let both = full_short a.s.now a.limits (all-bytes a.s.now (λ i h. (c.type_inv.s i).fits)) c.in-Ok.summary c.in-Ok.spelling (sym c.in-Ok.is ∙ c.judge_spelling-judged.ensures)
+    let both = full_short a.s.now a.limits (all-bytes a.s.now (λ i h. (c.type_inv.s i).fits)) _ c.in_ok-spelling.spelling c.in_ok-spelling.ensures
     (sym c.is_plain_in_full.ensures ∙ c.if-not-is_plain_in_full.false)
     a.out.now c.if-out-s.true in
     record {
@@ -30,7 +18,7 @@ returns-then-out-s c =
 pub returns-else-out-s : goal.returns-else-out-s
 returns-else-out-s c =
     let a = c.args in
-    let both = full_whole a.s.now a.limits (all-bytes a.s.now (λ i h. (c.type_inv.s i).fits)) c.in-Ok.summary c.in-Ok.spelling (sym c.in-Ok.is ∙ c.judge_spelling-judged.ensures)
+    let both = full_whole a.s.now a.limits (all-bytes a.s.now (λ i h. (c.type_inv.s i).fits)) _ c.in_ok-spelling.spelling c.in_ok-spelling.ensures
     (sym c.is_plain_in_full.ensures ∙ c.if-not-is_plain_in_full.false)
     a.out.now c.if-out-s.false _ c.main_upvalues-upvalues.ensures c.put_plain.ensures in
     record {

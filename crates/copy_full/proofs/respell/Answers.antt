@@ -2,32 +2,23 @@
 use mathlib.Core.Path.{sym, ◌∙◌}
 use Rattle.format.specs.ReadChunk.{read}
 use Rattle.format.specs.FullCopy.{full_copy}
-use Rattle.copy.proofs.Outcomes.{by_refused, by_short, by_whole}
+use Rattle.copy.proofs.Outcomes.{by_short, by_whole}
 use Rattle.copy_full.proofs.respell.Goals as goal
 
 pub returns-then-out-len : goal.returns-then-out-len
 returns-then-out-len c =
     let a = c.args in
-    let both = by_short full_copy a.out.now (read a.limits a.s.now) _ (sym c.in-Ok.is ∙ c.measure-judged.ensures) c.if-out-len.true in
+    let both = by_short full_copy a.out.now (read a.limits a.s.now) _ c.in_ok-len.ensures c.if-out-len.true in
     record {
       value = both.0;
       out_after = both.1;
     }
 
-pub returns-in-Err : goal.returns-in-Err
-returns-in-Err c =
+pub returns : goal.returns
+returns c =
     let a = c.args in
-    let both = by_refused full_copy a.out.now (read a.limits a.s.now) _ (sym c.in-Err.is ∙ c.measure-judged.ensures) in
+    let both = by_whole full_copy a.out.now (read a.limits a.s.now) _ c.in_ok-len.ensures c.if-out-len.false c.full_chunk.ensures in
     record {
-      value = both.0;
-      out_after = both.1;
-    }
-
-pub returns-else-out-len : goal.returns-else-out-len
-returns-else-out-len c =
-    let a = c.args in
-    let both = by_whole full_copy a.out.now (read a.limits a.s.now) _ (sym c.in-Ok.is ∙ c.measure-judged.ensures) c.if-out-len.false c.full_chunk.ensures in
-    record {
-      value = both.0;
+      value = c.full_chunk.ensures.is ∙ sym c.in_ok-len.ensures ∙ both.0;
       out_after = both.1;
     }

@@ -11,4 +11,4 @@ returns-in-Err c =
 pub returns-in-Ok : goal.returns-in-Ok
 returns-in-Ok c =
     let a = c.args in
-    λ x is. main-counted a.s.now a.limits x is c.in-Ok.counts c.in-Ok.next (sym c.in-Ok.is ∙ c.pass_head-begins.ensures.value)
+    λ x is. main-counted a.s.now a.limits x is c.in-Ok.counts _ (sym c.in-Ok.is ∙ c.pass_head-begins.ensures.value)

@@ -1,5 +1,5 @@
 -- `copy::whole::copy_chunk` meets its contract: by what `open_chunk` and `copy_functions` showed (`Outcomes.antt`). Assumes nothing.
-use mathlib.Core.Path.{sym, ◌∙◌}
+use Rattle.std.proofs.lemmas.Result.{err_from_is_err_and}
 use native.Mathlib.Omega.{arith}
 use Rattle.format.specs.ReadChunk.{read}
 use Rattle.read_chunk.proofs.Summaries.{in_ceilings, input_ceiling}
@@ -10,17 +10,18 @@ use Rattle.copy.proofs.whole.copy_chunk.Goals as goal
 pub copy_functions-requires : goal.copy_functions-requires
 copy_functions-requires c =
     let a = c.args in
-    in_ceilings a.limits (known a.limits a.s.now c.in-Ok.opening (sym c.in-Ok.is ∙ c.open_chunk-begins.ensures)).within
+    in_ceilings a.limits (known a.limits a.s.now c.in_ok-opening.opening c.in_ok-opening.ensures).within
 
-pub returns-in-Err : goal.returns-in-Err
-returns-in-Err c =
+pub returns-in_err-opening : goal.returns-in_err-opening
+returns-in_err-opening c =
     let a = c.args in
-    stopped (read a.limits a.s.now) _ _ _ (not_opened a.limits a.s.now _ (sym c.in-Err.is ∙ c.open_chunk-begins.ensures))
+    let p = err_from_is_err_and c.from_residual.result c.from_residual.ensures.1 in
+    rw (p.1, p.2) (stopped (read a.limits a.s.now) _ _ _ (not_opened a.limits a.s.now _ c.in_err-opening.ensures))
 
-pub returns-in-Ok : goal.returns-in-Ok
-returns-in-Ok c =
+pub returns : goal.returns
+returns c =
     let a = c.args in
-    let opens = sym c.in-Ok.is ∙ c.open_chunk-begins.ensures in
-    let is = known a.limits a.s.now c.in-Ok.opening opens in
-    chunk_copied a.limits a.s.now c.in-Ok.opening opens _ _ _
+    let opens = c.in_ok-opening.ensures in
+    let is = known a.limits a.s.now c.in_ok-opening.opening opens in
+    chunk_copied a.limits a.s.now c.in_ok-opening.opening opens _ _ _
     (c.copy_functions.ensures (all-bytes a.s.now (λ i h. (c.type_inv.s i).fits)) (let input = input_ceiling a.limits is.within in let fits = is.fits in omega arith))

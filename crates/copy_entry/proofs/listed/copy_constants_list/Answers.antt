@@ -1,22 +1,24 @@
--- `copy_entry::listed::copy_constants_list` meets its contract: by whether the count is read (`Listing.antt` of read_list), and by what the entries put (`Judged.antt`). Assumes nothing.
+-- `copy_entry::listed::copy_constants_list` meets its contract: by whether the count is read (`Listing.antt` of read_list), and by what the entries show and put. Assumes nothing.
+use Rattle.std.proofs.lemmas.Result.{err_from_is_err_and}
+use mathlib.Core.Path.{refl}
 use Rattle.format.specs.declared.refusal.Refusal.TheVariants.{Constants}
 use Rattle.format.proofs.ExactChunk.{exact_constant}
-use Rattle.read_list.proofs.Listing.{up_to_refused, up_to_read}
-use Rattle.copy_entry.proofs.Judged.{list_not, list_put}
+use Rattle.read_list.proofs.Listing.{up_to_read}
 use Rattle.copy_entry.proofs.listed.copy_constants_list.Goals as goal
 
-pub returns-in-Err : goal.returns-in-Err
-returns-in-Err c =
+pub returns-in_err-items : goal.returns-in_err-items
+returns-in_err-items c =
     let a = c.args in
-    record {
-      list_value = up_to_refused a.max_constants Constants (exact_constant a.max_string_bytes) a.s.now a.cursor.at c.in-Err.is c.count_up_to-read.ensures.value;
-      puts_listed = λ bytes. list_not;
-    }
+    let p = err_from_is_err_and c.from_residual-in_err-items.result c.from_residual-in_err-items.ensures.1 in
+    rw (p.1, p.2) (record {
+      list_value = up_to_read a.max_constants Constants (exact_constant a.max_string_bytes) a.s.now a.cursor.at c.in_ok-value.was c.count_up_to.ensures.value c.in_err-items.ensures.read_value refl;
+      puts_listed = λ bytes. tt;
+    })
 
-pub returns-in-Ok : goal.returns-in-Ok
-returns-in-Ok c =
+pub returns : goal.returns
+returns c =
     let a = c.args in
     record {
-      list_value = up_to_read a.max_constants Constants (exact_constant a.max_string_bytes) a.s.now a.cursor.at c.in-Ok.is c.count_up_to-read.ensures.value c.copy_constants-items.ensures.read_value c.listed-list.ensures;
-      puts_listed = λ bytes. list_put c.copy_constants-items.result.read c.in-Ok.value c.in-Ok.next.at c.listed-list.ensures (c.copy_constants-items.ensures.puts_all bytes);
+      list_value = up_to_read a.max_constants Constants (exact_constant a.max_string_bytes) a.s.now a.cursor.at c.in_ok-value.was c.count_up_to.ensures.value c.in_ok-items.ensures.read_value refl;
+      puts_listed = c.in_ok-items.ensures.puts_all;
     }

@@ -1,5 +1,5 @@
 -- `copy_full::whole::full_chunk` meets its contract: by what `open_chunk` and `full_functions` showed (crates/copy/proofs/Outcomes.antt). Assumes nothing.
-use mathlib.Core.Path.{sym, ◌∙◌}
+use Rattle.std.proofs.lemmas.Result.{err_from_is_err_and}
 use native.Mathlib.Omega.{arith}
 use Rattle.format.specs.ReadChunk.{read}
 use Rattle.read_chunk.proofs.Summaries.{in_ceilings, input_ceiling}
@@ -12,17 +12,18 @@ use Rattle.copy_full.proofs.whole.full_chunk.Goals as goal
 pub full_functions-requires : goal.full_functions-requires
 full_functions-requires c =
     let a = c.args in
-    in_ceilings a.limits (known a.limits a.s.now c.in-Ok.opening (sym c.in-Ok.is ∙ c.open_chunk-begins.ensures)).within
+    in_ceilings a.limits (known a.limits a.s.now c.in_ok-opening.opening c.in_ok-opening.ensures).within
 
-pub returns-in-Err : goal.returns-in-Err
-returns-in-Err c =
+pub returns-in_err-opening : goal.returns-in_err-opening
+returns-in_err-opening c =
     let a = c.args in
-    by_stopped full_copy (read a.limits a.s.now) _ _ _ (not_opened a.limits a.s.now _ (sym c.in-Err.is ∙ c.open_chunk-begins.ensures))
+    let p = err_from_is_err_and c.from_residual.result c.from_residual.ensures.1 in
+    rw (p.1, p.2) (by_stopped full_copy (read a.limits a.s.now) _ _ _ (not_opened a.limits a.s.now _ c.in_err-opening.ensures))
 
-pub returns-in-Ok : goal.returns-in-Ok
-returns-in-Ok c =
+pub returns : goal.returns
+returns c =
     let a = c.args in
-    let opens = sym c.in-Ok.is ∙ c.open_chunk-begins.ensures in
-    let is = known a.limits a.s.now c.in-Ok.opening opens in
-    by_chunk_copied full_copy full_functions chunk_is a.limits a.s.now c.in-Ok.opening opens _ _ _
+    let opens = c.in_ok-opening.ensures in
+    let is = known a.limits a.s.now c.in_ok-opening.opening opens in
+    by_chunk_copied full_copy full_functions chunk_is a.limits a.s.now c.in_ok-opening.opening opens _ _ _
     (c.full_functions.ensures (all-bytes a.s.now (λ i h. (c.type_inv.s i).fits)) (let input = input_ceiling a.limits is.within in let fits = is.fits in omega arith))

@@ -1,4 +1,4 @@
--- `copy_put::number::store_groups` meets its contract. The invariant is `Stores.antt`'s `Stored`, and the measure i. Assumes nothing.
+-- `copy_put::number::store_groups` meets its contract. The invariant is `Stores.antt`'s `Stored`. Assumes nothing.
 use Rattle.copy_put.proofs.Stores.{stored-none, stored_next, stored-all}
 use Rattle.copy_put.proofs.number.store_groups.Goals as goal
 
