@@ -6,15 +6,15 @@ ghost use Rattle.validate_findings.specs.Blank.{LONGEST, blank_list};
 
 use crate::validate_chunk_lua54;
 use format::limits::ResourceLimits;
-use validate_plan::FindingsAnswer;
-use validate_rules::finding::{Finding, MAX_DIAGNOSTICS, Rule};
+use format::refusal::Refusal;
+use validate_rules::finding::{Finding, MAX_DIAGNOSTICS, Rule, Verdict};
 
 // As many findings as there can be: the last instruction may add two.
 const LONGEST: usize = MAX_DIAGNOSTICS as usize + 1;
 
 #[derive(Drop)]
 pub struct FindingArray {
-    pub answer: FindingsAnswer,
+    pub answer: Result<(Verdict, usize), Refusal>,
     pub list: [Finding; LONGEST],
 }
 

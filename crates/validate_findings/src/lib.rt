@@ -8,28 +8,32 @@ ghost use Rattle.format.specs.ReadChunk as format;
 ghost use Rattle.validate_plan.specs.Validated.{shown_findings, findings_written};
 
 use format::limits::ResourceLimits;
-use validate_plan::{FindingsAnswer, forward, prepare};
-use validate_rules::finding::Finding;
+use format::refusal::Refusal;
+use validate_plan::{forward, prepare};
+use validate_rules::finding::{Finding, Verdict};
+use validate_search::search::Step;
 
-// The findings in the order found, in the first places of the list, and the verdict with their number. Every decision is taken before the loop, and the loop has no branch.
+// The findings in the order found, in the first places of the list, and the verdict with their number. Every decision is
+// taken before the loop, whose steps have a finding each.
 // Ruled out: success that writes nothing, a refusal that writes.
 pub fn validate_chunk_lua54(
     chunk: &[u8],
     limits: ResourceLimits,
     findings: &mut [Finding],
-) -> FindingsAnswer
+) -> Result<(Verdict, usize), Refusal>
     ensures { (result ≡ shown_findings (length findings.old) (format.read limits chunk.now))
         × (findings.new ≡ findings_written findings.old (format.read limits chunk.now)) }
 {
-    let plan = prepare(chunk, limits, findings.len());
-    let count = plan.count;
+    let plan = prepare(chunk, limits, findings.len())?;
     let mut p = plan.start;
     let mut k = 0;
-    while k < count {
-        let step = forward(chunk, limits, p);
-        findings[k] = step.finding;
-        p = step.next;
+    while k < plan.count {
+        let Step::Found(finding, next) = forward(chunk, limits, p) else {
+            break;
+        };
+        findings[k] = finding;
+        p = next;
         k += 1;
     }
-    plan.answer
+    Ok((plan.verdict, plan.count))
 }

@@ -1,5 +1,6 @@
 -- A plan is good for what its contract says: on a refusal, and where the findings are all there and there is room for them or not.
 -- Assumes nothing.
+use Rattle.std.specs.Prelude.{Ok, Err}
 use mathlib.Core.Path.{◌≡◌, refl, sym, ap, ◌∙◌}
 use mathlib.Core.Bool.{Bool, true, false, cond}
 use mathlib.Core.List.{List, []}
@@ -20,24 +21,20 @@ use Rattle.validate_rules.specs.Findings.{MAX-DIAGNOSTICS, Listing, chunk_findin
 use Rattle.validate_search.specs.Inner.Position.{out_of}
 use Rattle.validate_rules.specs.declared.finding.Finding.{Finding}
 use Rattle.validate_search.specs.declared.search.Position.{Position}
-use Rattle.validate_plan.specs.declared.FindingsAnswer.TheVariants as answer
 use Rattle.slice.specs.Over.{over}
 use Rattle.validate_plan.specs.Validated.{listing_answer, shown_findings, findings_written}
 use Rattle.validate_plan.specs.Inner.Found.{found_in}
-use Rattle.validate_plan.specs.Inner.Plan.{refused_plan, plan_of, written, Planned}
+use Rattle.validate_plan.specs.Inner.Plan.{plan_of, written, Refuses, Planned}
+
+pub plan_refused : (L : ResourceLimits) (s : Bytes) (room : ℕ) (q : Refusal) → read L s ≡ refusal q
+    → Refuses L s room q
+plan_refused L s room q is = record {
+  answers = ap (shown_findings room) (sym is);
+  leaves = λ old e. ap (findings_written old) (sym is);
+  found = ap (found_in room) (sym is);
+}
 
 module _ (L : ResourceLimits) (s : Bytes) (room : ℕ) (start : Position) where
-  pub plan_refused : (q : Refusal) → read L s ≡ refusal q → Planned L s room (refused_plan q start)
-  unfolding written
-  plan_refused q is = record {
-    answers = ap (shown_findings room) (sym is);
-    leaves = λ old e. ap (findings_written old) (sym is);
-    found = ap (found_in room) (sym is);
-    within = omega arith;
-    there = omega arith;
-    limited = λ h. absurd (omega arith);
-  }
-
   abbrev all : Listing
   all = out_of L s MAX-DIAGNOSTICS start
 
@@ -52,7 +49,8 @@ module _ (L : ResourceLimits) (s : Bytes) (room : ℕ) (start : Position) where
     found-is = ap (found_in room) is ∙ ap (λ l. cond (leb (length l.findings) room) l.findings []) (sym same)
 
     by_room : (b : Bool) → leb (length all.findings) room ≡ b
-        → Planned L s room (cond b (record { answer = answer.Ok (verdict all) (length all.findings); count = length all.findings; start = start }) (refused_plan LentSpace start))
+        → Planned L s room
+        (cond b (Ok (record { verdict = verdict all; count = length all.findings; start = start })) (Err LentSpace))
     unfolding written
     by_room true e = record {
       answers = sym (answer_is ∙ rw e);
@@ -60,15 +58,12 @@ module _ (L : ResourceLimits) (s : Bytes) (room : ℕ) (start : Position) where
       found = rw (take-length) (sym (found-is ∙ rw e));
       within = leb-true (length all.findings) room e;
       there = omega arith;
-      limited = λ h. few;
+      limited = few;
     }
     by_room false e = record {
       answers = sym (answer_is ∙ rw e);
       leaves = λ old z. sym (list_is old ∙ rw (z, e));
       found = sym (found-is ∙ rw e);
-      within = omega arith;
-      there = omega arith;
-      limited = λ h. few;
     }
 
     pub plan_made : Planned L s room (plan_of all room start)

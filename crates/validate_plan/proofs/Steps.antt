@@ -1,6 +1,7 @@
 -- The steps of a search, one after the other: after k of them, what is left is the list without its first k.
 --     After l k rest       after k steps through l, rest is left
---     step_found           where there are more than k, step k has finding k
+--     step_found           a finding of step k is finding k
+--     step_done            where a step has none, there are k
 -- Assumes nothing.
 use mathlib.Core.Path.{◌≡◌, refl, sym, ap, ◌∙◌}
 use mathlib.Core.Bool.{Bool}
@@ -13,12 +14,10 @@ use lib.Seq.{drop-cons}
 use Rattle.format.specs.declared.limits.ResourceLimits.{ResourceLimits}
 use Rattle.format.specs.Form.{Bytes}
 use Rattle.validate_rules.specs.Findings.{Listing, ended, prepend}
-use Rattle.validate_search.specs.Inner.Position.{out_of, step_is, stepped}
+use Rattle.validate_search.specs.Inner.Position.{out_of, stepped}
 use Rattle.validate_rules.specs.declared.finding.Finding.{Finding}
 use Rattle.validate_search.specs.declared.search.Position.{Position}
-use Rattle.validate_search.specs.declared.search.State.{State}
-use Rattle.validate_search.specs.declared.search.State.TheVariants as state
-use Rattle.validate_search.specs.declared.search.Step.{Step}
+use Rattle.validate_search.specs.declared.search.Step.TheVariants.{Found}
 
 pub record After (l : Listing) (k : ℕ) (rest : Listing) : Type 0 where
   pub within : k ≤ length l.findings
@@ -44,14 +43,10 @@ module _ (l : Listing) (k : ℕ) (rest : Listing) (a : After l k rest) where
     after_more : After l (k + 1) next
     after_more = record { within = omega (arith, more); findings = let p = split in rw (add-one k) (cc) }
 
-  -- where a step has none, there are k
-  all : (b : Bool) → rest ≡ ended b → length l.findings ≡ k
-  all b e = omega (arith, left_over, ap (λ (x : Listing). length x.findings) e)
+  pub step_done : (b : Bool) → rest ≡ ended b → length l.findings ≡ k
+  step_done b e = omega (arith, left_over, ap (λ (x : Listing). length x.findings) e)
 
-  module _ (L : ResourceLimits) (s : Bytes) (max : ℕ) (h : k < length l.findings) where
-    step_is_lem : (t : State) (f : Finding) (next : Position) → rest ≡ step_is L s max t f next → (f ≡ get_or l.findings k f) × After l (k + 1) (out_of L s max next)
-    step_is_lem state.Found f next e = (finding_is f _ e, after_more f _ e)
-    step_is_lem (state.Done b) f next e = absurd (omega (arith, all b e))
-
-    pub step_found : (r : Step) → rest ≡ stepped L s max r → (r.finding ≡ get_or l.findings k r.finding) × After l (k + 1) (out_of L s max r.next)
-    step_found r e = step_is_lem r.state r.finding r.next e
+  module _ (L : ResourceLimits) (s : Bytes) (max : ℕ) where
+    pub step_found : (f : Finding) (next : Position) → rest ≡ stepped L s max (Found f next)
+        → (f ≡ get_or l.findings k f) × After l (k + 1) (out_of L s max next)
+    step_found f next e = (finding_is f _ e, after_more f _ e)

@@ -6,79 +6,59 @@ ghost use Rattle.format.specs.Limits.{MOST};
 ghost use Rattle.format.specs.ReadChunk as format;
 ghost use Rattle.validate_rules.specs.Findings.{MAX-DIAGNOSTICS};
 ghost use Rattle.validate_search.specs.Inner.Position.{out_of, stepped, start_position};
-ghost use Rattle.validate_plan.specs.Inner.Plan.{plan_of, refused_plan, Planned};
+ghost use Rattle.validate_plan.specs.Inner.Plan.{plan_of, Planned};
 
 use format::limits::ResourceLimits;
 use format::refusal::Refusal;
 use read_chunk::MAIN_AT;
-use read_chunk::summary::{JudgedResult, judge_chunk};
+use read_chunk::summary::judge_chunk;
 use slice::cursor::Cursor;
 use validate_rules::finding::{MAX_DIAGNOSTICS, Verdict};
 use validate_search::search::{Position, Step, advance, start};
 use validate_verdict::tally::{tally, verdict_of};
 use validate_verdict::verdict::kept_count;
 
-#[derive(Clone, Copy)]
-pub enum FindingsAnswer {
-    // The verdict, and how many findings there are.
-    Ok { verdict: Verdict, count: usize },
-    Err(Refusal),
-}
-
-// The answer, how many findings are to be written, and the position before the first.
+// The verdict, how many findings are to be written, and the position before the first.
 #[derive(Clone, Copy)]
 pub struct Plan {
-    pub answer: FindingsAnswer,
+    pub verdict: Verdict,
     pub count: usize,
     pub start: Position,
 }
 
-// On a refusal nothing is written.
-fn refused(refusal: Refusal) -> Plan
-    ensures { result ≡ refused_plan refusal (start_position 0 0) }
-{
-    Plan {
-        answer: FindingsAnswer::Err(refusal),
-        count: 0,
-        start: start(Cursor { at: 0 }, 0),
-    }
-}
-
-// All findings where there is room for them, and else none.
-fn decide(s: &[u8], limits: ResourceLimits, room: usize, place: Cursor, kept: u64) -> Plan
+// All findings, where there is room for them.
+fn decide(
+    s: &[u8],
+    limits: ResourceLimits,
+    room: usize,
+    place: Cursor,
+    kept: u64,
+) -> Result<Plan, Refusal>
     requires { limits.max_total_instructions ≤ MOST }
     ensures { result ≡ plan_of (out_of limits s.now MAX-DIAGNOSTICS (start_position place.at kept)) room (start_position place.at kept) }
 {
-    let first = start(place, kept);
     let totals = tally(s, limits, MAX_DIAGNOSTICS, place, kept);
     let count = totals.count as usize;
     if room < count {
-        return Plan {
-            answer: FindingsAnswer::Err(Refusal::LentSpace),
-            count: 0,
-            start: first,
-        };
+        return Err(Refusal::LentSpace);
     }
     let verdict = verdict_of(totals);
-    Plan {
-        answer: FindingsAnswer::Ok { verdict, count },
+    let start = start(place, kept);
+    Ok(Plan {
+        verdict,
         count,
-        start: first,
-    }
+        start,
+    })
 }
 
-// Judges a chunk, counts its findings and decides what their writer answers and writes into so much room. The first pass judges, the second counts; the writer's is the third.
-pub fn prepare(s: &[u8], limits: ResourceLimits, room: usize) -> Plan
+// Judges a chunk, counts its findings and decides what their writer answers and writes into so much room; on a refusal it
+// writes nothing. The first pass judges, the second counts; the writer's is the third.
+pub fn prepare(s: &[u8], limits: ResourceLimits, room: usize) -> Result<Plan, Refusal>
     ensures { Planned limits s.now room result }
 {
-    let judged = judge_chunk(s, limits);
-    match judged {
-        JudgedResult::Err(refusal) => refused(refusal),
-        JudgedResult::Ok(summary) => {
-            let kept = kept_count(summary);
-            decide(s, limits, room, Cursor { at: MAIN_AT }, kept)
-        }
-    }
+    let summary = judge_chunk(s, limits)?;
+    let kept = kept_count(summary);
+    decide(s, limits, room, Cursor { at: MAIN_AT }, kept)
 }
 
 // One step of the search, up to the maximum of the Rust.

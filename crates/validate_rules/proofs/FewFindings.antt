@@ -7,8 +7,8 @@ use Prim.Native.Nat.{ℕ, ◌+◌, ◌≤◌}
 use native.Mathlib.Omega.{arith}
 use lib.ListN.{length}
 use Rattle.format.specs.Form.{All}
-use Rattle.word_opcodes.specs.declared.opcode.OptionOpcode54.{OptionOpcode54}
-use Rattle.word_opcodes.specs.declared.opcode.OptionOpcode54.TheVariants as option
+use Rattle.std.specs.Prelude as prelude
+use Rattle.word_opcodes.specs.declared.opcode.Opcode54.{Opcode54}
 use Rattle.word_fields.specs.declared.instruction.RawInstruction54.{RawInstruction54}
 use Rattle.word_fields.specs.Word.{decoded}
 use Rattle.validate_rules.specs.declared.finding.Rule.{Rule}
@@ -30,9 +30,9 @@ two none (some y) = omega arith
 two (some x) none = omega arith
 two (some x) (some y) = omega arith
 
-few_rules : (o : OptionOpcode54) (r : RawInstruction54) (b : Bounds) (pc : ℕ) → length (rules o r b pc) ≤ 2
-few_rules option.None r b pc = omega arith
-few_rules (option.Some o) r b pc = two (register_rule o r.a b.maxstacksize) (operand_rule (check_of o) r b pc)
+few_rules : (o : prelude.Option Opcode54) (r : RawInstruction54) (b : Bounds) (pc : ℕ) → length (rules o r b pc) ≤ 2
+few_rules prelude.None r b pc = omega arith
+few_rules (prelude.Some o) r b pc = two (register_rule o r.a b.maxstacksize) (operand_rule (check_of o) r b pc)
 
 few_findings : (k : ℕ) (b : Bounds) (pc word : ℕ) → Few (instruction k b pc word)
 unfolding instruction

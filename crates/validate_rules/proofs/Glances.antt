@@ -11,9 +11,9 @@ use lib.Bits.{bit_and, and_mask}
 use lib.Dec.{ltb}
 use lib.ListN.{get_or}
 use borrow.Author.Tests.{ltb-false, lt-leb}
+use Rattle.std.specs.Prelude.{Some}
 use Rattle.word_opcodes.specs.Lopcodes.{SIZE-OP, SIZE-A, SIZE-Bx}
 use Rattle.word_opcodes.specs.declared.opcode.Opcode54.{Opcode54}
-use Rattle.word_opcodes.specs.declared.opcode.OptionOpcode54.TheVariants.{Some}
 use Rattle.word_opcodes.specs.Table.{opcode_at}
 use Rattle.word_fields.specs.Word.{decoded}
 use Rattle.validate_rules.specs.declared.finding.Bounds.{Bounds}

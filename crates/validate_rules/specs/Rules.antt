@@ -5,11 +5,10 @@
 --     check_of              which operand the Rust's `match op` holds against a bound
 --     instruction k b pc w     the findings of the word w, instruction pc of function k: the register's warning first, then the opcode's error
 use Rattle.std.specs.Prelude.{Bool, false, not, ◌||◌, cond, List, [], ◌∷◌, ◌++◌, ℕ, ◌+◌, eqb, leb, ℤ, pos, negsuc, ◌+ℤ◌}
+use Rattle.std.specs.Prelude as prelude
 use Rattle.std.proofs.Math.Option.{Option, none, some}
 use Rattle.word_opcodes.specs.declared.opcode.Opcode54.{Opcode54}
 use Rattle.word_opcodes.specs.declared.opcode.Opcode54.TheVariants as op
-use Rattle.word_opcodes.specs.declared.opcode.OptionOpcode54.{OptionOpcode54}
-use Rattle.word_opcodes.specs.declared.opcode.OptionOpcode54.TheVariants as option
 use Rattle.word_opcodes.specs.Table.{number_of}
 use Rattle.word_fields.specs.declared.instruction.RawInstruction54.{RawInstruction54}
 use Rattle.word_fields.specs.Word.{decoded}
@@ -95,9 +94,9 @@ if_any none = []
 if_any (some rule) = rule ∷ []
 
 -- the rules that an instruction breaks: where there is no opcode, nothing else of it is checked
-abbrev pub rules : OptionOpcode54 → RawInstruction54 → Bounds → ℕ → List Rule
-rules option.None r b pc = Opcode r.opcode_num ∷ []
-rules (option.Some o) r b pc = if_any (register_rule o r.a b.maxstacksize) ++ if_any (operand_rule (check_of o) r b pc)
+abbrev pub rules : prelude.Option Opcode54 → RawInstruction54 → Bounds → ℕ → List Rule
+rules prelude.None r b pc = Opcode r.opcode_num ∷ []
+rules (prelude.Some o) r b pc = if_any (register_rule o r.a b.maxstacksize) ++ if_any (operand_rule (check_of o) r b pc)
 
 abbrev pub at : ℕ → ℕ → List Rule → List Finding
 at k pc [] = []

@@ -24,12 +24,6 @@ pub struct Finding {
 }
 
 #[derive(Clone, Copy)]
-pub enum OptionFinding {
-    Some(Finding),
-    None,
-}
-
-#[derive(Clone, Copy)]
 pub enum Severity {
     Error,
     Warning,

@@ -3,7 +3,7 @@ ghost use Rattle.std.specs.Prelude.{◌≡◌, ◌<◌};
 ghost use Rattle.validate_rules.specs.Inner.Glance.{Fine, class_of, doubled, glance_of};
 
 use crate::finding::Bounds;
-use word_opcodes::opcode::{Opcode54, OptionOpcode54};
+use word_opcodes::opcode::Opcode54;
 
 // By class: the bound of A; which bits are an operand, of those from bit 15 on; their bound.
 // (Of two widths: where LLVM sees one list, or three of one width, it makes a jump of an opcode's class, and a word takes twice as long.)
@@ -60,7 +60,7 @@ pub fn fine_at_a_glance(
 ) -> bool
     ensures { Fine registers.now masks.now limits.now word result }
 {
-    let OptionOpcode54::Some(op) = Opcode54::from_u8((word & 0x7F) as u8) else {
+    let Some(op) = Opcode54::from_u8((word & 0x7F) as u8) else {
         return false;
     };
     let class = class_of(op);

@@ -1,5 +1,6 @@
 -- There are at most as many findings as the maximum and one more: of a chunk at most 10,001 (`findings_few`).
 -- Assumes nothing.
+use Rattle.std.specs.Prelude.{Option, Some, None}
 use mathlib.Core.Path.{◌≡◌, refl}
 use mathlib.Core.Bool.{Bool, true, false, cond}
 use mathlib.Core.List.{List, [], ◌∷◌, ◌++◌}
@@ -18,8 +19,6 @@ use Rattle.validate_search.specs.declared.scan.Code.{Code}
 use Rattle.validate_rules.proofs.FewFindings.{Few, few_code}
 use Rattle.format.specs.Reading.{Prototype, Reading}
 use Rattle.validate_rules.specs.Findings.{MAX-DIAGNOSTICS, bounds_of, code_groups, groups, ended, prepend, limited, chunk_findings}
-use Rattle.validate_rules.specs.declared.finding.OptionFinding.{OptionFinding}
-use Rattle.validate_rules.specs.declared.finding.OptionFinding.TheVariants as finding
 use Rattle.validate_search.specs.declared.search.Position.{Position}
 use Rattle.validate_rules.specs.Inner.Judged.{as_list}
 use Rattle.validate_search.specs.Inner.Position.{words_at, code_left, row_bounds, next_number, row_groups, groups_left, goes_on, out_of}
@@ -56,9 +55,9 @@ at_most max n gs few = go (leb n (max + 1)) refl gs few
     go false e [] few = omega arith
     go false e (g ∷ gs) few = let more = leb-false n (max + 1) e in rw (le-leb max n (omega arith)) (omega arith)
 
-listed-one : (w : OptionFinding) → length (as_list w) ≤ 1
-listed-one finding.None = omega arith
-listed-one (finding.Some f) = omega arith
+listed-one : (w : Option Finding) → length (as_list w) ≤ 1
+listed-one None = omega arith
+listed-one (Some f) = omega arith
 
 -- for whatever position
 pub few_out : (L : ResourceLimits) (s : Bytes) (max : ℕ) (p : Position) → length (out_of L s max p).findings ≤ max + 2

@@ -1,5 +1,9 @@
 -- Laws of the groups of a function's instructions, and of findings up to a number.
 -- Assumes nothing.
+use Rattle.std.specs.Prelude.{Option, Result, Ok, Err}
+use Rattle.std.specs.Result.{is_ok}
+use Rattle.format.specs.declared.refusal.Refusal.{Refusal}
+use Rattle.slice.specs.declared.cursor.Cursor.{Cursor}
 use mathlib.Core.Path.{◌≡◌, refl, ap, sym, ◌∙◌}
 use mathlib.Core.Bool.{Bool, true, false, ◌||◌}
 use mathlib.Core.List.{List, [], ◌∷◌, ◌++◌}
@@ -12,9 +16,7 @@ use Rattle.format.specs.Form.{Bytes}
 use Rattle.format.specs.GrammarFields.{little}
 use Rattle.format.specs.ReadFields.{field}
 use Rattle.format.proofs.Steps.{field-short, field_enough}
-use Rattle.read_field.specs.declared.field.U32Result.{U32Result}
-use Rattle.read_field.specs.declared.field.U32Result.TheVariants as u32
-use Rattle.read_field.specs.Shown.{u32_result}
+use Rattle.read_field.specs.Shown.{shown}
 use Rattle.read_next.specs.declared.Row.{Row}
 use Rattle.read_next.specs.Inner.Rows.{any_row}
 use Rattle.validate_rules.specs.Rules.{instruction}
@@ -22,7 +24,6 @@ use Rattle.validate_rules.specs.Inner.Judged.{as_list}
 use Rattle.validate_rules.specs.Findings.{code_groups, ended, prepend, limited}
 use Rattle.validate_search.specs.Inner.Position.{on_word, words_at, code_left, code_at, skip, row_bounds, next_number, row_groups, any_left}
 use Rattle.validate_rules.specs.declared.finding.Finding.{Finding}
-use Rattle.validate_rules.specs.declared.finding.OptionFinding.{OptionFinding}
 use Rattle.validate_rules.specs.declared.finding.Bounds.{Bounds}
 use Rattle.validate_search.specs.declared.scan.Code.{Code}
 
@@ -36,17 +37,27 @@ module _ (s : Bytes) (b : Bounds) (k : ℕ) where
   unfolding code_left code_groups words_at
   code-end place pc h = let z : b.instructions - pc ≡ 0 = omega arith in rw z
 
-  words_more : (o : U32Result) (n pc : ℕ)
+  words_more : (o : Result (ℕ × Cursor) Refusal) (n pc : ℕ)
       → code_groups k b (on_word o [] (λ word to. word ∷ words_at s n to)) pc ≡ on_word o [] (λ word to. instruction k b pc word ∷ code_groups k b (words_at s n to) (pc + 1))
   unfolding code_groups
-  words_more (u32.Ok word next) n pc = refl
-  words_more (u32.Err q) n pc = refl
+  words_more (Ok (word, next)) n pc = refl
+  words_more (Err q) n pc = refl
 
   -- one instruction, if its bytes are there
   pub code-more : (place pc : ℕ) → pc < b.instructions
-      → code_left s (code_at b k place pc) ≡ on_word (u32_result (field 4 place (drop place s))) [] (λ word to. instruction k b pc word ∷ code_left s (code_at b k to (pc + 1)))
+      → code_left s (code_at b k place pc) ≡ on_word (shown (field 4 place (drop place s))) [] (λ word to. instruction k b pc word ∷ code_left s (code_at b k to (pc + 1)))
   unfolding code_left code_groups words_at
-  code-more place pc h = let z : b.instructions - pc ≡ suc (b.instructions - (pc + 1)) = omega arith in rw z (words_more (u32_result (field 4 place (drop place s))) (b.instructions - (pc + 1)) pc)
+  code-more place pc h = let z : b.instructions - pc ≡ suc (b.instructions - (pc + 1)) = omega arith in rw z (words_more (shown (field 4 place (drop place s))) (b.instructions - (pc + 1)) pc)
+
+  any-word : (o : Result (ℕ × Cursor) Refusal) (g : ℕ → ℕ → List Finding) (more : ℕ → ℕ → List (List Finding)) (gs : List (List Finding))
+      → any_left (on_word o [] (λ word to. g word to ∷ more word to) ++ gs) ≡ is_ok o || any_left gs
+  any-word (Ok (word, next)) g more gs = refl
+  any-word (Err q) g more gs = refl
+
+  -- a group is left where the next instruction's bytes are there
+  pub any-code : (place pc : ℕ) (gs : List (List Finding)) → pc < b.instructions
+      → any_left (code_left s (code_at b k place pc) ++ gs) ≡ is_ok (shown (field 4 place (drop place s))) || any_left gs
+  any-code place pc gs h = rw (code-more place pc h) (any-word (shown (field 4 place (drop place s))) _ _ gs)
 
   groups-many : (ws : List ℕ) (pc : ℕ) → length (code_groups k b ws pc) ≡ length ws
   unfolding code_groups
@@ -139,7 +150,7 @@ module _ (max n : ℕ) where
     limited-skip ((f ∷ g) ∷ xs) gs = refl
 
     -- an instruction that is not fine
-    pub limited-found : (xs gs ys : List (List Finding)) (f : Finding) (w : OptionFinding) → skip xs ≡ (f ∷ as_list w) ∷ ys
+    pub limited-found : (xs gs ys : List (List Finding)) (f : Finding) (w : Option Finding) → skip xs ≡ (f ∷ as_list w) ∷ ys
         → limited max n (xs ++ gs) ≡ prepend (f ∷ []) (prepend (as_list w) (limited max (n + (1 + length (as_list w))) (ys ++ gs)))
     unfolding limited
     limited-found xs gs ys f w e =

@@ -18,7 +18,7 @@ use Rattle.format.proofs.Exact.{never}
 use Rattle.format.proofs.ExactFields.{exact_field}
 use Rattle.format.proofs.Left.{left}
 use Rattle.format.proofs.Located.{Located}
-use Rattle.read_field.specs.Shown.{u32_result}
+use Rattle.read_field.specs.Shown.{shown}
 use Rattle.read_next.proofs.RowLaws.{at_start}
 use Rattle.read_next.proofs.Agreement.{rows_for, all_rows}
 use Rattle.validate_rules.specs.Findings.{code_groups, groups, MAX-DIAGNOSTICS, chunk_findings}
@@ -36,7 +36,7 @@ module _ (s : Bytes) where
   words_on n more x a (refused q) is ws to rest e = absurd (never e)
 
   words_more : (n : ℕ) → Words n → (at : ℕ) (o : Read ℕ) → field 4 at (drop at s) ≡ o → (ws : List ℕ) (to : ℕ) (rest : Bytes)
-      → next o (λ x a b. next (many n (field 4) a b) (λ xs. give (x ∷ xs))) ≡ ok ws to rest → on_word (u32_result o) [] (λ word to. word ∷ words_at s n to) ≡ ws
+      → next o (λ x a b. next (many n (field 4) a b) (λ xs. give (x ∷ xs))) ≡ ok ws to rest → on_word (shown o) [] (λ word to. word ∷ words_at s n to) ≡ ws
   words_more n more at (ok x a b) is ws to rest e =
       let here : b ≡ drop a s = left (exact_field 4) s at is in
       words_on n more x a (many n (field 4) a (drop a s)) refl ws to rest (rw here at e)

@@ -4,9 +4,9 @@ ghost use Rattle.validate_search.specs.Inner.Position.{code_left, skip, scanned}
 
 use slice::cursor::{Cursor, remaining};
 use slice::little::u32_at;
-use validate_rules::finding::{Bounds, Finding, OptionFinding};
+use validate_rules::finding::{Bounds, Finding};
 use validate_rules::glance::{fine_at_a_glance, glance_of};
-use validate_rules::judge::{Judged, judge};
+use validate_rules::judge::judge;
 
 // Where in a function's instructions a search stands: at the instruction `pc`.
 #[derive(Clone, Copy)]
@@ -15,13 +15,6 @@ pub struct Code {
     pub function: usize,
     pub place: Cursor,
     pub pc: u32,
-}
-
-#[derive(Clone, Copy)]
-pub enum Scanned {
-    // The findings of an instruction, and the code behind it.
-    Found(Finding, OptionFinding, Code),
-    End,
 }
 
 // The number behind that of the last instruction left: fewer than the function has where the file ends first.
@@ -41,12 +34,12 @@ fn code_end(s: &[u8], c: Code) -> u32
 }
 
 // The first instruction from here on that is not fine: most are seen to be at a glance. Ruled out: one that is passed over, the last one left out.
-pub fn scan(s: &[u8], c: Code) -> Scanned
+pub fn scan(s: &[u8], c: Code) -> Option<(Finding, Option<Finding>, Code)>
     ensures { skip (code_left s.now c) ≡ scanned s.now result }
 {
     let end = code_end(s, c);
     if end <= c.pc {
-        return Scanned::End;
+        return None;
     }
     let bounds = c.bounds;
     let function = c.function;
@@ -59,25 +52,18 @@ pub fn scan(s: &[u8], c: Code) -> Scanned
     while pc < end {
         let word = u32_at(s, at);
         if !fine_at_a_glance(word, &registers, &masks, &limits) {
-            let j = judge(function, bounds, pc, word);
-            match j {
-                Judged::Wrong(first, second) => {
-                    return Scanned::Found(
-                        first,
-                        second,
-                        Code {
-                            bounds,
-                            function,
-                            place: Cursor { at: at + 4 },
-                            pc: pc + 1,
-                        },
-                    );
-                }
-                Judged::Fine => {}
+            if let Some((first, second)) = judge(function, bounds, pc, word) {
+                let behind = Code {
+                    bounds,
+                    function,
+                    place: Cursor { at: at + 4 },
+                    pc: pc + 1,
+                };
+                return Some((first, second, behind));
             }
         }
         at += 4;
         pc += 1;
     }
-    Scanned::End
+    None
 }

@@ -2,15 +2,14 @@
 ghost use Rattle.std.specs.Prelude.{◌≡◌, ℕ, ◌<◌, ◌+◌, ◌≤◌, List, ◌||◌, ltb, length};
 ghost use Rattle.format.specs.Limits.{MOST};
 ghost use Rattle.validate_rules.specs.Inner.Judged.{as_list};
-ghost use Rattle.validate_search.specs.declared.search.State.TheVariants.{Done};
 ghost use Rattle.validate_search.specs.Inner.Position.{code_at, next_number, row_bounds, groups_left, any_left, of_rows, out_of, goes_on, stepped, start_position};
 
-use crate::scan::{Code, Scanned, scan};
+use crate::scan::{Code, scan};
 use format::limits::ResourceLimits;
-use read_field::field::{U32Result, read_u32_le};
-use read_next::{COUNTS, Levels, Met, Row, any_function, go_down, next_function};
+use read_field::field::read_u32_le;
+use read_next::{COUNTS, Levels, Row, any_function, go_down, next_function};
 use slice::cursor::Cursor;
-use validate_rules::finding::{Bounds, Finding, OptionFinding, Rule};
+use validate_rules::finding::{Bounds, Finding};
 
 // The state of a search.
 #[derive(Clone, Copy)]
@@ -25,21 +24,15 @@ pub struct Position {
     pub code: Code,
     // The diagnostics so far, with the reading's warnings and the finding that waits.
     pub found: u64,
-    pub waiting: OptionFinding,
+    pub waiting: Option<Finding>,
 }
 
+// The next finding and the position behind it, or the end.
 #[derive(Clone, Copy)]
-pub enum State {
-    Found,
+pub enum Step {
+    Found(Finding, Position),
     // There are no more; true: there are so many that the search stopped.
     Done(bool),
-}
-
-#[derive(Clone, Copy)]
-pub struct Step {
-    pub finding: Finding,
-    pub state: State,
-    pub next: Position,
 }
 
 // The number behind k. (It stays at the largest, which no chunk reaches.)
@@ -67,33 +60,13 @@ fn bounds_of(row: Row) -> Bounds
 }
 
 // The number of diagnostics with one more and with what waits.
-fn counted(n: u64, w: OptionFinding) -> u64
+fn counted(n: u64, w: Option<Finding>) -> u64
     requires { n < 4294967296 }
     ensures { result ≡ n + (1 + length (as_list w)) }
 {
     match w {
-        OptionFinding::None => n + 1,
-        OptionFinding::Some(_) => n + 2,
-    }
-}
-
-// What a step without a finding has in its place.
-fn no_finding() -> Finding {
-    Finding {
-        function: 0,
-        pc: 0,
-        rule: Rule::Register(0),
-    }
-}
-
-// A step at which there are no more.
-fn done(stopped: bool, p: Position) -> Step
-    ensures { result.state ≡ Done stopped }
-{
-    Step {
-        finding: no_finding(),
-        state: State::Done(stopped),
-        next: p,
+        None => n + 1,
+        Some(_) => n + 2,
     }
 }
 
@@ -112,18 +85,10 @@ fn any_left(s: &[u8], limits: ResourceLimits, p: Position) -> bool
 {
     let code = p.code;
     let bounds = code.bounds;
-    if code.pc < bounds.instructions {
-        let place = code.place;
-        match read_u32_le(s, place) {
-            U32Result::Ok { value: _, next: _ } => {
-                return true;
-            }
-            U32Result::Err(_) => {
-                return function_left(s, limits, p);
-            }
-        }
+    if bounds.instructions <= code.pc {
+        return function_left(s, limits, p);
     }
-    function_left(s, limits, p)
+    read_u32_le(s, code.place).is_ok() || function_left(s, limits, p)
 }
 
 // The next finding, where nothing waits and there is room for one.
@@ -137,27 +102,21 @@ fn search(s: &[u8], limits: ResourceLimits, max: u32, p: Position) -> Step
     let mut number = p.number;
     let mut code = p.code;
     loop {
-        match scan(s, code) {
-            Scanned::Found(first, second, behind) => {
-                let n = counted(p.found, second);
-                return Step {
-                    finding: first,
-                    state: State::Found,
-                    next: Position {
-                        left,
-                        depth,
-                        at,
-                        number,
-                        code: behind,
-                        found: n,
-                        waiting: second,
-                    },
-                };
-            }
-            Scanned::End => {}
+        if let Some((first, second, behind)) = scan(s, code) {
+            let n = counted(p.found, second);
+            let next = Position {
+                left,
+                depth,
+                at,
+                number,
+                code: behind,
+                found: n,
+                waiting: second,
+            };
+            return Step::Found(first, next);
         }
-        let Met::Function(row, d, first) = next_function(s, limits, &left, depth, at) else {
-            return done(false, p);
+        let Some((row, d, first)) = next_function(s, limits, &left, depth, at) else {
+            return Step::Done(false);
         };
         go_down(&mut left, d, row.protos);
         depth = d + 1;
@@ -189,34 +148,14 @@ pub fn advance(s: &[u8], limits: ResourceLimits, max: u32, p: Position) -> Step
     requires { limits.max_total_instructions ≤ MOST }
     ensures { out_of limits s.now max p ≡ stepped limits s.now max result }
 {
-    let waiting = p.waiting;
-    match waiting {
-        OptionFinding::Some(f) => {
-            let left = p.left;
-            let at = p.at;
-            let code = p.code;
-            Step {
-                finding: f,
-                state: State::Found,
-                next: Position {
-                    left,
-                    depth: p.depth,
-                    at,
-                    number: p.number,
-                    code,
-                    found: p.found,
-                    waiting: OptionFinding::None,
-                },
-            }
-        }
-        OptionFinding::None => {
-            if max as u64 <= p.found {
-                let stopped = stops(s, limits, max, p);
-                return done(stopped, p);
-            }
-            search(s, limits, max, p)
-        }
+    if let Some(finding) = p.waiting {
+        let next = Position { waiting: None, ..p };
+        return Step::Found(finding, next);
     }
+    if max as u64 <= p.found {
+        return Step::Done(stops(s, limits, max, p));
+    }
+    search(s, limits, max, p)
 }
 
 // Whether a search that has reached the maximum stops: something is left, or there are more than that.
@@ -254,6 +193,6 @@ pub fn start(place: Cursor, kept: u64) -> Position
             pc: 0,
         },
         found: kept,
-        waiting: OptionFinding::None,
+        waiting: None,
     }
 }

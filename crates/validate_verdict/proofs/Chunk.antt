@@ -1,5 +1,6 @@
 -- The findings of a chunk, in the code's terms: by what the first pass showed.
 -- Assumes nothing.
+use Rattle.std.specs.Prelude.{Ok}
 use mathlib.Core.Path.{◌≡◌, refl, sym, ap, ◌∙◌}
 use mathlib.Core.List.{List, [], ◌∷◌}
 use Prim.Native.Nat.{ℕ, ◌≤◌, ◌<◌}
@@ -16,13 +17,11 @@ use Rattle.format.specs.ReadChunk.{main, outcome, shown, read}
 use Rattle.format.proofs.Located.{Located, all_located}
 use Rattle.format.proofs.ReadChunkLaws.{read_sound, main_complete, read-within}
 use Rattle.read_chunk.specs.declared.summary.Summary.{Summary}
-use Rattle.read_chunk.specs.declared.summary.JudgedResult.TheVariants as judged
 use Rattle.read_chunk.specs.Decoded.{shown_warnings, summary_of}
 use Rattle.read_chunk.specs.Inner.Decoded.{judged_result}
 use Rattle.read_chunk.proofs.Summaries.{in_ceilings}
 use Rattle.read_chunk.proofs.MainAt as main-at
 use Rattle.read_chunk.proofs.MainAt.{was_shown, MainAt, two-warnings}
-use Rattle.validate_verdict.specs.declared.verdict.TotalsResult.TheVariants as totals
 use Rattle.validate_rules.specs.Findings.{MAX-DIAGNOSTICS, chunk_findings}
 use Rattle.validate_search.specs.Inner.Position.{out_of, start_position}
 use Rattle.validate_verdict.specs.Inner.Totals.{tallied}
@@ -62,7 +61,7 @@ main_first L s r was = main-at.main_first (known_of L s r was).main
 pub findings_are : (L : ResourceLimits) (s : Bytes) (r : Reading) → read L s ≡ shown r → validate r ≡ chunk_findings r
 findings_are L s r was = validate-is r (main_first L s r was)
 
-module _ (L : ResourceLimits) (s : Bytes) (d : Summary) (e : judged.Ok d ≡ judged_result (read L s)) where
+module _ (L : ResourceLimits) (s : Bytes) (d : Summary) (e : Ok d ≡ judged_result (read L s)) where
   -- the reading
   abbrev pub r : Reading
   r = (was_shown (read L s) d e).value
@@ -94,5 +93,5 @@ module _ (L : ResourceLimits) (s : Bytes) (d : Summary) (e : judged.Ok d ≡ jud
       (λ i. out_of L s MAX-DIAGNOSTICS (start_position 32 (kept i)))
       ∙ whole L s r known.located (omega arith) L.max_nesting_depth limits.0 outermost refl 32 known.main.reads
 
-  pub totals_shown : d.functions < 18446744073709551616 → totals.Ok (tallied (out_of L s MAX-DIAGNOSTICS (start_position 32 (warning_count d.warnings)))) ≡ totals_result (read L s)
-  totals_shown few = ap (λ l. totals.Ok (tallied l)) (all-findings few) ∙ sym (ap totals_result was)
+  pub totals_shown : d.functions < 18446744073709551616 → Ok (tallied (out_of L s MAX-DIAGNOSTICS (start_position 32 (warning_count d.warnings)))) ≡ totals_result (read L s)
+  totals_shown few = ap (λ l. Ok (tallied l)) (all-findings few) ∙ sym (ap totals_result was)

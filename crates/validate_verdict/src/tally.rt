@@ -9,7 +9,7 @@ ghost use Rattle.validate_verdict.specs.Inner.Totals.{tallied, verdict_shown};
 use format::limits::ResourceLimits;
 use slice::cursor::Cursor;
 use validate_rules::finding::{Rule, Severity, Verdict};
-use validate_search::search::{Position, State, advance, start};
+use validate_search::search::{Position, Step, advance, start};
 
 #[derive(Clone, Copy)]
 pub struct Totals {
@@ -37,13 +37,7 @@ pub fn severity(rule: Rule) -> Severity
 fn or_error(before: bool, rule: Rule) -> bool
     ensures { result ≡ before || findings.is_error (rules.severity rule) }
 {
-    if before {
-        return true;
-    }
-    match severity(rule) {
-        Severity::Error => true,
-        Severity::Warning => false,
-    }
+    before || matches!(severity(rule), Severity::Error)
 }
 
 // All findings, one after the other.
@@ -55,23 +49,20 @@ pub fn tally(s: &[u8], limits: ResourceLimits, max: u32, place: Cursor, kept: u6
     let mut count = 0;
     let mut errors = false;
     loop {
-        let t = advance(s, limits, max, p);
-        let state = t.state;
-        match state {
-            State::Done(stopped) => {
+        match advance(s, limits, max, p) {
+            Step::Found(finding, next) => {
+                errors = or_error(errors, finding.rule);
+                p = next;
+                count += 1;
+            }
+            Step::Done(stopped) => {
                 return Totals {
                     count,
                     errors,
                     stopped,
                 };
             }
-            State::Found => {}
         }
-        let finding = t.finding;
-        let rule = finding.rule;
-        errors = or_error(errors, rule);
-        p = t.next;
-        count += 1;
     }
 }
 

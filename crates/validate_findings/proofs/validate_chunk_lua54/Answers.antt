@@ -12,7 +12,7 @@ loop-k-init c = (omega arith, written-zero _ _, at_first _)
 pub loop-k-preserved : goal.loop-k-preserved
 loop-k-preserved c =
     let a = c.args in
-    let plan = c.prepare-plan in
-    let all = out_of a.limits a.chunk.now MAX-DIAGNOSTICS plan.result.start in
-    let found = step_found all c.loop-k.k _ c.loop-k.invariant.2 a.limits a.chunk.now MAX-DIAGNOSTICS (omega (arith, plan.ensures.there)) c.forward-step.result c.forward-step.ensures in
+    let plan = c.in_ok-plan in
+    let all = out_of a.limits a.chunk.now MAX-DIAGNOSTICS plan.plan.start in
+    let found = step_found all c.loop-k.k _ c.loop-k.invariant.2 a.limits a.chunk.now MAX-DIAGNOSTICS _ _ c.in-Found.ensures in
     (omega arith, rw c.loop-k.invariant.1 (written_next all a.findings.now c.loop-k.k _ (omega (arith, plan.ensures.there)) (omega (arith, plan.ensures.within)) found.0), found.1)

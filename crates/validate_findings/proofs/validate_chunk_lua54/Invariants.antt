@@ -10,7 +10,7 @@ use Rattle.validate_findings.proofs.validate_chunk_lua54.Given as goal
 abbrev pub invariant-loop-k : goal.invariant-loop-k
 invariant-loop-k l =
     let all = out_of l.limits l.chunk MAX-DIAGNOSTICS l.initial.p in
-    (l.k ≤ l.count) × (l.findings ≡ written all l.k l.initial.findings) × After all l.k (out_of l.limits l.chunk MAX-DIAGNOSTICS l.p)
+    (l.k ≤ l.plan.count) × (l.findings ≡ written all l.k l.initial.findings) × After all l.k (out_of l.limits l.chunk MAX-DIAGNOSTICS l.p)
 
 abbrev pub decreases-loop-k : goal.decreases-loop-k
-decreases-loop-k l = l.count - l.k
+decreases-loop-k l = l.plan.count - l.k

@@ -1,23 +1,18 @@
 -- What the code's answers stand for.
 use Rattle.std.specs.Prelude.{List, [], ◌∷◌}
+use Rattle.std.specs.Prelude as prelude
 use Rattle.std.proofs.Math.Option.{Option, none, some}
 use Rattle.validate_rules.specs.declared.finding.Rule.{Rule}
 use Rattle.validate_rules.specs.declared.finding.Finding.{Finding}
-use Rattle.validate_rules.specs.declared.finding.OptionFinding.{OptionFinding}
-use Rattle.validate_rules.specs.declared.finding.OptionFinding.TheVariants as finding
-use Rattle.validate_rules.specs.declared.judge.OptionRule.{OptionRule}
-use Rattle.validate_rules.specs.declared.judge.OptionRule.TheVariants as rule
-use Rattle.validate_rules.specs.declared.judge.Judged.{Judged}
-use Rattle.validate_rules.specs.declared.judge.Judged.TheVariants as judged
 
-abbrev pub rule_of : OptionRule → Option Rule
-rule_of (rule.Some r) = some r
-rule_of rule.None = none
+abbrev pub rule_of : prelude.Option Rule → Option Rule
+rule_of (prelude.Some r) = some r
+rule_of prelude.None = none
 
-abbrev pub as_list : OptionFinding → List Finding
-as_list finding.None = []
-as_list (finding.Some f) = f ∷ []
+abbrev pub as_list : prelude.Option Finding → List Finding
+as_list prelude.None = []
+as_list (prelude.Some f) = f ∷ []
 
-abbrev pub group_of : Judged → List Finding
-group_of judged.Fine = []
-group_of (judged.Wrong f w) = f ∷ as_list w
+abbrev pub group_of : prelude.Option (Finding × prelude.Option Finding) → List Finding
+group_of prelude.None = []
+group_of (prelude.Some (f, w)) = f ∷ as_list w

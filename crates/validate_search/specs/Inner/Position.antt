@@ -1,35 +1,32 @@
 -- What a position of the search stands for: the findings that are still to come.
+use Rattle.std.specs.Prelude.{Option, Some, None, Result, Ok, Err}
+use Rattle.format.specs.declared.refusal.Refusal.{Refusal}
+use Rattle.slice.specs.declared.cursor.Cursor.{Cursor}
 use Rattle.std.specs.Prelude.{ℕ, zero, suc, ◌+◌, ◌-◌, Bool, true, false, cond, List, [], ◌∷◌, ◌++◌, drop, set, replicate, ltb}
 use Rattle.format.specs.declared.limits.ResourceLimits.{ResourceLimits}
 use Rattle.format.specs.Form.{Bytes}
 use Rattle.format.specs.ReadFields.{field}
-use Rattle.read_field.specs.declared.field.U32Result.{U32Result}
-use Rattle.read_field.specs.declared.field.U32Result.TheVariants as u32
-use Rattle.read_field.specs.Shown.{u32_result}
+use Rattle.read_field.specs.Shown.{shown}
 use Rattle.read_next.specs.declared.Row.{Row}
 use Rattle.read_next.specs.Inner.Rows.{LEVELS, rows_from}
 use Rattle.validate_rules.specs.declared.finding.Finding.{Finding}
-use Rattle.validate_rules.specs.declared.finding.OptionFinding.TheVariants as finding
 use Rattle.validate_rules.specs.declared.finding.Bounds.{Bounds}
 use Rattle.validate_search.specs.declared.scan.Code.{Code}
-use Rattle.validate_search.specs.declared.scan.Scanned.{Scanned}
-use Rattle.validate_search.specs.declared.scan.Scanned.TheVariants as scan
 use Rattle.validate_search.specs.declared.search.Position.{Position}
-use Rattle.validate_search.specs.declared.search.State.{State}
-use Rattle.validate_search.specs.declared.search.State.TheVariants as state
 use Rattle.validate_search.specs.declared.search.Step.{Step}
+use Rattle.validate_search.specs.declared.search.Step.TheVariants.{Found, Done}
 use Rattle.validate_rules.specs.Inner.Judged.{as_list}
 use Rattle.validate_rules.specs.Findings.{code_groups, Listing, ended, prepend, limited}
 
 -- ## Instructions
-abbrev pub on_word : {R : Type 0} → U32Result → R → (ℕ → ℕ → R) → R
-on_word (u32.Ok word next) bad good = good word next.at
-on_word (u32.Err q) bad good = bad
+abbrev pub on_word : {R : Type 0} → Result (ℕ × Cursor) Refusal → R → (ℕ → ℕ → R) → R
+on_word (Ok (word, next)) bad good = good word next.at
+on_word (Err q) bad good = bad
 
 -- n words from a place on, or fewer where the bytes end
 unfoldable pub words_at : Bytes → ℕ → ℕ → List ℕ
 words_at s zero at = []
-words_at s (suc n) at = on_word (u32_result (field 4 at (drop at s))) [] (λ word to. word ∷ words_at s n to)
+words_at s (suc n) at = on_word (shown (field 4 at (drop at s))) [] (λ word to. word ∷ words_at s n to)
 
 -- the groups of the instructions that are left
 unfoldable pub code_left : Bytes → Code → List (List Finding)
@@ -44,9 +41,9 @@ skip [] = []
 skip ([] ∷ gs) = skip gs
 skip ((f ∷ g) ∷ gs) = (f ∷ g) ∷ gs
 
-abbrev pub scanned : Bytes → Scanned → List (List Finding)
-scanned s (scan.Found f w behind) = (f ∷ as_list w) ∷ code_left s behind
-scanned s scan.End = []
+abbrev pub scanned : Bytes → Option (Finding × Option Finding × Code) → List (List Finding)
+scanned s (Some (f, w, behind)) = (f ∷ as_list w) ∷ code_left s behind
+scanned s None = []
 
 -- ## Functions
 abbrev pub row_bounds : Row → Bounds
@@ -86,12 +83,9 @@ unfoldable pub out_of : ResourceLimits → Bytes → ℕ → Position → Listin
 out_of L s max p = prepend (as_list p.waiting) (goes_on L s max p)
 
 -- what a step says: a finding and what the next position stands for, or the end
-abbrev pub step_is : ResourceLimits → Bytes → ℕ → State → Finding → Position → Listing
-step_is L s max state.Found f next = prepend (f ∷ []) (out_of L s max next)
-step_is L s max (state.Done b) f next = ended b
-
 abbrev pub stepped : ResourceLimits → Bytes → ℕ → Step → Listing
-stepped L s max r = step_is L s max r.state r.finding r.next
+stepped L s max (Found f next) = prepend (f ∷ []) (out_of L s max next)
+stepped L s max (Done b) = ended b
 
 -- the position before everything: one function is left at the top level, at a place, and there are some diagnostics already
 unfoldable pub start_position : ℕ → ℕ → Position
@@ -107,5 +101,5 @@ start_position place diagnostics = record {
     pc = 0;
   };
   found = diagnostics;
-  waiting = finding.None;
+  waiting = None;
 }

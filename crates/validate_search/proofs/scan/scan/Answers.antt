@@ -16,15 +16,15 @@ u32_at-word-requires c =
     let a = c.args in
     word_there a.s.now a.c _ c.loop-pc.at c.loop-pc.pc c.loop-pc.invariant c.loop-pc-test.true
 
-pub overflow_add-result : goal.overflow_add-result
-overflow_add-result c =
+pub overflow_add-behind : goal.overflow_add-behind
+overflow_add-behind c =
     let there = word_there c.args.s.now c.args.c _ c.loop-pc.at c.loop-pc.pc c.loop-pc.invariant c.loop-pc-test.true in
     omega (arith, c.well_formed.0.0)
 
-pub returns-in-Wrong : goal.returns-in-Wrong
-returns-in-Wrong c =
+pub returns-in-Some : goal.returns-in-Some
+returns-in-Some c =
     let a = c.args in
-    finds a.s.now a.c _ c.loop-pc.at c.loop-pc.pc c.loop-pc.invariant c.loop-pc-test.true _ c.u32_at-word.ensures _ _ (sym c.judge-j.ensures ∙ ap group_of c.in-Wrong.is)
+    finds a.s.now a.c _ c.loop-pc.at c.loop-pc.pc c.loop-pc.invariant c.loop-pc-test.true _ c.u32_at-word.ensures _ _ (sym c.judge.ensures ∙ ap group_of c.in-Some.is)
 
 pub overflow_add-at : goal.overflow_add-at
 overflow_add-at c =

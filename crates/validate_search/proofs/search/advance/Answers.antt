@@ -6,12 +6,12 @@ use Rattle.validate_search.proofs.search.advance.Goals as goal
 
 pub returns-then-max-p : goal.returns-then-max-p
 unfolding out_of
-returns-then-max-p c = let a = c.args in rw (c.in-None.is, limited_full a.max a.p.found _ (omega (arith, c.if-max-p.true)), c.done.ensures, c.stops-stopped.ensures)
+returns-then-max-p c = let a = c.args in rw (c.in_default.is, limited_full a.max a.p.found _ (omega (arith, c.if-max-p.true)), c.stops.ensures)
 
 pub returns-in-Some : goal.returns-in-Some
 unfolding out_of
 returns-in-Some c = rw c.in-Some.is
 
-pub returns-else-max-p : goal.returns-else-max-p
+pub returns : goal.returns
 unfolding out_of
-returns-else-max-p c = rw c.in-None.is c.search.ensures
+returns c = rw c.in_default.is c.search.ensures

@@ -11,6 +11,6 @@ overflow_add-count c =
     omega (
       arith,
       few_out a.limits a.s.now a.max c.start-p.result,
-      ap (λ t. t.count) c.loop-stopped.invariant,
-      ap (λ l. length l.findings) (rw c.in-Found.is at c.advance-t.ensures),
+      ap (λ t. t.count) c.loop-finding.invariant,
+      ap (λ l. length l.findings) (rw c.in-Found.is at c.advance.ensures),
     )

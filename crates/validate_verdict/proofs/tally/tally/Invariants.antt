@@ -5,8 +5,8 @@ use Rattle.validate_search.specs.Inner.Position.{out_of}
 use Rattle.validate_verdict.specs.Inner.Totals.{and_tally, tallied}
 use Rattle.validate_verdict.proofs.tally.tally.Given as goal
 
-abbrev pub invariant-loop-stopped : goal.invariant-loop-stopped
-invariant-loop-stopped l = tallied (out_of l.limits l.s l.max l.initial.p) ≡ and_tally l.count l.errors (out_of l.limits l.s l.max l.p)
+abbrev pub invariant-loop-finding : goal.invariant-loop-finding
+invariant-loop-finding l = tallied (out_of l.limits l.s l.max l.initial.p) ≡ and_tally l.count l.errors (out_of l.limits l.s l.max l.p)
 
-abbrev pub decreases-loop-stopped : goal.decreases-loop-stopped
-decreases-loop-stopped l = length (out_of l.limits l.s l.max l.p).findings
+abbrev pub decreases-loop-finding : goal.decreases-loop-finding
+decreases-loop-finding l = length (out_of l.limits l.s l.max l.p).findings
