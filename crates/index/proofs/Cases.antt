@@ -3,6 +3,8 @@
 --     index_holds      the whole index, from the bytes; what is written where there is room for it, and for one number more or less
 -- Told apart: any two columns exchanged, rows in another order, the parent counted from 1, an end before the last byte, a row of space too few taken.
 -- Assumes nothing.
+use Rattle.std.specs.Prelude.{Result, Ok, Err}
+use Rattle.format.specs.declared.refusal.Refusal.{Refusal}
 use mathlib.Core.Path.{◌≡◌, refl}
 use mathlib.Core.List.{List, [], ◌∷◌, ◌++◌, map}
 use Prim.Native.Nat.{ℕ, ◌+◌}
@@ -11,8 +13,6 @@ use Rattle.format.specs.declared.refusal.Refusal.TheVariants.{LentSpace}
 use Rattle.format.specs.Limits.{ceilings}
 use Rattle.format.specs.ReadChunk.{body, function, Outcome, read}
 use Rattle.format.proofs.Distinct.{distinct, fourth}
-use Rattle.index.specs.declared.IndexAnswer.{IndexAnswer}
-use Rattle.index.specs.declared.IndexAnswer.TheVariants.{Ok, Err}
 use Rattle.index.specs.Index.{index_row, shown_index, index_written}
 
 row_holds : index_row fourth ≡ 81 ∷ 300 ∷ 2 ∷ 3 ∷ 5 ∷ 7 ∷ 6 ∷ 4 ∷ 8 ∷ 9 ∷ 10 ∷ 11 ∷ 100 ∷ 121 ∷ []
@@ -45,7 +45,7 @@ abbrev chunk : Outcome
 chunk = read ceilings distinct
 
 -- how many numbers are lent, the answer, and what then stands there
-cases : List (ℕ × IndexAnswer × List ℕ)
+cases : List (ℕ × (Result ℕ Refusal) × List ℕ)
 unfolding rows
 cases =
     (126, Ok 9, rows)

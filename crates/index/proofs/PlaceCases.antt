@@ -3,6 +3,8 @@
 --     lent_holds       with one number too few nothing is written, with just enough the row, and a number behind it stays
 -- Told apart: the two places exchanged, the place of a count, the place behind the count's first byte, the place of another list, of the second word or constant, 0 where there is none; thirteen numbers taken for enough.
 -- Assumes nothing.
+use Rattle.std.specs.Prelude.{Result, Ok, Err}
+use Rattle.format.specs.declared.refusal.Refusal.{Refusal}
 use mathlib.Core.Path.{◌≡◌, refl}
 use mathlib.Core.List.{List, [], ◌∷◌, ◌++◌, map}
 use Prim.Native.Nat.{ℕ}
@@ -12,8 +14,6 @@ use Rattle.format.specs.Form.{Bytes}
 use Rattle.format.specs.Copy.{header_bytes}
 use Rattle.format.specs.Limits.{ceilings}
 use Rattle.format.specs.ReadChunk.{body, function, Outcome, read}
-use Rattle.index.specs.declared.IndexAnswer.{IndexAnswer}
-use Rattle.index.specs.declared.IndexAnswer.TheVariants.{Ok, Err}
 use Rattle.index.specs.Index.{shown_index, index_written}
 
 record Case : Type 0 where
@@ -70,7 +70,7 @@ smallest = chunk (0 ∷ 0x80 ∷ 0x80 ∷ 0x80 ∷ 0 ∷ 0 ∷ 2 ∷ replicate 8
 abbrev row : List ℕ
 row = 32 ∷ 46 ∷ replicate 10 0 ++ (39 ∷ 40 ∷ [])
 
-spaces : List (ℕ × IndexAnswer × List ℕ)
+spaces : List (ℕ × (Result ℕ Refusal) × List ℕ)
 spaces = (13, Err LentSpace, replicate 13 77) ∷ (14, Ok 1, row) ∷ (15, Ok 1, row ++ (77 ∷ [])) ∷ []
 
 lent_holds : map (λ c. (c.0, shown_index c.0 smallest, index_written (replicate c.0 77) smallest)) spaces ≡ spaces

@@ -2,8 +2,10 @@
 --     index-length         so many numbers for each function
 --     refused-index        a refusal of the first pass
 --     no_room              the space is too short
---     index-written        the second pass has written the index
+--     never_refused        the second pass refuses nothing
+--     index-written        it has written the index
 -- Assumes nothing.
+use Rattle.std.specs.Prelude.{Ok, Err}
 use mathlib.Core.Path.{◌≡◌, refl, sym, ◌∙◌, ap}
 use mathlib.Core.Bool.{Bool, true, false, cond}
 use mathlib.Core.List.{List, [], ◌∷◌, ◌++◌}
@@ -18,17 +20,16 @@ use Rattle.format.specs.declared.limits.ResourceLimits.{ResourceLimits}
 use Rattle.format.specs.declared.refusal.Refusal.{Refusal}
 use Rattle.format.specs.declared.refusal.Refusal.TheVariants.{LentSpace}
 use Rattle.format.specs.Form.{Bytes}
-use Rattle.format.specs.Reading.{Prototype, Reading}
+use Rattle.format.specs.Reading.{Prototype}
 use Rattle.format.specs.GrammarChunk.{outermost, Chunk}
 use Rattle.format.specs.ReadChunk.{function, main, Outcome, shown, read}
 use Rattle.format.proofs.ExactChunk.{exact_main}
 use Rattle.format.proofs.ReadChunkLaws.{read_sound, read-within}
 use Rattle.read_chunk.specs.declared.summary.Summary.{Summary}
-use Rattle.read_chunk.specs.declared.summary.JudgedResult.TheVariants as judged
 use Rattle.read_chunk.specs.Inner.Decoded.{judged_result}
 use Rattle.read_chunk.proofs.Summaries.{in_ceilings, input_ceiling}
-use Rattle.read_chunk.proofs.MainAt.{WasShown, was_shown, was_refused, MainAt, main-at}
-use Rattle.index.specs.declared.IndexAnswer.TheVariants as answer
+use Rattle.read_walk.specs.Inner.Skim.{skim_result}
+use Rattle.read_chunk.proofs.MainAt.{was_shown, was_refused, MainAt, main-at}
 use Rattle.index.specs.Index.{index, shown_index, index_written}
 use Rattle.slice.specs.Inner.Splice.{splice}
 use Rattle.index_row.specs.Inner.Stored.{COLUMNS, stored}
@@ -40,7 +41,7 @@ index-length [] = refl
 index-length (p ∷ ps) = let more = index-length ps in omega arith
 
 -- ## By the first pass
-pub refused-index : (old : List ℕ) (o : Outcome) (q : Refusal) → judged.Err q ≡ judged_result o → (answer.Err q ≡ shown_index (length old) o) × (old ≡ index_written old o)
+pub refused-index : (old : List ℕ) (o : Outcome) (q : Refusal) → Err q ≡ judged_result o → (Err q ≡ shown_index (length old) o) × (old ≡ index_written old o)
 refused-index old o q e = let is = was_refused o q e in (sym (ap (shown_index (length old)) is), sym (ap (index_written old) is))
 
 -- a row for each function has room where the space has room for as many rows
@@ -50,7 +51,7 @@ short_space space n h = omega arith
 long_space : (space n : ℕ) → n ≤ space / COLUMNS → COLUMNS * n ≤ space
 long_space space n h = omega arith
 
-module _ (old : List ℕ) (o : Outcome) (d : Summary) (e : judged.Ok d ≡ judged_result o) where
+module _ (old : List ℕ) (o : Outcome) (d : Summary) (e : Ok d ≡ judged_result o) where
   abbrev functions : List Prototype
   functions = (was_shown o d e).value.functions
 
@@ -58,13 +59,13 @@ module _ (old : List ℕ) (o : Outcome) (d : Summary) (e : judged.Ok d ≡ judge
   count = ap (λ k. k.functions) (was_shown o d e).shows
 
   by_test : (b : Bool) → leb (length (index functions)) (length old) ≡ b
-      → (shown_index (length old) o ≡ cond b (answer.Ok (length functions)) (answer.Err LentSpace)) × (index_written old o ≡ cond b (index functions ++ drop (length (index functions)) old) old)
+      → (shown_index (length old) o ≡ cond b (Ok (length functions)) (Err LentSpace)) × (index_written old o ≡ cond b (index functions ++ drop (length (index functions)) old) old)
   by_test b t = (
-    ap (shown_index (length old)) (was_shown o d e).is ∙ ap (λ b. cond b (answer.Ok (length functions)) (answer.Err LentSpace)) t,
+    ap (shown_index (length old)) (was_shown o d e).is ∙ ap (λ b. cond b (Ok (length functions)) (Err LentSpace)) t,
     ap (index_written old) (was_shown o d e).is ∙ ap (λ b. cond b (index functions ++ drop (length (index functions)) old) old) t,
   )
 
-  pub no_room : length old / COLUMNS < d.functions → (answer.Err LentSpace ≡ shown_index (length old) o) × (old ≡ index_written old o)
+  pub no_room : length old / COLUMNS < d.functions → (Err LentSpace ≡ shown_index (length old) o) × (old ≡ index_written old o)
   no_room h =
       let size = index-length functions in
       let number = count in
@@ -76,15 +77,15 @@ module _ (old : List ℕ) (o : Outcome) (d : Summary) (e : judged.Ok d ≡ judge
     fits : COLUMNS * length functions ≤ length old
     fits = let number = count in long_space (length old) (length functions) (rw (← number) h)
 
-    room : (new : List ℕ) → new ≡ index functions ++ drop (length (index functions)) old → (answer.Ok d.functions ≡ shown_index (length old) o) × (new ≡ index_written old o)
+    room : (new : List ℕ) → new ≡ index functions ++ drop (length (index functions)) old → (Ok d.functions ≡ shown_index (length old) o) × (new ≡ index_written old o)
     room new e =
         let size = index-length functions in
         let enough = fits in
         let both = by_test true (le-leb (length (index functions)) (length old) (omega arith)) in
-        (ap answer.Ok count ∙ sym both.0, e ∙ sym both.1)
+        (ap Ok count ∙ sym both.0, e ∙ sym both.1)
 
 -- ## The second pass
-module _ (old : List ℕ) (L : ResourceLimits) (s : Bytes) (d : Summary) (e : judged.Ok d ≡ judged_result (read L s)) where
+module _ (old : List ℕ) (L : ResourceLimits) (s : Bytes) (d : Summary) (e : Ok d ≡ judged_result (read L s)) where
   abbrev all-functions : List Prototype
   all-functions = functions old (read L s) d e
 
@@ -112,6 +113,12 @@ module _ (old : List ℕ) (L : ResourceLimits) (s : Bytes) (d : Summary) (e : ju
   main-place : MainAt L s all-functions
   main-place = rw (← those) (main-at L s (ap (main L 0) chunk.whole ∙ (exact_main L).complete chunk.trailing chunk.main))
 
+  -- what the first pass takes the second takes
+  pub never_refused : {A : Type 0} (q : Refusal) → Err q ≡ skim_result outermost (function L L.max_nesting_depth outermost 32 (drop 32 s)) → A
+  never_refused q e =
+      let same = e ∙ ap (skim_result outermost) main-place.reads in
+      absurd (let z : ◌≡◌ {A = ℕ} 0 1 = cc in omega arith)
+
   module _ (enough : d.functions ≤ length old / COLUMNS) (new : List ℕ) (wrote : Wrote outermost (function L L.max_nesting_depth outermost 32 (drop 32 s)) old new) where
     stands_there : new ≡ index all-functions ++ drop (length (index all-functions)) old
     unfolding splice
@@ -120,5 +127,5 @@ module _ (old : List ℕ) (L : ResourceLimits) (s : Bytes) (d : Summary) (e : ju
         ∙ ap (λ xs. xs ++ drop (0 + length xs) old) as_index
         ∙ ap (λ n. index all-functions ++ drop n old) (zero-add (length (index all-functions)))
 
-    pub index-written : (answer.Ok d.functions ≡ shown_index (length old) (read L s)) × (new ≡ index_written old (read L s))
+    pub index-written : (Ok d.functions ≡ shown_index (length old) (read L s)) × (new ≡ index_written old (read L s))
     index-written = room old (read L s) d e enough new stands_there

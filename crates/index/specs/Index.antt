@@ -3,13 +3,13 @@
 --     index ps             those of all functions, one after the other
 --     shown_index n o       the answer, where o was read and n numbers have room
 --     index_written old o   what then stands in the lent space that held `old`
+use Rattle.std.specs.Prelude.{Result, Ok, Err}
+use Rattle.format.specs.declared.refusal.Refusal.{Refusal}
 use Rattle.std.specs.Prelude.{cond, List, [], ◌∷◌, ◌++◌, ℕ, leb, length}
 use Rattle.format.specs.declared.refusal.Refusal.TheVariants.{LentSpace}
 use Rattle.format.specs.Reading.{Prototype}
 use Rattle.format.specs.ReadChunk.{Outcome, shown, refusal}
 use Rattle.slice.specs.Over.{over}
-use Rattle.index.specs.declared.IndexAnswer.{IndexAnswer}
-use Rattle.index.specs.declared.IndexAnswer.TheVariants as answer
 
 -- where it begins and ends (just behind its last byte), its depth, its parent's number (main's is 0), how long each list is, in the grammar's order,
 -- and where its instruction words and its constants begin: just after their counts, also where there are none
@@ -36,9 +36,9 @@ index [] = []
 index (p ∷ ps) = index_row p ++ index ps
 
 -- the number of functions; 26 where the space is shorter than the index, after every other refusal
-abbrev pub shown_index : ℕ → Outcome → IndexAnswer
-shown_index space (shown r) = cond (leb (length (index r.functions)) space) (answer.Ok (length r.functions)) (answer.Err LentSpace)
-shown_index space (refusal q) = answer.Err q
+abbrev pub shown_index : ℕ → Outcome → Result ℕ Refusal
+shown_index space (shown r) = cond (leb (length (index r.functions)) space) (Ok (length r.functions)) (Err LentSpace)
+shown_index space (refusal q) = Err q
 
 -- the index, and behind it what stood there; on any refusal all that stood there
 abbrev pub index_written : List ℕ → Outcome → List ℕ

@@ -3,6 +3,7 @@
 --     function-wrote   a function's row: its front before the rows of those that nest in it, the rest behind them
 --     Behind           in the loop: the rows of the functions passed stand there, and those left are read from here on
 -- Assumes nothing.
+use Rattle.std.specs.Prelude.{Ok, Err}
 use mathlib.Core.Path.{◌≡◌, refl, sym, ◌∙◌, ap}
 use mathlib.Core.List.{List, [], ◌∷◌, ◌++◌, append_assoc}
 use Prim.Native.Nat.{ℕ, ◌+◌, ◌*◌, ◌-◌, ◌<◌, ◌≤◌}
@@ -14,18 +15,15 @@ use Rattle.format.specs.declared.refusal.Refusal.{Refusal}
 use Rattle.format.specs.Form.{Bytes}
 use Rattle.format.specs.Reading.{Prototype}
 use Rattle.format.specs.GrammarChunk.{Where}
-use Rattle.format.specs.Read.{Read, ok}
+use Rattle.format.specs.Read.{Read}
 use Rattle.format.specs.ReadChunk.{forest, function}
 use Rattle.format.proofs.Exact.{never}
 use Rattle.slice.specs.declared.cursor.Cursor.{Cursor}
 use Rattle.read_prototype.specs.declared.pass.HeadCounts.{HeadCounts}
-use Rattle.read_prototype.specs.declared.pass.HeadCountsResult.TheVariants as head-answer
 use Rattle.read_prototype.specs.declared.pass.TailCounts.{TailCounts}
-use Rattle.read_prototype.specs.declared.pass.TailCountsResult.TheVariants as tail-answer
 use Rattle.read_prototype.specs.Inner.Counts.{head_counts, tail_counts, head_counts_result, tail_counts_result}
 use Rattle.read_prototype.specs.Inner.Whole.{prototype_of}
 use Rattle.read_walk.specs.declared.walk.Skimmed.{Skimmed}
-use Rattle.read_walk.specs.declared.walk.SkimResult.TheVariants as skim
 use Rattle.read_walk.specs.Inner.Skim.{entered, on, skim_result}
 use Rattle.read_walk.proofs.OneFunction.{skim_err}
 use Rattle.read_walk.proofs.Passes.{begins, its_head, head-counts, first, inner, nested, ends, its_tail, tail-counted, function-read}
@@ -73,20 +71,20 @@ row_around at a b e xs t places more l₀ l₁ begun six four two fits =
     ∙ ap (splice (at + 1) (e ∷ [])) (splice_then at (a ∷ b ∷ xs) (t ++ (places ++ more)) l₀ (omega arith))
     ∙ over_second at a b e (xs ++ (t ++ (places ++ more))) l₀ (omega arith)
 
-none-wrote : (w : Where) (o : Read (List Prototype)) (l l' : List ℕ) (q : Refusal) → skim.Err q ≡ skim_result w o → Wrote w o l l'
+none-wrote : (w : Where) (o : Read (List Prototype)) (l l' : List ℕ) (q : Refusal) → Err q ≡ skim_result w o → Wrote w o l l'
 none-wrote w o l l' q e = record { wrote = λ ps to rest f _. absurd (never (sym (skim_err w o q e) ∙ f)) }
 
 -- what a return with a refusal shows, and what is then asked of the rows
-pub refuses : (from : Skimmed) (depth parent : ℕ) (o : Where → Read (List Prototype)) (l l' : List ℕ) (q : Refusal) → ((w : Where) → from.number ≡ w.number → from.instructions ≡ w.instructions → skim.Err q ≡ skim_result w (o w))
-    → ((w : Where) → from.number ≡ w.number → from.instructions ≡ w.instructions → skim.Err q ≡ skim_result w (o w))
+pub refuses : (from : Skimmed) (depth parent : ℕ) (o : Where → Read (List Prototype)) (l l' : List ℕ) (q : Refusal) → ((w : Where) → from.number ≡ w.number → from.instructions ≡ w.instructions → Err q ≡ skim_result w (o w))
+    → ((w : Where) → from.number ≡ w.number → from.instructions ≡ w.instructions → Err q ≡ skim_result w (o w))
     × ((w : Where) → from.number ≡ w.number → from.instructions ≡ w.instructions → depth ≡ w.depth → parent ≡ w.parent → Wrote w (o w) l l')
 refuses from depth parent o l l' q shows = (shows, λ w n i _ _. none-wrote w (o w) l l' q (shows w n i))
 
 -- ## A function
 module _ (s : Bytes) (L : ResourceLimits) (left : ℕ) (w : Where) (at : ℕ) {before : ℕ} (so_far : before ≡ w.instructions)
-    (h : HeadCounts) (c₁ : Cursor) (e₁ : head-answer.Ok h c₁ ≡ head_counts_result (begins s L left w at so_far))
-    (k : Skimmed) (e₂ : skim.Ok k ≡ skim_result (first s L left w at so_far h c₁ e₁) (inner s L left w at so_far h c₁ e₁))
-    (t : TailCounts) (c₃ : Cursor) (e₃ : tail-answer.Ok t c₃ ≡ tail_counts_result (ends s L left w at so_far h c₁ e₁ k e₂)) where
+    (h : HeadCounts) (c₁ : Cursor) (e₁ : Ok (h, c₁) ≡ head_counts_result (begins s L left w at so_far))
+    (k : Skimmed) (e₂ : Ok k ≡ skim_result (first s L left w at so_far h c₁ e₁) (inner s L left w at so_far h c₁ e₁))
+    (t : TailCounts) (c₃ : Cursor) (e₃ : Ok (t, c₃) ≡ tail_counts_result (ends s L left w at so_far h c₁ e₁ k e₂)) where
   abbrev those : List Prototype
   those = (nested s L left w at so_far h c₁ e₁ k e₂).value
 
@@ -152,7 +150,7 @@ module _ (s : Bytes) (L : ResourceLimits) (n left depth parent : ℕ) (from : Sk
           a.wrote d p (omega arith) ∙ ap (λ ps. splice (COLUMNS * w.number) (stored ps) l₀) same
 
   module _ (long : length l ≡ length l₀) (some : 0 < more) (level : 0 < left) (few : k.number ≤ L.max_total_prototypes) (l' : List ℕ) (later : Skimmed)
-      (one : (w : Where) → k.number ≡ w.number → k.instructions ≡ w.instructions → skim.Ok later ≡ skim_result w (function L (left - 1) w k.next.at (drop k.next.at s)))
+      (one : (w : Where) → k.number ≡ w.number → k.instructions ≡ w.instructions → Ok later ≡ skim_result w (function L (left - 1) w k.next.at (drop k.next.at s)))
       (its : (w : Where) → k.number ≡ w.number → k.instructions ≡ w.instructions → depth ≡ w.depth → parent ≡ w.parent → Wrote w (function L (left - 1) w k.next.at (drop k.next.at s)) l l') where
     pub on-behind : Behind s L n left depth parent from l₀ later (more - 1) l'
     on-behind w e i = record { passed = a.passed ++ qs; so_far = goes_on_lem L left a.so_far some level few later (one (on w k) refl refl); wrote = written }

@@ -12,8 +12,8 @@ use format::limits::ResourceLimits;
 use format::refusal::Refusal;
 use format_spelling::tally::Tally;
 use index_row::{put_head, put_tail};
-use read_prototype::pass::{HeadCountsResult, TailCountsResult, pass_head, pass_tail};
-use read_walk::walk::{SkimResult, Skimmed};
+use read_prototype::pass::{pass_head, pass_tail};
+use read_walk::walk::Skimmed;
 
 // Passes over a function and all that nest in it, as the judge does (read_walk), and writes the row of each. Ruled out: rows in the order in which functions end, a row left out.
 // Nothing is counted: `unused` is what the parts count in, lent once for all levels so that none keeps room for it.
@@ -26,68 +26,46 @@ pub fn write_function(
     from: Skimmed,
     rows: &mut [u32],
     unused: &mut Tally,
-) -> SkimResult
+) -> Result<Skimmed, Refusal>
     requires { Walkable limits × (from.number ≤ MOST) × (depth + left ≤ DEEPEST) }
     ensures value { (w : grammar.Where) → from.number ≡ w.number → from.instructions ≡ w.instructions → result ≡ skim_result w (function limits left w from.next.at (drop from.next.at s.now)) }
     ensures wrote { (w : grammar.Where) → from.number ≡ w.number → from.instructions ≡ w.instructions → depth ≡ w.depth → parent ≡ w.parent → Wrote w (function limits left w from.next.at (drop from.next.at s.now)) rows.old rows.new }
 {
     *unused = [0usize; 4];
-    let begins = pass_head(s, limits, from.instructions, from.next, unused);
-    match begins {
-        HeadCountsResult::Err(refusal) => SkimResult::Err(refusal),
-        HeadCountsResult::Ok {
-            counts: head,
-            next: behind,
-        } => {
-            put_head(rows, from.number, from.next.at, depth, parent, head);
-            let mut nested = Skimmed {
-                next: behind,
-                number: from.number + 1,
-                instructions: from.instructions + head.instructions,
-            };
-            let mut more = head.protos;
-            while more > 0 {
-                let at = nested.next.at;
-                if left == 0 {
-                    return SkimResult::Err(Refusal::NestingDepth(at));
-                }
-                if limits.max_total_prototypes < nested.number {
-                    return SkimResult::Err(Refusal::TotalPrototypes(at));
-                }
-                let one = write_function(
-                    s,
-                    limits,
-                    left - 1,
-                    depth + 1,
-                    from.number,
-                    nested,
-                    rows,
-                    unused,
-                );
-                match one {
-                    SkimResult::Err(refusal) => return SkimResult::Err(refusal),
-                    SkimResult::Ok(later) => {
-                        nested = later;
-                    }
-                }
-                more -= 1;
-            }
-            *unused = [0usize; 4];
-            let ends = pass_tail(s, limits.max_string_bytes, nested.next, unused);
-            match ends {
-                TailCountsResult::Err(refusal) => SkimResult::Err(refusal),
-                TailCountsResult::Ok {
-                    counts: tail,
-                    next: next,
-                } => {
-                    put_tail(rows, from.number, next.at, tail);
-                    SkimResult::Ok(Skimmed {
-                        next: next,
-                        number: nested.number,
-                        instructions: nested.instructions,
-                    })
-                }
-            }
+    let (head, behind) = pass_head(s, limits, from.instructions, from.next, unused)?;
+    put_head(rows, from.number, from.next.at, depth, parent, head);
+    let mut nested = Skimmed {
+        next: behind,
+        number: from.number + 1,
+        instructions: from.instructions + head.instructions,
+    };
+    let mut more = head.protos;
+    while more > 0 {
+        let at = nested.next.at;
+        if left == 0 {
+            return Err(Refusal::NestingDepth(at));
         }
+        if limits.max_total_prototypes < nested.number {
+            return Err(Refusal::TotalPrototypes(at));
+        }
+        nested = write_function(
+            s,
+            limits,
+            left - 1,
+            depth + 1,
+            from.number,
+            nested,
+            rows,
+            unused,
+        )?;
+        more -= 1;
     }
+    *unused = [0usize; 4];
+    let (tail, next) = pass_tail(s, limits.max_string_bytes, nested.next, unused)?;
+    put_tail(rows, from.number, next.at, tail);
+    Ok(Skimmed {
+        next,
+        number: nested.number,
+        instructions: nested.instructions,
+    })
 }

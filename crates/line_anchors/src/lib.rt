@@ -8,7 +8,7 @@ ghost use Rattle.line_anchors.specs.Inner.Scan.{or_large, still_taking, reset_by
 
 use format::entry::AbsLineInfo;
 use format::refusal::Refusal;
-use read_entry::debug::{AnchorResult, read_anchor};
+use read_entry::debug::read_anchor;
 use slice::cursor::Cursor;
 
 // The anchor that has the pc for its number: how many are before it, or its line.
@@ -30,12 +30,6 @@ pub struct Scan {
     // Just behind the last delta of -128 that has an anchor; pc 0 if none has.
     pub reset: AbsLineInfo,
     pub sought: Sought,
-}
-
-#[derive(Clone, Copy)]
-pub enum ScanResult {
-    Ok(Scan),
-    Err(Refusal),
 }
 
 pub fn or_large(large: bool, line: usize) -> bool
@@ -124,7 +118,7 @@ pub fn scan_anchors(
     deltas: &[u8],
     pc: usize,
     line_defined: usize,
-) -> ScanResult
+) -> Result<Scan, Refusal>
     ensures { result ≡ scan_result deltas.now pc (start_of pc line_defined) (many n anchor cursor.at (drop cursor.at s.now)) }
 {
     let mut scan = Scan {
@@ -138,20 +132,10 @@ pub fn scan_anchors(
         sought: Sought::Ahead(pc),
     };
     let mut next = cursor;
-    let mut left = n;
-    while left > 0 {
-        let read = read_anchor(s, next);
-        match read {
-            AnchorResult::Err(refusal) => return ScanResult::Err(refusal),
-            AnchorResult::Ok {
-                value,
-                next: behind,
-            } => {
-                next = behind;
-                scan = pass(deltas, pc, scan, value);
-            }
-        }
-        left -= 1;
+    for _ in 0..n {
+        let (value, behind) = read_anchor(s, next)?;
+        next = behind;
+        scan = pass(deltas, pc, scan, value);
     }
-    ScanResult::Ok(scan)
+    Ok(scan)
 }

@@ -1,16 +1,16 @@
 -- Worked cases of the lines of a list of pcs: functions, pcs and what is answered and written, in a list, and one theorem over the list, which antt computes. Each list is lent the room that is given, filled with 7.
 -- Assumes nothing.
+use Rattle.std.specs.Prelude.{Result, Ok, Err}
+use Rattle.format.specs.declared.refusal.Refusal.{Refusal}
 use mathlib.Core.Path.{◌≡◌, refl}
 use mathlib.Core.List.{List, [], ◌∷◌, map}
 use Prim.Native.Nat.{ℕ, ◌-◌, ◌^◌}
-use lib.ListN.{length, replicate}
+use lib.ListN.{replicate}
 use Rattle.format.specs.declared.entry.AbsLineInfo.{AbsLineInfo}
 use Rattle.format.specs.declared.refusal.Refusal.TheVariants.{LineTooLarge, LentSpace, AnchorOrder, PcOrder}
 use Rattle.format.specs.Form.{Bytes}
 use Rattle.line_lookup.specs.Lines.{line_of}
 use Rattle.line_lookup.proofs.Cases.{at}
-use Rattle.line_batch.specs.declared.list.LinesAnswer.{LinesAnswer}
-use Rattle.line_batch.specs.declared.list.LinesAnswer.TheVariants.{Ok, Err}
 use Rattle.line_batch.specs.Batch.{deltas_read, refusal_of, answered, over_if}
 
 -- a function's first line, its number of instructions, deltas and anchors
@@ -25,10 +25,10 @@ record Case : Type 0 where
   function : Function
   pcs : List ℕ
   room : ℕ
-  answer : LinesAnswer
+  answer : Result ℕ Refusal
   lines : List ℕ
 
-abbrev case : Function → List ℕ → ℕ → LinesAnswer → List ℕ → Case
+abbrev case : Function → List ℕ → ℕ → Result ℕ Refusal → List ℕ → Case
 case f pcs room answer lines = record { function = f; pcs = pcs; room = room; answer = answer; lines = lines }
 
 -- 01's function
@@ -93,7 +93,7 @@ refused =
     ∷ case (nine 7 (at 2 5 ∷ at 1 (2 ^ 62) ∷ [])) [] 0 (Err LineTooLarge) []
     ∷ []
 
-abbrev answer_of : Case → LinesAnswer
+abbrev answer_of : Case → Result ℕ Refusal
 answer_of c = let f = c.function in answered (refusal_of f.line_defined f.anchors c.room c.pcs) (deltas_read f.instructions f.line_defined f.deltas f.anchors c.pcs)
 
 abbrev lines_of : Case → List ℕ

@@ -3,14 +3,14 @@
 use mathlib.Core.Path.{◌≡◌, refl, sym, ◌∙◌, ap, ap₂}
 use mathlib.Core.Bool.{Bool, true, false, cond}
 use mathlib.Core.List.{List, [], ◌∷◌}
-use Prim.Native.Nat.{ℕ, suc, ◌+◌, ◌-◌, ◌*◌, ◌^◌, ◌≤◌}
+use Prim.Native.Nat.{ℕ, ◌+◌, ◌-◌, ◌*◌, ◌^◌, ◌≤◌}
 use native.Mathlib.Omega.{arith}
 use lib.Dec.{leb}
 use lib.IntN.{ℤ, pos, ◌+ℤ◌}
 use lib.ListN.{length, take, drop, length-drop, length-take}
 use lib.Signed.{mag}
 use mir.Syntax.{w64}
-use mir.Val.{SFits, to_z, of_z}
+use mir.Val.{SFits}
 use Rattle.format.specs.Limits.{MOST}
 use Rattle.format.specs.declared.entry.AbsLineInfo.{AbsLineInfo}
 use Rattle.format.specs.Form.{Bytes}
@@ -18,7 +18,7 @@ use Rattle.line_lookup.specs.Lines.{raised}
 use Rattle.line_lookup.specs.Inner.Scan.{added, summed}
 use Rattle.line_lookup.proofs.Range.{mag_plus, mag_added}
 use Rattle.line_batch.specs.declared.walk.Walk.{Walk}
-use Rattle.line_batch.specs.Inner.Walk.{Step, take_up, take_step, read_up, forward, line_by}
+use Rattle.line_batch.specs.Inner.Walk.{take_up, take_step, read_up, forward, line_by}
 use Rattle.line_batch.specs.Inner.Steps.{step_of}
 
 take-read : (pc : ℕ) (left : List AbsLineInfo) (at from : ℕ) (sum : ℤ) (read : ℕ) → (take_up pc left at from sum read).read ≡ read

@@ -7,7 +7,6 @@
 use mathlib.Core.Path.{◌≡◌, refl, sym, ◌∙◌, ap}
 use mathlib.Core.Bool.{Bool, true, false, ◌&&◌, ◌||◌, cond, or-false, and-true}
 use mathlib.Core.List.{List, [], ◌∷◌, map}
-use mathlib.Core.Option.{none}
 use Prim.Native.Nat.{ℕ, ◌+◌, ◌^◌, ◌≤◌, ◌<◌}
 use native.Mathlib.Numerals.{add-one}
 use native.Mathlib.Omega.{arith}
@@ -22,9 +21,9 @@ use Rattle.line_anchors.specs.Inner.Scan.{or_large}
 use Rattle.line_anchors.proofs.Tests.{drop_beyond}
 use Rattle.line_lookup.specs.Lines.{large}
 use Rattle.line_batch.specs.declared.judge.Seen.{Seen}
-use Rattle.line_batch.specs.declared.judge.Judged.TheVariants as judged
+use Rattle.std.specs.Prelude.{Ok, Err}
 use Rattle.line_batch.specs.Batch.{ordered_from, below, rises, never_falls, refusal_of}
-use Rattle.line_batch.specs.Inner.Judged.{still_rising, see_by, seen_of, start_seen, judged_by}
+use Rattle.line_batch.specs.Inner.Judged.{see_by, seen_of, start_seen, judged_by}
 
 -- ## The anchors
 large-from : (z : Seen) (anchors : List AbsLineInfo) → (seen_of z anchors).large ≡ (z.large || any (leb (2 ^ 62)) (map (λ (a : AbsLineInfo). a.line) anchors))
@@ -72,20 +71,20 @@ module _ (pcs : List ℕ) (last k : ℕ) (inv : never_falls pcs ≡ ordered_from
 
 -- ## What is decided
 module _ (line : ℕ) (anchors : List AbsLineInfo) (space : ℕ) (pcs : List ℕ) where
-  pub stop_large : large line anchors ≡ true → judged.Stop LineTooLarge ≡ judged_by (refusal_of line anchors space pcs)
+  pub stop_large : large line anchors ≡ true → Err LineTooLarge ≡ judged_by (refusal_of line anchors space pcs)
   stop_large e = rw e
 
   module _ (small : large line anchors ≡ false) where
-    pub stop_anchors : rises anchors ≡ false → judged.Stop AnchorOrder ≡ judged_by (refusal_of line anchors space pcs)
+    pub stop_anchors : rises anchors ≡ false → Err AnchorOrder ≡ judged_by (refusal_of line anchors space pcs)
     stop_anchors e = rw (small, e)
 
     module _ (up : rises anchors ≡ true) where
-      pub stop_pcs : never_falls pcs ≡ false → judged.Stop PcOrder ≡ judged_by (refusal_of line anchors space pcs)
+      pub stop_pcs : never_falls pcs ≡ false → Err PcOrder ≡ judged_by (refusal_of line anchors space pcs)
       stop_pcs e = rw (small, up, e)
 
       module _ (on : never_falls pcs ≡ true) where
-        pub stop_space : space < length pcs → judged.Stop LentSpace ≡ judged_by (refusal_of line anchors space pcs)
+        pub stop_space : space < length pcs → Err LentSpace ≡ judged_by (refusal_of line anchors space pcs)
         stop_space h = rw (small, up, on, lt-leb (length pcs) space h)
 
-        pub go : length pcs ≤ space → judged.Go ≡ judged_by (refusal_of line anchors space pcs)
+        pub go : length pcs ≤ space → Ok tt ≡ judged_by (refusal_of line anchors space pcs)
         go h = rw (small, up, on, le-leb (length pcs) space h)

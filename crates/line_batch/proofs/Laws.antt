@@ -12,19 +12,17 @@ use mathlib.Core.Logic.{◌⊎◌, inl, inr, ⊎_elim}
 use mathlib.Core.Option.{Option, none, some, get_or}
 use Prim.Native.Nat.{ℕ, zero, suc, ◌+◌, ◌-◌, ◌≤◌, ◌<◌, min}
 use native.Mathlib.Omega.{arith}
-use borrow.Author.Tests.{leb-true, leb-false, ltb-true, ltb-false, eqb-true, eqb-false, eq-eqb}
+use borrow.Author.Tests.{leb-true, leb-false, ltb-true, ltb-false, eqb-true}
 use lib.Dec.{eqb, leb, ltb}
 use lib.IntN.{ℤ, pos, ◌+ℤ◌, +ℤ_idr}
 use lib.ListN.{length, take, drop, set, replicate, length-set, length-take, length-drop, length-replicate}
 use lib.Seq.{set_out, take-set-le, take-set-lt, drop-set-lt, drop-set-add}
-use mir.Syntax.{w8}
-use mir.Val.{to_z}
 use Rattle.format.specs.declared.entry.AbsLineInfo.{AbsLineInfo}
 use Rattle.format.specs.Form.{Bytes, All}
 use Rattle.format.proofs.Every.{all_append}
 use Rattle.line_lookup.specs.Lines.{rule2, base_of, stepped, walked, raised, line_of}
 use Rattle.line_batch.specs.Batch.{numbers_from, unless_given, walked_by, has, walked_by_any, count_below, deltas_read}
-use Rattle.line_batch.proofs.Counts.{within, within_true, has-from, count_same, count-joined, count_most, count_none}
+use Rattle.line_batch.proofs.Counts.{within, has-from, count_same, count-joined, count_most, count_none}
 use Rattle.line_batch.proofs.Whole.{given_line, given_none, other_walk}
 
 -- ## A part of the deltas

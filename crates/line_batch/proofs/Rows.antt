@@ -5,17 +5,18 @@
 --     full_row                     the anchors of a row that was found are read
 --     lines-shown                  and what is written of it is what the call writes
 -- Assumes nothing.
-use mathlib.Core.Path.{◌≡◌, refl, sym, ◌∙◌, ap, ap₂}
+use Rattle.std.specs.Prelude.{Result, Ok, Err}
+use mathlib.Core.Path.{◌≡◌, refl, sym, ◌∙◌, ap}
 use mathlib.Core.Bool.{cond}
 use mathlib.Core.List.{List, [], ◌∷◌, ◌++◌}
 use mathlib.Core.Option.{Option, none, some}
-use Prim.Native.Nat.{ℕ, zero, suc, ◌+◌, ◌≤◌}
+use Prim.Native.Nat.{ℕ, zero, suc, ◌≤◌}
 use native.Mathlib.Nat.{zero-add}
 use native.Mathlib.Omega.{arith}
 use borrow.Author.Tests.{eq-eqb, ne_eqb}
 use lib.Dec.{eqb}
 use lib.IntN.{pos}
-use lib.ListN.{length, take, drop, length-take, length-drop}
+use lib.ListN.{length, drop, length-take, length-drop}
 use Rattle.format.specs.Limits.{MOST}
 use Rattle.format.specs.declared.entry.AbsLineInfo.{AbsLineInfo}
 use Rattle.format.specs.declared.limits.ResourceLimits.{ResourceLimits}
@@ -33,16 +34,11 @@ use Rattle.slice.specs.Inner.Splice.{splice}
 use Rattle.slice.proofs.Splices.{splice-length, splice-none, splice_front, splice_then}
 use Rattle.read_prototype.specs.declared.row.FunctionRow.{FunctionRow}
 use Rattle.read_prototype.specs.Inner.Row.{row_of}
-use Rattle.show_row.specs.declared.row.RowAnswer.TheVariants as row
 use Rattle.show_row.specs.Asked.{Asked, function_of}
 use Rattle.show_row.specs.Asked as asked
 use Rattle.show_row.specs.Inner.Places.{shown_row_answer}
 use Rattle.show_row.proofs.Found.{found_located}
 use Rattle.line_batch.specs.declared.anchors.Anchors.{Anchors}
-use Rattle.line_batch.specs.declared.judge.Judged.{Judged}
-use Rattle.line_batch.specs.declared.judge.Judged.TheVariants as judged
-use Rattle.line_batch.specs.declared.list.LinesAnswer.{LinesAnswer}
-use Rattle.line_batch.specs.declared.list.LinesAnswer.TheVariants as answer
 use Rattle.line_batch.specs.Batch.{refusal_of, answered, over_if, shown_lines, lines_written}
 use Rattle.line_batch.specs.Inner.Anchors.{or_none, anchors_at, anchors_of}
 use Rattle.line_batch.specs.Inner.Judged.{judged_by}
@@ -124,28 +120,28 @@ module _ (s : Bytes) (row : FunctionRow) (space : ℕ) (pcs : List ℕ) (full : 
         (e ∙ rw (part, is, numbered, front) (rows_written old (omega arith)), f ∙ rw (part, is, numbered) rows_read)
 
 -- ## The judge
-stopped : (o : Option Refusal) (q : Refusal) → judged.Stop q ≡ judged_by o → (n : ℕ) (new old : List ℕ) → (answer.Err q ≡ answered o n) × (old ≡ over_if o new old)
+stopped : (o : Option Refusal) (q : Refusal) → Err q ≡ judged_by o → (n : ℕ) (new old : List ℕ) → (Err q ≡ answered o n) × (old ≡ over_if o new old)
 stopped none q e n new old = absurd (let z : ◌≡◌ {A = ℕ} 0 1 = cc in omega arith)
 stopped (some p) q e n new old = (cc, refl)
 
-went : (o : Option Refusal) → judged.Go ≡ judged_by o → o ≡ none
+went : (o : Option Refusal) → Ok tt ≡ judged_by o → o ≡ none
 went none e = refl
 went (some q) e = absurd (let z : ◌≡◌ {A = ℕ} 0 1 = cc in omega arith)
 
-module _ (s : Bytes) (row : FunctionRow) (pcs old : List ℕ) {all : Anchors} (is : all ≡ all_in row) {says : Judged} (by_test : says ≡ judged_by (refusal_of row.lines.line_defined (anchors_of s all) (length old) pcs)) where
+module _ (s : Bytes) (row : FunctionRow) (pcs old : List ℕ) {all : Anchors} (is : all ≡ all_in row) {says : Result (Unit {0}) Refusal} (by_test : says ≡ judged_by (refusal_of row.lines.line_defined (anchors_of s all) (length old) pcs)) where
   by_row : says ≡ judged_by (row_refusal s row (length old) pcs)
   by_row = by_test ∙ ap (λ all. judged_by (refusal_of row.lines.line_defined (anchors_of s all) (length old) pcs)) is
 
-  pub row_stops : {q : Refusal} → says ≡ judged.Stop q
-      → (answer.Err q ≡ answered (row_refusal s row (length old) pcs) (row_deltas_read s row pcs)) × (old ≡ over_if (row_refusal s row (length old) pcs) (row_lines s row pcs) old)
+  pub row_stops : {q : Refusal} → says ≡ Err q
+      → (Err q ≡ answered (row_refusal s row (length old) pcs) (row_deltas_read s row pcs)) × (old ≡ over_if (row_refusal s row (length old) pcs) (row_lines s row pcs) old)
   row_stops {q} e = stopped (row_refusal s row (length old) pcs) q (sym e ∙ by_row) (row_deltas_read s row pcs) (row_lines s row pcs) old
 
-  pub row_goes : says ≡ judged.Go → row_refusal s row (length old) pcs ≡ none
+  pub row_goes : says ≡ Ok tt → row_refusal s row (length old) pcs ≡ none
   row_goes e = went (row_refusal s row (length old) pcs) (sym e ∙ by_row)
 
-  pub row_wrote : says ≡ judged.Go → {m : ℕ} → m ≡ row_deltas_read s row pcs → {now : List ℕ} → now ≡ splice 0 (row_lines s row pcs) old
-      → (answer.Ok m ≡ answered (row_refusal s row (length old) pcs) (row_deltas_read s row pcs)) × (now ≡ over_if (row_refusal s row (length old) pcs) (row_lines s row pcs) old)
-  row_wrote e is wrote = rw (row_goes e) (ap answer.Ok is, wrote ∙ splice_front (row_lines s row pcs) old)
+  pub row_wrote : says ≡ Ok tt → {m : ℕ} → m ≡ row_deltas_read s row pcs → {now : List ℕ} → now ≡ splice 0 (row_lines s row pcs) old
+      → (Ok m ≡ answered (row_refusal s row (length old) pcs) (row_deltas_read s row pcs)) × (now ≡ over_if (row_refusal s row (length old) pcs) (row_lines s row pcs) old)
+  row_wrote e is wrote = rw (row_goes e) (ap Ok is, wrote ∙ splice_front (row_lines s row pcs) old)
 
 -- ## The function of the reading
 -- anchors that are read are those that the code goes through
@@ -178,11 +174,11 @@ module _ (L : ResourceLimits) (s : Bytes) (p : Prototype) (l : Located L s p) wh
       (answered o (row_deltas_read s (row_of p) pcs) ≡ shown_lines (length old) pcs (asked.found p)) × (over_if o (row_lines s (row_of p) pcs) old ≡ lines_written old pcs (asked.found p))
   located_shown old pcs = rw (anchors_are, deltas_are) (refl, refl)
 
-pub lines-refused : (old pcs : List ℕ) (a : Asked Prototype) (q : Refusal) → row.Err q ≡ shown_row_answer a → (answer.Err q ≡ shown_lines (length old) pcs a) × (old ≡ lines_written old pcs a)
+pub lines-refused : (old pcs : List ℕ) (a : Asked Prototype) (q : Refusal) → Err q ≡ shown_row_answer a → (Err q ≡ shown_lines (length old) pcs a) × (old ≡ lines_written old pcs a)
 lines-refused old pcs (asked.found p) q e = absurd (let z : ◌≡◌ {A = ℕ} 0 1 = cc in omega arith)
 lines-refused old pcs (asked.refused p) q e = (cc, refl)
 
-module _ (L : ResourceLimits) (s : Bytes) (f : ℕ) (x : FunctionRow) (e : row.Ok x ≡ shown_row_answer (function_of f (read L s))) where
+module _ (L : ResourceLimits) (s : Bytes) (f : ℕ) (x : FunctionRow) (e : Ok x ≡ shown_row_answer (function_of f (read L s))) where
   record Of : Type 0 where
     proto : Prototype
     is : function_of f (read L s) ≡ asked.found proto
@@ -192,7 +188,7 @@ module _ (L : ResourceLimits) (s : Bytes) (f : ℕ) (x : FunctionRow) (e : row.O
   of : Of
   of = by (function_of f (read L s)) refl e
     where
-      by : (a : Asked Prototype) → function_of f (read L s) ≡ a → row.Ok x ≡ shown_row_answer a → Of
+      by : (a : Asked Prototype) → function_of f (read L s) ≡ a → Ok x ≡ shown_row_answer a → Of
       by (asked.found p) is e = record { proto = p; is = is; row_is = cc; located = found_located L s f (read L s) refl is }
       by (asked.refused q) is e = absurd (let z : ◌≡◌ {A = ℕ} 0 1 = cc in omega arith)
 
@@ -203,6 +199,6 @@ module _ (L : ResourceLimits) (s : Bytes) (f : ℕ) (x : FunctionRow) (e : row.O
       (answered o (row_deltas_read s x pcs) ≡ shown_lines (length old) pcs (function_of f (read L s))) × (over_if o (row_lines s x pcs) old ≡ lines_written old pcs (function_of f (read L s)))
   row_shown_lem old pcs = let o = of in rw (o.row_is, o.is) (located_shown L s o.proto o.located old pcs)
 
-  pub lines-shown : (old pcs : List ℕ) {r : LinesAnswer} → r ≡ answered (row_refusal s x (length old) pcs) (row_deltas_read s x pcs) → {new : List ℕ} → new ≡ over_if (row_refusal s x (length old) pcs) (row_lines s x pcs) old
+  pub lines-shown : (old pcs : List ℕ) {r : Result ℕ Refusal} → r ≡ answered (row_refusal s x (length old) pcs) (row_deltas_read s x pcs) → {new : List ℕ} → new ≡ over_if (row_refusal s x (length old) pcs) (row_lines s x pcs) old
       → (r ≡ shown_lines (length old) pcs (function_of f (read L s))) × (new ≡ lines_written old pcs (function_of f (read L s)))
   lines-shown old pcs a b = let shows = row_shown_lem old pcs in (a ∙ shows.0, b ∙ shows.1)

@@ -8,24 +8,24 @@ use mathlib.Core.Path.{◌≡◌, refl, sym, ◌∙◌, ap, ap₂}
 use mathlib.Core.Bool.{Bool, true, false, ◌&&◌, ◌||◌, cond}
 use mathlib.Core.List.{List, [], ◌∷◌, ◌++◌, map}
 use mathlib.Core.Logic.{◌⊎◌, inl, inr, ⊎_elim}
-use Prim.Native.Nat.{ℕ, zero, suc, ◌+◌, ◌-◌, ◌^◌, ◌≤◌, ◌<◌, min}
+use Prim.Native.Nat.{ℕ, ◌+◌, ◌-◌, ◌^◌, ◌≤◌, ◌<◌, min}
 use native.Mathlib.Omega.{arith}
 use native.Mathlib.Nat.{zero-add}
 use borrow.Author.Tests.{leb-true, leb-false, le-leb, lt-leb, ltb-true, ltb-false}
 use lib.Dec.{eqb, leb, ltb}
 use lib.IntN.{ℤ, pos, ◌+ℤ◌, +ℤ_assoc, +ℤ_idr}
 use lib.ListN.{length, take, drop, length-append, length-take, length-drop, take-append-drop}
-use lib.Seq.{drop-append-le, drop-append-add, take-take, drop-length, drop_at}
+use lib.Seq.{drop-append-le, take-take, drop_at}
 use mir.Syntax.{w8}
 use mir.Val.{to_z}
 use Rattle.format.specs.declared.entry.AbsLineInfo.{AbsLineInfo}
 use Rattle.format.specs.Form.{Bytes, All}
-use Rattle.line_lookup.specs.Lines.{base_of, walked, raised, by_deltas}
+use Rattle.line_lookup.specs.Lines.{base_of, raised, by_deltas}
 use Rattle.line_lookup.specs.Inner.Scan.{added, summed}
 use Rattle.line_lookup.proofs.Rising.{RisingFrom, Rising}
 use Rattle.line_anchors.proofs.Tests.{drop_beyond}
 use Rattle.line_batch.specs.Batch.{numbers_from, has, walked_by_any, count_below, ordered_from}
-use Rattle.line_batch.specs.Inner.Walk.{Step, take_step, read_up, forward, line_in, lines_from, end_of}
+use Rattle.line_batch.specs.Inner.Walk.{Step, take_step, forward, line_in, lines_from, end_of}
 use Rattle.line_batch.specs.Inner.Steps.{Writable}
 use Rattle.line_batch.proofs.Counts.{within, within_true, within_low, within_high, has-from, count-joined, count_same, count_none}
 use Rattle.line_batch.proofs.Bases.{base_low, plain_walk, base_from, Took, takes}

@@ -8,22 +8,20 @@ use mathlib.Core.Path.{◌≡◌, refl, sym, ◌∙◌, ap, ap₂}
 use mathlib.Core.Bool.{Bool, true, false, ◌&&◌, ◌||◌, cond}
 use mathlib.Core.List.{List, [], ◌∷◌, ◌++◌, map, map-append}
 use mathlib.Core.Option.{Option, none, some, get_or}
-use Prim.Native.Nat.{ℕ, zero, suc, ◌+◌, ◌^◌, ◌≤◌, ◌<◌}
+use Prim.Native.Nat.{ℕ, suc, ◌+◌, ◌≤◌}
 use native.Mathlib.Omega.{arith}
 use borrow.Author.Tests.{leb-true, ltb-true, le-leb}
 use lib.Dec.{eqb, leb, ltb}
 use lib.ListN.{length, take, drop, length-append}
 use lib.Seq.{drop_at}
-use Rattle.format.specs.Any.{any}
 use Rattle.format.specs.Limits.{MOST}
 use Rattle.format.specs.declared.entry.AbsLineInfo.{AbsLineInfo}
-use Rattle.format.specs.declared.refusal.Refusal.{Refusal}
 use Rattle.format.specs.declared.refusal.Refusal.TheVariants.{LineTooLarge, LentSpace, AnchorOrder, PcOrder}
 use Rattle.format.specs.Form.{Bytes, All}
-use Rattle.line_lookup.specs.Lines.{rule1, rule2, rule3, base_of, by_deltas, line_of, large}
+use Rattle.line_lookup.specs.Lines.{rule2, base_of, by_deltas, line_of, large}
 use Rattle.line_lookup.proofs.Range.{all-low, base_low}
 use Rattle.line_lookup.proofs.Rising.{RisingFrom, Rising}
-use Rattle.line_batch.specs.Batch.{numbers_from, unless_given, walked_by, has, walked_by_any, count_below, deltas_read, ordered_from, below, rises, never_falls, refusal_of}
+use Rattle.line_batch.specs.Batch.{numbers_from, unless_given, walked_by, has, walked_by_any, deltas_read, ordered_from, below, rises, never_falls, refusal_of}
 use Rattle.line_batch.specs.Inner.Numbered.{none_passed, numbered_from}
 use Rattle.line_batch.specs.Inner.Walk.{Step, lines_from, end_of, forward}
 use Rattle.line_batch.specs.Inner.Steps.{Writable}

@@ -3,7 +3,8 @@
 --     deltas_read .. pcs        how many of the function's deltas the lookups at all pcs walk over
 --     shown_lines n pcs a       the answer, where a function was asked for and n lines have room
 --     lines_written old pcs a   what then stands in the lent list that held `old`
-use Rattle.std.specs.Prelude.{Bool, true, false, ◌&&◌, cond, List, [], ◌∷◌, ◌++◌, map, ℕ, zero, suc, ◌+◌, eqb, leb, ltb, length, take, drop}
+use Rattle.std.specs.Prelude.{Result, Ok, Err}
+use Rattle.std.specs.Prelude.{Bool, true, ◌&&◌, cond, List, [], ◌∷◌, ◌++◌, map, ℕ, zero, suc, ◌+◌, eqb, leb, ltb, length, take, drop}
 use Rattle.std.proofs.Math.Option.{Option, none, some}
 use Rattle.format.specs.Any.{any}
 use Rattle.format.specs.declared.entry.AbsLineInfo.{AbsLineInfo}
@@ -13,8 +14,6 @@ use Rattle.format.specs.Form.{Bytes}
 use Rattle.format.specs.Reading.{Prototype}
 use Rattle.show_row.specs.Asked.{Asked, found, refused}
 use Rattle.line_lookup.specs.Lines.{rule2, base_of, line_of, large}
-use Rattle.line_batch.specs.declared.list.LinesAnswer.{LinesAnswer}
-use Rattle.line_batch.specs.declared.list.LinesAnswer.TheVariants as answer
 
 -- ## The deltas that a lookup walks over
 -- the numbers of a part of the deltas, the first of which is at pc i: `walked` (crates/line_lookup/specs/Lines.antt) goes through them so
@@ -77,9 +76,9 @@ refusal_of line_defined anchors space pcs =
     (cond (rises anchors) (cond (never_falls pcs) (cond (leb (length pcs) space) none (some LentSpace)) (some PcOrder)) (some AnchorOrder))
 
 -- ## The answer
-abbrev pub answered : Option Refusal → ℕ → LinesAnswer
-answered none n = answer.Ok n
-answered (some q) n = answer.Err q
+abbrev pub answered : Option Refusal → ℕ → Result ℕ Refusal
+answered none n = Ok n
+answered (some q) n = Err q
 
 -- the lines, and behind them what stood there; on a refusal all that stood there
 abbrev pub over_if : Option Refusal → List ℕ → List ℕ → List ℕ
@@ -87,10 +86,10 @@ over_if none new old = new ++ drop (length new) old
 over_if (some q) new old = old
 
 -- 21, 22, 1 to 20 and 23 come first
-abbrev pub shown_lines : ℕ → List ℕ → Asked Prototype → LinesAnswer
+abbrev pub shown_lines : ℕ → List ℕ → Asked Prototype → Result ℕ Refusal
 shown_lines space pcs (found p) =
     answered (refusal_of p.line_defined p.abs_line_info space pcs) (deltas_read (length p.instructions) p.line_defined p.line_info_lem p.abs_line_info pcs)
-shown_lines space pcs (refused q) = answer.Err q
+shown_lines space pcs (refused q) = Err q
 
 abbrev pub lines_written : List ℕ → List ℕ → Asked Prototype → List ℕ
 lines_written old pcs (found p) =

@@ -3,7 +3,7 @@ ghost use Rattle.std.specs.Prelude.{◌≡◌};
 ghost use Rattle.line_batch.specs.Inner.Anchors.{anchors_of, next_list};
 
 use format::entry::AbsLineInfo;
-use read_entry::debug::{AnchorResult, read_anchor};
+use read_entry::debug::read_anchor;
 use slice::cursor::Cursor;
 
 // The next anchor, and how many are left.
@@ -13,32 +13,23 @@ pub struct Anchors {
     pub left: usize,
 }
 
-#[derive(Clone, Copy)]
-pub enum NextAnchor {
-    None,
-    Some { anchor: AbsLineInfo, rest: Anchors },
-}
-
 // The first of them, with the rest. None where one cannot be read: in a chunk that was judged that is not met.
-pub fn next_anchor(s: &[u8], from: Anchors) -> NextAnchor
+pub fn next_anchor(s: &[u8], from: Anchors) -> Option<(AbsLineInfo, Anchors)>
     ensures { anchors_of s.now from ≡ next_list s.now result }
 {
     if from.left == 0 {
-        return NextAnchor::None;
+        return None;
     }
     let next = from.next;
     let read = read_anchor(s, next);
     match read {
-        AnchorResult::Err(_) => NextAnchor::None,
-        AnchorResult::Ok {
+        Err(_) => None,
+        Ok((value, behind)) => Some((
             value,
-            next: behind,
-        } => NextAnchor::Some {
-            anchor: value,
-            rest: Anchors {
+            Anchors {
                 next: behind,
                 left: from.left - 1,
             },
-        },
+        )),
     }
 }

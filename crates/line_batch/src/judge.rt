@@ -4,7 +4,7 @@ ghost use Rattle.line_batch.specs.Batch.{never_falls, refusal_of};
 ghost use Rattle.line_batch.specs.Inner.Anchors.{anchors_of};
 ghost use Rattle.line_batch.specs.Inner.Judged.{still_rising, see_by, seen_of, start_seen, judged_by};
 
-use crate::anchors::{Anchors, NextAnchor, next_anchor};
+use crate::anchors::{Anchors, next_anchor};
 use format::entry::AbsLineInfo;
 use format::refusal::Refusal;
 use line_anchors::or_large;
@@ -19,12 +19,6 @@ pub struct Seen {
     // There was one, and its pc.
     pub any: bool,
     pub last: usize,
-}
-
-#[derive(Clone, Copy)]
-pub enum Judged {
-    Go,
-    Stop(Refusal),
 }
 
 fn is_rising(seen: Seen, pc: usize) -> bool
@@ -63,11 +57,8 @@ fn see_anchors(s: &[u8], all: Anchors, line_defined: usize) -> Seen
     loop {
         let next = next_anchor(s, rest);
         match next {
-            NextAnchor::None => return seen,
-            NextAnchor::Some {
-                anchor,
-                rest: behind,
-            } => {
+            None => return seen,
+            Some((anchor, behind)) => {
                 seen = see(seen, anchor);
                 rest = behind;
             }
@@ -79,34 +70,37 @@ fn never_falls(pcs: &[u64]) -> bool
     ensures { result ≡ never_falls pcs.now }
 {
     let mut last = 0;
-    let mut k = 0;
-    while k < pcs.len() {
-        let pc = pcs[k];
+    for &pc in pcs {
         if pc < last {
             return false;
         }
         last = pc;
-        k += 1;
     }
     true
 }
 
 // Of a function's anchors and first line, the pcs, and how many lines have room.
-pub fn judge(s: &[u8], all: Anchors, line_defined: usize, pcs: &[u64], space: usize) -> Judged
+pub fn judge(
+    s: &[u8],
+    all: Anchors,
+    line_defined: usize,
+    pcs: &[u64],
+    space: usize,
+) -> Result<(), Refusal>
     ensures { result ≡ judged_by (refusal_of line_defined (anchors_of s.now all) space pcs.now) }
 {
     let seen = see_anchors(s, all, line_defined);
     if seen.large {
-        return Judged::Stop(Refusal::LineTooLarge);
+        return Err(Refusal::LineTooLarge);
     }
     if !seen.rising {
-        return Judged::Stop(Refusal::AnchorOrder);
+        return Err(Refusal::AnchorOrder);
     }
     if !never_falls(pcs) {
-        return Judged::Stop(Refusal::PcOrder);
+        return Err(Refusal::PcOrder);
     }
     if space < pcs.len() {
-        return Judged::Stop(Refusal::LentSpace);
+        return Err(Refusal::LentSpace);
     }
-    Judged::Go
+    Ok(())
 }

@@ -9,22 +9,15 @@ ghost use Rattle.line_batch.specs.Batch.{answered, over_if, shown_lines, lines_w
 ghost use Rattle.line_batch.specs.Inner.Rows.{anchors_in, all_in, row_refusal, row_numbered, row_lines, row_deltas_read};
 
 use crate::anchors::Anchors;
-use crate::judge::{Judged, judge};
+use crate::judge::judge;
 use crate::numbered::write_numbered;
 use crate::walk::{Walk, write_lines};
 use format::limits::ResourceLimits;
 use format::refusal::Refusal;
 use read_prototype::row::FunctionRow;
-use show_row::row::{RowAnswer, function_row};
+use show_row::row::function_row;
 use slice::bytes::bytes_at;
 use slice::cursor::Cursor;
-
-// How many deltas were read, or the refusal.
-#[derive(Clone, Copy)]
-pub enum LinesAnswer {
-    Ok(usize),
-    Err(Refusal),
-}
 
 fn all_in(row: FunctionRow) -> Anchors
     ensures { result ≡ all_in row }
@@ -75,18 +68,20 @@ fn write_row(s: &[u8], row: FunctionRow, pcs: &[u64], lines: &mut [u64]) -> usiz
 }
 
 // Of a function's row.
-fn lines_in_row(s: &[u8], row: FunctionRow, pcs: &[u64], lines: &mut [u64]) -> LinesAnswer
+fn lines_in_row(
+    s: &[u8],
+    row: FunctionRow,
+    pcs: &[u64],
+    lines: &mut [u64],
+) -> Result<usize, Refusal>
     requires { (length s.now ≤ MOST) × (length (anchors_in s.now row) ≡ (all_in row).left) }
     ensures value { result ≡ answered (row_refusal s.now row (length lines.old) pcs.now) (row_deltas_read s.now row pcs.now) }
     ensures lines_after { lines.new ≡ over_if (row_refusal s.now row (length lines.old) pcs.now) (row_lines s.now row pcs.now) lines.old }
 {
     let all = all_in(row);
     let firsts = row.lines;
-    let judged = judge(s, all, firsts.line_defined, pcs, lines.len());
-    match judged {
-        Judged::Stop(refusal) => LinesAnswer::Err(refusal),
-        Judged::Go => LinesAnswer::Ok(write_row(s, row, pcs, lines)),
-    }
+    judge(s, all, firsts.line_defined, pcs, lines.len())?;
+    Ok(write_row(s, row, pcs, lines))
 }
 
 // The lines of the instructions `pcs` of a function, which never fall, at the front of `lines`: each as `get_line_for_pc` finds it; how many of the function's deltas these lookups walk over, each of which was read once.
@@ -97,13 +92,10 @@ pub fn get_lines_for_pcs(
     function: usize,
     pcs: &[u64],
     lines: &mut [u64],
-) -> LinesAnswer
+) -> Result<usize, Refusal>
     ensures value { result ≡ shown_lines (length lines.old) pcs.now (function_of function (read limits s.now)) }
     ensures lines_after { lines.new ≡ lines_written lines.old pcs.now (function_of function (read limits s.now)) }
 {
-    let found = function_row(s, limits, function);
-    match found {
-        RowAnswer::Err(refusal) => LinesAnswer::Err(refusal),
-        RowAnswer::Ok(row) => lines_in_row(s, row, pcs, lines),
-    }
+    let row = function_row(s, limits, function)?;
+    lines_in_row(s, row, pcs, lines)
 }

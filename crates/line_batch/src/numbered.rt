@@ -4,7 +4,7 @@ ghost use Rattle.slice.specs.Inner.Splice.{splice};
 ghost use Rattle.line_batch.specs.Inner.Anchors.{anchors_of};
 ghost use Rattle.line_batch.specs.Inner.Numbered.{passed_by, pass_to, numbered_from, none_passed};
 
-use crate::anchors::{Anchors, NextAnchor, next_anchor};
+use crate::anchors::{Anchors, next_anchor};
 
 // How many anchors were passed, those that are left, and the line of the last one passed.
 #[derive(Clone, Copy)]
@@ -24,11 +24,8 @@ fn pass_to(s: &[u8], first: Numbered, pc: usize) -> Numbered
         let rest = z.rest;
         let next = next_anchor(s, rest);
         match next {
-            NextAnchor::None => return z,
-            NextAnchor::Some {
-                anchor,
-                rest: behind,
-            } => {
+            None => return z,
+            Some((anchor, behind)) => {
                 z = Numbered {
                     rest: behind,
                     number: z.number + 1,
@@ -51,15 +48,13 @@ pub fn write_numbered(s: &[u8], all: Anchors, pcs: &[u64], lines: &mut [u64]) ->
         number: 0,
         line: 0,
     };
-    let mut k = 0;
-    while k < pcs.len() {
+    for k in 0..pcs.len() {
         let pc = pcs[k] as usize;
         if pc >= all.left {
             return k;
         }
         z = pass_to(s, z, pc);
         lines[k] = z.line as u64;
-        k += 1;
     }
-    k
+    pcs.len()
 }

@@ -6,7 +6,7 @@ ghost use Rattle.slice.specs.Inner.Splice.{splice};
 ghost use Rattle.line_batch.specs.Inner.Walk.{take_step, forward, line_by, lines_from, end_of};
 ghost use Rattle.line_batch.specs.Inner.Steps.{step_of, Writable};
 
-use crate::anchors::{Anchors, NextAnchor, next_anchor};
+use crate::anchors::{Anchors, next_anchor};
 use line_lookup::deltas::{add_deltas, raise, up_to};
 
 // Where the walk is.
@@ -32,11 +32,8 @@ fn take_up(s: &[u8], first: Walk, pc: usize) -> Walk
         let rest = walk.rest;
         let next = next_anchor(s, rest);
         match next {
-            NextAnchor::None => return walk,
-            NextAnchor::Some {
-                anchor,
-                rest: behind,
-            } => {
+            None => return walk,
+            Some((anchor, behind)) => {
                 if pc < anchor.pc {
                     return walk;
                 }
@@ -107,11 +104,9 @@ pub fn write_lines(
     ensures value { result ≡ (end_of deltas.now (step_of s.now first) (drop start pcs.now)).read }
 {
     let mut walk = first;
-    let mut k = start;
-    while k < pcs.len() {
+    for k in start..pcs.len() {
         walk = go_on(s, deltas, walk, pcs[k] as usize);
         lines[k] = line_of(deltas, walk) as u64;
-        k += 1;
     }
     walk.read
 }

@@ -1,13 +1,13 @@
 -- The worked cases of 01 'model.rs' that are marked P, and some beside them: inputs and results in a list, and one theorem over the list, which antt computes.
 -- Assumes nothing.
+use Rattle.std.specs.Prelude.{Result, Ok, Err}
+use Rattle.format.specs.declared.refusal.Refusal.{Refusal}
 use mathlib.Core.Path.{◌≡◌, refl}
 use mathlib.Core.List.{List, [], ◌∷◌, map}
 use Prim.Native.Nat.{ℕ, ◌-◌, ◌^◌}
 use Rattle.format.specs.declared.entry.AbsLineInfo.{AbsLineInfo}
 use Rattle.format.specs.declared.refusal.Refusal.TheVariants.{LineTooLarge}
 use Rattle.format.specs.Form.{Bytes}
-use Rattle.line_lookup.specs.declared.line.LineAnswer.{LineAnswer}
-use Rattle.line_lookup.specs.declared.line.LineAnswer.TheVariants.{Ok, Err}
 use Rattle.line_lookup.specs.Lines.{answer_of}
 
 -- a function's first line, its number of instructions, deltas and anchors, a pc, and the line of it
@@ -17,7 +17,7 @@ record Case : Type 0 where
   deltas : Bytes
   anchors : List AbsLineInfo
   pc : ℕ
-  result : LineAnswer
+  result : Result ℕ Refusal
 
 abbrev pub at : ℕ → ℕ → AbsLineInfo
 at pc line = record { pc = pc; line = line }
@@ -64,7 +64,7 @@ more =
     ∷ record { line_defined = 0; instructions = 2; deltas = []; anchors = at 0 (2 ^ 62) ∷ at 9 0 ∷ []; pc = 1; result = Err LineTooLarge }
     ∷ []
 
-abbrev line : Case → LineAnswer
+abbrev line : Case → Result ℕ Refusal
 line c = answer_of c.instructions c.line_defined c.deltas c.anchors c.pc
 
 marked_hold : map line marked ≡ map (λ c. c.result) marked

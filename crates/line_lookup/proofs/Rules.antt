@@ -1,5 +1,6 @@
 -- The four rules, of what the pass over the anchors gave.
 -- Assumes nothing.
+use Rattle.std.specs.Prelude.{Ok, Err}
 use mathlib.Core.Path.{◌≡◌, refl, sym, ◌∙◌, ap}
 use mathlib.Core.Bool.{Bool, true, false, cond}
 use mathlib.Core.List.{List, [], ◌∷◌}
@@ -13,8 +14,7 @@ use Rattle.format.specs.declared.entry.AbsLineInfo.{AbsLineInfo}
 use Rattle.format.specs.declared.refusal.Refusal.TheVariants.{LineTooLarge}
 use Rattle.format.specs.Form.{Bytes}
 use Rattle.line_anchors.specs.declared.Scan.{Scan}
-use Rattle.line_lookup.specs.declared.line.LineAnswer.TheVariants as answer
-use Rattle.line_lookup.specs.Lines.{rule1, rule2, rule3, base_of, raised, by_deltas, line_of, large, answer_of}
+use Rattle.line_lookup.specs.Lines.{rule1, rule2, rule3, base_of, raised, by_deltas, line_of, answer_of}
 use Rattle.line_anchors.specs.Inner.Scan.{scanned, start_of}
 use Rattle.line_lookup.specs.Inner.Scan.{start_in, summed, line_from, numbered_of}
 use Rattle.line_anchors.specs.declared.Sought.TheVariants.{Ahead, At}
@@ -33,11 +33,11 @@ module _ (instructions line : ℕ) (deltas : Bytes) (anchors : List AbsLineInfo)
   the_line = line_of instructions line deltas anchors pc
 
   -- ## Refusal 25
-  pub large-refused : scan.large ≡ true → answer.Err LineTooLarge ≡ answer_of instructions line deltas anchors pc
-  large-refused e = picked (answer.Err LineTooLarge) (answer.Ok the_line) (sym (scanned-large cut pc line anchors) ∙ e)
+  pub large-refused : scan.large ≡ true → Err LineTooLarge ≡ answer_of instructions line deltas anchors pc
+  large-refused e = picked (Err LineTooLarge) (Ok the_line) (sym (scanned-large cut pc line anchors) ∙ e)
 
-  pub small-shown : scan.large ≡ false → {l : ℕ} → l ≡ the_line → answer.Ok l ≡ answer_of instructions line deltas anchors pc
-  small-shown e is = ap answer.Ok is ∙ other (answer.Err LineTooLarge) (answer.Ok the_line) (sym (scanned-large cut pc line anchors) ∙ e)
+  pub small-shown : scan.large ≡ false → {l : ℕ} → l ≡ the_line → Ok l ≡ answer_of instructions line deltas anchors pc
+  small-shown e is = ap Ok is ∙ other (Err LineTooLarge) (Ok the_line) (sym (scanned-large cut pc line anchors) ∙ e)
 
   -- ## Rule 2
   second : line_sought (numbered_of (length anchors) instructions scan.sought) ≡ rule2 instructions anchors pc

@@ -4,6 +4,8 @@
 --     the delta at the base itself is added too; there adding starts just behind it
 --     a delta of −128 takes the line of an anchor at its pc, and without one leaves the line; there an assertion says that it is not met
 --     as many anchors as instructions are taken one for each; there they are as any others
+use Rattle.std.specs.Prelude.{Result, Ok, Err}
+use Rattle.format.specs.declared.refusal.Refusal.{Refusal}
 use Rattle.std.specs.Prelude.{Bool, cond, List, [], ◌∷◌, map, ℕ, ◌+◌, ◌^◌, eqb, leb, ℤ, pos, negsuc, ◌+ℤ◌, length, take, drop}
 use Rattle.std.proofs.Math.Option
 use Rattle.std.proofs.Math.Option.{Option, none, some, get_or}
@@ -16,8 +18,6 @@ use Rattle.format.specs.declared.refusal.Refusal.TheVariants.{LineTooLarge}
 use Rattle.format.specs.Form.{Bytes}
 use Rattle.format.specs.Reading.{Prototype}
 use Rattle.show_row.specs.Asked.{Asked, found, refused}
-use Rattle.line_lookup.specs.declared.line.LineAnswer.{LineAnswer}
-use Rattle.line_lookup.specs.declared.line.LineAnswer.TheVariants as answer
 
 -- ## 1. No deltas and no anchors: 0
 abbrev pub rule1 : Bytes → List AbsLineInfo → Option ℕ
@@ -71,10 +71,10 @@ line_of instructions line_defined deltas anchors pc = get_or (rule1 deltas ancho
 abbrev pub large : ℕ → List AbsLineInfo → Bool
 large line anchors = any (leb (2 ^ 62)) (line ∷ map (λ (a : AbsLineInfo). a.line) anchors)
 
-abbrev pub answer_of : ℕ → ℕ → Bytes → List AbsLineInfo → ℕ → LineAnswer
-answer_of instructions line_defined deltas anchors pc = cond (large line_defined anchors) (answer.Err LineTooLarge) (answer.Ok (line_of instructions line_defined deltas anchors pc))
+abbrev pub answer_of : ℕ → ℕ → Bytes → List AbsLineInfo → ℕ → Result ℕ Refusal
+answer_of instructions line_defined deltas anchors pc = cond (large line_defined anchors) (Err LineTooLarge) (Ok (line_of instructions line_defined deltas anchors pc))
 
 -- 21, 22, 1 to 20 and 23 come first
-abbrev pub shown_line : ℕ → Asked Prototype → LineAnswer
+abbrev pub shown_line : ℕ → Asked Prototype → Result ℕ Refusal
 shown_line pc (found p) = answer_of (length p.instructions) p.line_defined p.line_info_lem p.abs_line_info pc
-shown_line pc (refused q) = answer.Err q
+shown_line pc (refused q) = Err q

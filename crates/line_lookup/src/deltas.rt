@@ -38,10 +38,8 @@ pub fn add_deltas(deltas: &[u8], from: usize, line: i64) -> i64
     ensures { result ≡ summed line (drop from deltas.now) }
 {
     let mut current_line = line;
-    let mut i = from;
-    while i < deltas.len() {
+    for i in from..deltas.len() {
         current_line = add_delta(current_line, deltas[i]);
-        i += 1;
     }
     current_line
 }

@@ -9,17 +9,11 @@ ghost use Rattle.line_lookup.specs.Inner.Scan.{numbered_of, shown_row_line};
 use crate::deltas::{line_from, up_to};
 use format::limits::ResourceLimits;
 use format::refusal::Refusal;
-use line_anchors::{ScanResult, Sought, scan_anchors};
+use line_anchors::{Sought, scan_anchors};
 use read_prototype::row::FunctionRow;
-use show_row::row::{RowAnswer, function_row};
+use show_row::row::function_row;
 use slice::bytes::bytes_at;
 use slice::cursor::Cursor;
-
-#[derive(Clone, Copy)]
-pub enum LineAnswer {
-    Ok(usize),
-    Err(Refusal),
-}
 
 // An anchor counts by its number only where there are as many as instructions.
 fn numbered(anchors: usize, instructions: usize, sought: Sought) -> Sought
@@ -32,7 +26,7 @@ fn numbered(anchors: usize, instructions: usize, sought: Sought) -> Sought
 }
 
 // Of a function's row. Rule 1 gives what rule 4 gives, so it has no test of its own.
-fn line_in_row(s: &[u8], row: FunctionRow, pc: usize) -> LineAnswer
+fn line_in_row(s: &[u8], row: FunctionRow, pc: usize) -> Result<usize, Refusal>
     requires { length s.now ≤ MOST }
     ensures { result ≡ shown_row_line row pc s.now }
 {
@@ -43,30 +37,27 @@ fn line_in_row(s: &[u8], row: FunctionRow, pc: usize) -> LineAnswer
     let anchors = lists.abs_line_info;
     let first = Cursor { at: anchors.place };
     let deltas = up_to(bytes_at(s, line_info.place, line_info.count), pc);
-    let scanned = scan_anchors(s, first, anchors.count, deltas, pc, lines.line_defined);
-    match scanned {
-        ScanResult::Err(refusal) => LineAnswer::Err(refusal),
-        ScanResult::Ok(scan) => {
-            if scan.large {
-                return LineAnswer::Err(Refusal::LineTooLarge);
-            }
-            let sought = scan.sought;
-            let found = numbered(anchors.count, instructions.count, sought);
-            match found {
-                Sought::At(line) => LineAnswer::Ok(line),
-                Sought::Ahead(_) => LineAnswer::Ok(line_from(deltas, scan)),
-            }
-        }
+    let scan = scan_anchors(s, first, anchors.count, deltas, pc, lines.line_defined)?;
+    if scan.large {
+        return Err(Refusal::LineTooLarge);
+    }
+    let sought = scan.sought;
+    let found = numbered(anchors.count, instructions.count, sought);
+    match found {
+        Sought::At(line) => Ok(line),
+        Sought::Ahead(_) => Ok(line_from(deltas, scan)),
     }
 }
 
 // The line of an instruction of a function, as the Rust's `Prototype::get_line_for_pc` finds it. Ruled out: the delta at the anchor skipped, lines always 0.
-pub fn get_line_for_pc(s: &[u8], limits: ResourceLimits, function: usize, pc: usize) -> LineAnswer
+pub fn get_line_for_pc(
+    s: &[u8],
+    limits: ResourceLimits,
+    function: usize,
+    pc: usize,
+) -> Result<usize, Refusal>
     ensures { result ≡ shown_line pc (function_of function (read limits s.now)) }
 {
-    let found = function_row(s, limits, function);
-    match found {
-        RowAnswer::Err(refusal) => LineAnswer::Err(refusal),
-        RowAnswer::Ok(row) => line_in_row(s, row, pc),
-    }
+    let row = function_row(s, limits, function)?;
+    line_in_row(s, row, pc)
 }

@@ -5,6 +5,10 @@
 --     trailing_holds   the trailing bytes; of a chunk that is refused none
 -- Told apart: any two fields exchanged, nested functions that show main's fields, an inherited source shown as absent or at another place, the warnings in another order, function numbers from 1.
 -- Assumes nothing.
+use Rattle.std.specs.Prelude.{Some, Result, Ok, Err}
+use Rattle.format.specs.declared.refusal.Refusal.{Refusal}
+use Rattle.show_chunk.specs.declared.fields.FunctionFields.{FunctionFields}
+use Rattle.show_chunk.specs.declared.summary.ChunkSummary.{ChunkSummary}
 use mathlib.Core.Path.{◌≡◌, refl}
 use mathlib.Core.List.{List, [], ◌∷◌, ◌++◌, map}
 use Prim.Native.Nat.{ℕ}
@@ -19,13 +23,7 @@ use Rattle.format.specs.ReadChunk.{body, function, Outcome, read}
 use Rattle.format.proofs.Distinct.{distinct}
 use Rattle.format_spelling.specs.ReadSpelling.{spelling}
 use Rattle.format_spelling.specs.ReadSpelling as count
-use Rattle.read_field.specs.declared.string.OptionString.TheVariants as string
-use Rattle.read_header.specs.declared.OptionWarning.TheVariants as option
 use Rattle.show_row.specs.Asked.{function_of}
-use Rattle.show_chunk.specs.declared.fields.FieldsAnswer.{FieldsAnswer}
-use Rattle.show_chunk.specs.declared.fields.FieldsAnswer.TheVariants as fields
-use Rattle.show_chunk.specs.declared.summary.SummaryAnswer.{SummaryAnswer}
-use Rattle.show_chunk.specs.declared.summary.SummaryAnswer.TheVariants as summary
 use Rattle.show_chunk.specs.Fields.{shown_fields}
 use Rattle.show_chunk.specs.Summaries.{shown_summary, trailing_of}
 
@@ -34,11 +32,11 @@ chunk = read ceilings distinct
 
 -- ## Fields
 -- a function without entries, but for so many functions in it; main's source, at 33
-abbrev plain : ℕ → ℕ → ℕ → ℕ → FieldsAnswer
-plain depth parent vararg protos = fields.Ok (record {
+abbrev plain : ℕ → ℕ → ℕ → ℕ → Result FunctionFields Refusal
+plain depth parent vararg protos = Ok (record {
   depth = depth;
   parent = parent;
-  source_name = string.Some (record { place = 33; len = 1 });
+  source_name = Some (record { place = 33; len = 1 });
   line_defined = 0;
   last_line_defined = 0;
   numparams = 0;
@@ -48,13 +46,13 @@ plain depth parent vararg protos = fields.Ok (record {
 })
 
 -- a function's number, and its fields
-cases : List (ℕ × FieldsAnswer)
+cases : List (ℕ × (Result FunctionFields Refusal))
 cases = (
   4,
-  fields.Ok (record {
+  Ok (record {
     depth = 2;
     parent = 3;
-    source_name = string.Some (record { place = 82; len = 12 });
+    source_name = Some (record { place = 82; len = 12 });
     line_defined = 13;
     last_line_defined = 14;
     numparams = 15;
@@ -66,7 +64,7 @@ cases = (
     ∷ (0, plain 0 0 1 2)
     ∷ (1, plain 1 0 0 1)
     ∷ (2, plain 2 1 0 0)
-    ∷ (9, fields.Err NoFunction)
+    ∷ (9, Err NoFunction)
     ∷ []
 
 fields_hold : map (λ c. shown_fields (function_of c.0 chunk)) cases ≡ map (λ c. c.1) cases
@@ -74,10 +72,10 @@ unfolding cases distinct read body function
 fields_hold = refl
 
 -- ## The chunk as a whole
-summary_holds : shown_summary (spelling ceilings distinct) chunk ≡ summary.Ok (record {
+summary_holds : shown_summary (spelling ceilings distinct) chunk ≡ Ok (record {
   summary = record {
     header = record { version = 0x54; format = 3; instruction_size = 4; lua_integer_size = 8; sizeof_sizet = 8; lua_number_size = 8; luac_int = pos 0x5678; luac_num = 0x4077280000000000 };
-    warnings = record { first = option.Some (NonStandardFormat 5); second = option.Some (TrailingBytes 308) };
+    warnings = record { first = Some (NonStandardFormat 5); second = Some (TrailingBytes 308) };
     functions = 9;
     trailing_at = 308;
     trailing_len = 3;
@@ -93,15 +91,15 @@ padded =
     header_bytes 0 ++ (0 ∷ 0 ∷ 0x80 ∷ 0x80 ∷ 0 ∷ 0x85 ∷ 0 ∷ 0 ∷ 2 ∷ 0x80 ∷ 0x80 ∷ 0x80 ∷ 0x81 ∷ [])
     ++ (0x80 ∷ 0 ∷ 0 ∷ 0x83 ∷ 0x80 ∷ 0 ∷ 0 ∷ 2 ∷ replicate 7 0x80) ++ (0 ∷ 0x80 ∷ replicate 4 0x80)
 
-abbrev padded_shown : SummaryAnswer → ℕ
-padded_shown (summary.Ok y) = y.padded_numbers
-padded_shown (summary.Err q) = 99
+abbrev padded_shown : Result ChunkSummary Refusal → ℕ
+padded_shown (Ok y) = y.padded_numbers
+padded_shown (Err q) = 99
 
 padded_holds : padded_shown (shown_summary (spelling ceilings padded) (read ceilings padded)) ≡ 4
 unfolding read body function spelling count.body count.function
 padded_holds = refl
 
-refused_holds : shown_summary (spelling ceilings (take 307 distinct)) (read ceilings (take 307 distinct)) ≡ summary.Err (Truncated 307)
+refused_holds : shown_summary (spelling ceilings (take 307 distinct)) (read ceilings (take 307 distinct)) ≡ Err (Truncated 307)
 unfolding distinct read body function
 refused_holds = refl
 

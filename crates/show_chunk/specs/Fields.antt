@@ -1,10 +1,10 @@
 -- What is shown of a function: the fields that 01 lists.
+use Rattle.std.specs.Prelude.{Result, Ok, Err}
+use Rattle.format.specs.declared.refusal.Refusal.{Refusal}
 use Rattle.std.specs.Prelude.{length}
 use Rattle.format.specs.Reading.{Prototype}
 use Rattle.read_field.specs.Shown.{option_string}
 use Rattle.show_chunk.specs.declared.fields.FunctionFields.{FunctionFields}
-use Rattle.show_chunk.specs.declared.fields.FieldsAnswer.{FieldsAnswer}
-use Rattle.show_chunk.specs.declared.fields.FieldsAnswer.TheVariants as fields
 use Rattle.show_row.specs.Asked.{Asked, found, refused}
 
 abbrev pub fields_of : Prototype → FunctionFields
@@ -29,6 +29,6 @@ fields_of p = record {
   };
 }
 
-abbrev pub shown_fields : Asked Prototype → FieldsAnswer
-shown_fields (found p) = fields.Ok (fields_of p)
-shown_fields (refused q) = fields.Err q
+abbrev pub shown_fields : Asked Prototype → Result FunctionFields Refusal
+shown_fields (found p) = Ok (fields_of p)
+shown_fields (refused q) = Err q

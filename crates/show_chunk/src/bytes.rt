@@ -4,7 +4,7 @@ ghost use Rattle.format.specs.ReadChunk.{read};
 ghost use Rattle.show_chunk.specs.Summaries.{trailing_of};
 
 use format::limits::ResourceLimits;
-use read_chunk::summary::{JudgedResult, judge_chunk};
+use read_chunk::summary::judge_chunk;
 use slice::bytes::{bytes_at, bytes_from};
 
 // The bytes of a string by its place and length. Where the chunk does not reach so far they are those that are there: 01 leaves that answer free.
@@ -22,7 +22,7 @@ pub fn trailing_bytes(s: &[u8], limits: ResourceLimits) -> &[u8]
 {
     let judged = judge_chunk(s, limits);
     match judged {
-        JudgedResult::Err(_) => bytes_from(s, s.len()),
-        JudgedResult::Ok(summary) => bytes_from(s, summary.trailing_at),
+        Err(_) => bytes_from(s, s.len()),
+        Ok(summary) => bytes_from(s, summary.trailing_at),
     }
 }

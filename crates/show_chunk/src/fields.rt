@@ -7,9 +7,9 @@ ghost use Rattle.show_chunk.specs.Inner.Rows.{fields_shown};
 
 use format::limits::ResourceLimits;
 use format::refusal::Refusal;
-use read_field::string::OptionString;
+use read_field::string::StringAt;
 use read_prototype::row::FunctionRow;
-use show_row::row::{RowAnswer, function_row};
+use show_row::row::function_row;
 
 // How many entries each list has, in the order of the file.
 #[derive(Clone, Copy)]
@@ -29,19 +29,13 @@ pub struct FunctionFields {
     pub depth: usize,
     // The parent's number; 0 for main.
     pub parent: usize,
-    pub source_name: OptionString,
+    pub source_name: Option<StringAt>,
     pub line_defined: usize,
     pub last_line_defined: usize,
     pub numparams: u8,
     pub is_vararg: u8,
     pub maxstacksize: u8,
     pub counts: Counts,
-}
-
-#[derive(Clone, Copy)]
-pub enum FieldsAnswer {
-    Ok(FunctionFields),
-    Err(Refusal),
 }
 
 fn counts_of(row: FunctionRow) -> Counts
@@ -88,12 +82,13 @@ fn fields_of(row: FunctionRow) -> FunctionFields
 }
 
 // Depth, parent, source, lines, three bytes and eight counts. Ruled out: nested functions that all show main's fields, the counts of locals and names exchanged.
-pub fn function_fields(s: &[u8], limits: ResourceLimits, function: usize) -> FieldsAnswer
+pub fn function_fields(
+    s: &[u8],
+    limits: ResourceLimits,
+    function: usize,
+) -> Result<FunctionFields, Refusal>
     ensures { result ≡ shown_fields (function_of function (read limits s.now)) }
 {
-    let found = function_row(s, limits, function);
-    match found {
-        RowAnswer::Err(refusal) => FieldsAnswer::Err(refusal),
-        RowAnswer::Ok(row) => FieldsAnswer::Ok(fields_of(row)),
-    }
+    let row = function_row(s, limits, function)?;
+    Ok(fields_of(row))
 }

@@ -6,7 +6,7 @@ ghost use Rattle.show_chunk.specs.Summaries.{shown_summary};
 
 use format::limits::ResourceLimits;
 use format::refusal::Refusal;
-use read_chunk::summary::{SpeltResult, Summary, judge_spelling};
+use read_chunk::summary::{Summary, judge_spelling};
 
 #[derive(Clone, Copy)]
 pub struct ChunkSummary {
@@ -15,26 +15,14 @@ pub struct ChunkSummary {
     pub padded_numbers: usize,
 }
 
-#[derive(Clone, Copy)]
-pub enum SummaryAnswer {
-    Ok(ChunkSummary),
-    Err(Refusal),
-}
-
 // Header fields, warnings, the number of functions, place and length of the trailing bytes, and how many numbers are padded.
 // Ruled out: every chunk called cut short, a number of functions that leaves out the nested ones, numbers that are never padded.
-pub fn chunk_summary(s: &[u8], limits: ResourceLimits) -> SummaryAnswer
+pub fn chunk_summary(s: &[u8], limits: ResourceLimits) -> Result<ChunkSummary, Refusal>
     ensures { result ≡ shown_summary (spelling limits s.now) (read limits s.now) }
 {
-    let judged = judge_spelling(s, limits);
-    match judged {
-        SpeltResult::Err(refusal) => SummaryAnswer::Err(refusal),
-        SpeltResult::Ok { summary, spelling } => {
-            let shown = ChunkSummary {
-                summary: summary,
-                padded_numbers: spelling.padded,
-            };
-            SummaryAnswer::Ok(shown)
-        }
-    }
+    let (summary, spelling) = judge_spelling(s, limits)?;
+    Ok(ChunkSummary {
+        summary,
+        padded_numbers: spelling.padded,
+    })
 }

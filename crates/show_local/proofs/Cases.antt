@@ -4,6 +4,9 @@
 --     names_hold       what then stands in the lent space
 -- Told apart: startpc and endpc exchanged, an absent name of length 0, space beyond the name touched, space touched on a refusal.
 -- Assumes nothing.
+use Rattle.std.specs.Prelude.{Result, Ok, Err}
+use Rattle.format.specs.declared.refusal.Refusal.{Refusal}
+use Rattle.show_local.specs.declared.LocalShown.{LocalShown}
 use mathlib.Core.Path.{◌≡◌, refl}
 use mathlib.Core.List.{List, [], ◌∷◌, map}
 use Prim.Native.Nat.{ℕ}
@@ -15,8 +18,6 @@ use Rattle.format.specs.Reading.{LocalVar}
 use Rattle.format.specs.ReadChunk.{body, function, read}
 use Rattle.format.proofs.Distinct.{distinct}
 use Rattle.show_row.specs.Asked.{Asked, entry_of}
-use Rattle.show_local.specs.declared.LocalAnswer.{LocalAnswer}
-use Rattle.show_local.specs.declared.LocalAnswer.TheVariants.{Ok, Err}
 use Rattle.show_local.specs.Locals.{shown_local, name_written}
 
 abbrev found : ℕ → ℕ → Asked LocalVar
@@ -26,13 +27,13 @@ record Case : Type 0 where
   of : ℕ
   entry : ℕ
   lent : Bytes
-  answer : LocalAnswer
+  answer : Result LocalShown Refusal
   then : Bytes
 
 cases : List Case
 cases =
-    record { of = 4; entry = 0; lent = 1 ∷ 2 ∷ []; answer = Ok 1 5 6; then = 0x76 ∷ 2 ∷ [] }
-    ∷ record { of = 4; entry = 9; lent = 1 ∷ []; answer = Ok 1 0 0; then = 0x3f ∷ [] }
+    record { of = 4; entry = 0; lent = 1 ∷ 2 ∷ []; answer = Ok (record { name_len = 1; startpc = 5; endpc = 6 }); then = 0x76 ∷ 2 ∷ [] }
+    ∷ record { of = 4; entry = 9; lent = 1 ∷ []; answer = Ok (record { name_len = 1; startpc = 0; endpc = 0 }); then = 0x3f ∷ [] }
     ∷ record { of = 4; entry = 0; lent = []; answer = Err LentSpace; then = [] }
     ∷ record { of = 4; entry = 10; lent = 1 ∷ []; answer = Err NoEntry; then = 1 ∷ [] }
     ∷ record { of = 9; entry = 0; lent = 1 ∷ []; answer = Err NoFunction; then = 1 ∷ [] }

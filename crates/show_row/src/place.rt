@@ -4,10 +4,11 @@ ghost use Rattle.format.specs.ReadChunk.{read};
 ghost use Rattle.show_row.specs.Asked.{function_of};
 ghost use Rattle.show_row.specs.Inner.Places.{list_of, shown_place};
 
-use crate::row::{RowAnswer, function_row};
+use crate::row::function_row;
 use format::limits::ResourceLimits;
 use format::refusal::Refusal;
-use read_prototype::row::{FunctionRow, ListAt};
+use read_list::ListAt;
+use read_prototype::row::FunctionRow;
 use slice::cursor::Cursor;
 
 // The lists of a function that hold entries of their own.
@@ -20,13 +21,6 @@ pub enum EntryKind {
     Anchor,
     Local,
     UpvalueName,
-}
-
-// The cursor at the first entry of the list, or the refusal.
-#[derive(Clone, Copy)]
-pub enum PlaceAnswer {
-    Ok(Cursor),
-    Err(Refusal),
 }
 
 fn list_of(kind: EntryKind, row: FunctionRow) -> ListAt
@@ -52,18 +46,13 @@ pub fn entry_list(
     function: usize,
     kind: EntryKind,
     entry: usize,
-) -> PlaceAnswer
+) -> Result<Cursor, Refusal>
     ensures { result ≡ shown_place kind entry (function_of function (read limits s.now)) }
 {
-    let found = function_row(s, limits, function);
-    match found {
-        RowAnswer::Err(refusal) => PlaceAnswer::Err(refusal),
-        RowAnswer::Ok(row) => {
-            let list = list_of(kind, row);
-            if entry < list.count {
-                return PlaceAnswer::Ok(Cursor { at: list.place });
-            }
-            PlaceAnswer::Err(Refusal::NoEntry)
-        }
+    let row = function_row(s, limits, function)?;
+    let list = list_of(kind, row);
+    if entry < list.count {
+        return Ok(Cursor { at: list.place });
     }
+    Err(Refusal::NoEntry)
 }

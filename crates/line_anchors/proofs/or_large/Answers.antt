@@ -1,5 +1,4 @@
 -- `line_anchors::or_large` meets its contract: by the test. Assumes nothing.
-use borrow.Author.Rules.{rules}
 use Rattle.line_anchors.proofs.or_large.Goals as goal
 
 pub returns : goal.returns

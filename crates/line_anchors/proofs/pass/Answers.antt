@@ -1,5 +1,4 @@
 -- `line_anchors::pass` meets its contract: field by field. Assumes nothing.
-use borrow.Author.Rules.{rules}
 use Rattle.line_anchors.proofs.pass.Goals as goal
 
 pub returns : goal.returns

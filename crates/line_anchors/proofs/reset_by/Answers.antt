@@ -1,6 +1,5 @@
 -- `line_anchors::reset_by` meets its contract: by the tests (`Tests.antt`). Assumes nothing.
 use native.Mathlib.Omega.{arith}
-use borrow.Author.Rules.{rules}
 use Rattle.line_anchors.proofs.Tests.{reset_beyond, reset_other, reset_before, reset_moved}
 use Rattle.line_anchors.proofs.reset_by.Goals as goal
 

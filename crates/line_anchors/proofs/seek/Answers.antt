@@ -1,5 +1,4 @@
 -- `line_anchors::seek` meets its contract: by the case and the test. Assumes nothing.
-use borrow.Author.Rules.{rules}
 use borrow.Author.Tests.{eq-eqb, ne_eqb}
 use Rattle.line_anchors.proofs.seek.Goals as goal
 

@@ -1,5 +1,4 @@
 -- `line_anchors::still_taking` meets its contract: by the test. Assumes nothing.
-use borrow.Author.Rules.{rules}
 use Rattle.line_anchors.proofs.still_taking.Goals as goal
 
 pub returns-then-taking : goal.returns-then-taking

@@ -1,13 +1,13 @@
 -- One pass over a function's anchors: what the code's parts give.
+use Rattle.std.specs.Prelude.{Result, Ok, Err}
+use Rattle.format.specs.declared.refusal.Refusal.{Refusal}
 use Rattle.std.specs.Prelude.{Bool, true, false, cond, List, [], ◌∷◌, ℕ, ◌+◌, ◌-◌, ◌^◌, eqb, leb, ltb, get_or}
 use Rattle.format.specs.declared.entry.AbsLineInfo.{AbsLineInfo}
 use Rattle.format.specs.Form.{Bytes}
 use Rattle.format.specs.Read.{Read, ok, refused}
 use Rattle.line_anchors.specs.declared.Scan.{Scan}
-use Rattle.line_anchors.specs.declared.ScanResult.{ScanResult}
 use Rattle.line_anchors.specs.declared.Sought.{Sought}
 use Rattle.line_anchors.specs.declared.Sought.TheVariants.{Ahead, At}
-use Rattle.line_anchors.specs.declared.ScanResult.TheVariants as scan
 
 abbrev pub or_large : Bool → ℕ → Bool
 or_large b line = cond b true (leb (2 ^ 62) line)
@@ -39,6 +39,6 @@ scanned deltas pc z (a ∷ more) = scanned deltas pc (passed deltas pc z a) more
 abbrev pub start_of : ℕ → ℕ → Scan
 start_of pc line_defined = record { large = leb (2 ^ 62) line_defined; taking = true; base = record { pc = 0; line = line_defined }; reset = record { pc = 0; line = 0 }; sought = Ahead pc }
 
-abbrev pub scan_result : Bytes → ℕ → Scan → Read (List AbsLineInfo) → ScanResult
-scan_result deltas pc z (ok anchors to rest) = scan.Ok (scanned deltas pc z anchors)
-scan_result deltas pc z (refused q) = scan.Err q
+abbrev pub scan_result : Bytes → ℕ → Scan → Read (List AbsLineInfo) → Result Scan Refusal
+scan_result deltas pc z (ok anchors to rest) = Ok (scanned deltas pc z anchors)
+scan_result deltas pc z (refused q) = Err q

@@ -1,12 +1,11 @@
 -- The anchors from a place on, as far as they can be read: what the code goes through.
+use Rattle.std.specs.Prelude.{Option, Some, None}
 use Rattle.std.specs.Prelude.{List, [], ◌∷◌, ℕ, zero, suc, drop}
 use Rattle.format.specs.declared.entry.AbsLineInfo.{AbsLineInfo}
 use Rattle.format.specs.Form.{Bytes}
 use Rattle.format.specs.Read.{Read, ok, refused}
 use Rattle.format.specs.ReadChunk.{anchor}
 use Rattle.line_batch.specs.declared.anchors.Anchors.{Anchors}
-use Rattle.line_batch.specs.declared.anchors.NextAnchor.{NextAnchor}
-use Rattle.line_batch.specs.declared.anchors.NextAnchor.TheVariants as next
 
 abbrev pub or_none : Read AbsLineInfo → (ℕ → List AbsLineInfo) → List AbsLineInfo
 or_none (ok a to rest) more = a ∷ more to
@@ -20,6 +19,6 @@ abbrev pub anchors_of : Bytes → Anchors → List AbsLineInfo
 anchors_of s z = anchors_at s z.left z.next.at
 
 -- the first and the rest
-abbrev pub next_list : Bytes → NextAnchor → List AbsLineInfo
-next_list s next.None = []
-next_list s (next.Some a rest) = a ∷ anchors_of s rest
+abbrev pub next_list : Bytes → Option (AbsLineInfo × Anchors) → List AbsLineInfo
+next_list s None = []
+next_list s (Some (a, rest)) = a ∷ anchors_of s rest

@@ -1,9 +1,7 @@
 -- The code's walk as a step of `Walk.antt`.
-use Rattle.std.specs.Prelude.{List, [], ◌∷◌, ℕ, ◌^◌, ◌≤◌, pos}
+use Rattle.std.specs.Prelude.{List, [], ◌∷◌, ℕ, ◌^◌, ◌≤◌}
 use Rattle.format.specs.Limits.{MOST}
-use Rattle.format.specs.declared.entry.AbsLineInfo.{AbsLineInfo}
 use Rattle.format.specs.Form.{Bytes}
-use Rattle.line_batch.specs.declared.anchors.Anchors.{Anchors}
 use Rattle.line_batch.specs.declared.walk.Walk.{Walk}
 use Rattle.line_batch.specs.Inner.Anchors.{anchors_of}
 use Rattle.line_batch.specs.Inner.Walk.{Step, forward}

@@ -1,5 +1,7 @@
 -- The same line by one pass over the anchors (`Scan.antt` of crate line_anchors) and one over the deltas: what the code's parts give.
 -- Of the deltas of −128 that have an anchor only the last counts: behind it the line is that anchor's, whatever was before.
+use Rattle.std.specs.Prelude.{Result, Err}
+use Rattle.format.specs.declared.refusal.Refusal.{Refusal}
 use Rattle.std.specs.Prelude.{cond, List, [], ◌∷◌, ℕ, eqb, ltb, ℤ, pos, ◌+ℤ◌, take, drop}
 use Rattle.std.specs.Int.{w8}
 use Rattle.std.proofs.Common.{to_z}
@@ -11,8 +13,6 @@ use Rattle.read_prototype.specs.declared.row.FunctionRow.{FunctionRow}
 use Rattle.line_anchors.specs.declared.Scan.{Scan}
 use Rattle.line_anchors.specs.declared.Sought.{Sought}
 use Rattle.line_anchors.specs.declared.Sought.TheVariants.{Ahead}
-use Rattle.line_lookup.specs.declared.line.LineAnswer.{LineAnswer}
-use Rattle.line_lookup.specs.declared.line.LineAnswer.TheVariants as answer
 use Rattle.line_lookup.specs.Lines.{raised, answer_of}
 
 -- ## The deltas
@@ -34,9 +34,9 @@ line_from z (d ∷ ds) = raised (summed (pos (start_in z).line) (drop (start_in 
 abbrev pub numbered_of : ℕ → ℕ → Sought → Sought
 numbered_of anchors instructions sought = cond (eqb anchors instructions) sought (Ahead 0)
 
-abbrev pub answered : FunctionRow → ℕ → Bytes → Read (List AbsLineInfo) → LineAnswer
+abbrev pub answered : FunctionRow → ℕ → Bytes → Read (List AbsLineInfo) → Result ℕ Refusal
 answered row pc s (ok anchors to rest) = answer_of row.lists.instructions.count row.lines.line_defined (take row.lists.line_info.count (drop row.lists.line_info.place s)) anchors pc
-answered row pc s (refused q) = answer.Err q
+answered row pc s (refused q) = Err q
 
-abbrev pub shown_row_line : FunctionRow → ℕ → Bytes → LineAnswer
+abbrev pub shown_row_line : FunctionRow → ℕ → Bytes → Result ℕ Refusal
 shown_row_line row pc s = answered row pc s (many row.lists.abs_line_info.count anchor row.lists.abs_line_info.place (drop row.lists.abs_line_info.place s))

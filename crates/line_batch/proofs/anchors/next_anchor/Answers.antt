@@ -1,6 +1,5 @@
 -- `line_batch::anchors::next_anchor` meets its contract (`Ahead.antt`). Assumes nothing.
 use mathlib.Core.Path.{sym, ◌∙◌}
-use borrow.Author.Rules.{rules}
 use lib.ListN.{drop}
 use Rattle.format.specs.ReadChunk.{anchor}
 use Rattle.read_entry.proofs.DebugInfo.{anchor_err, anchor-ok}

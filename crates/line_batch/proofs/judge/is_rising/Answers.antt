@@ -1,5 +1,4 @@
 -- `line_batch::judge::is_rising` meets its contract: by the tests. Assumes nothing.
-use borrow.Author.Rules.{rules}
 use Rattle.line_batch.proofs.judge.is_rising.Goals as goal
 
 pub returns-then-seen-2 : goal.returns-then-seen-2

@@ -1,5 +1,4 @@
 -- `line_batch::judge::see` meets its contract: field by field. Assumes nothing.
-use borrow.Author.Rules.{rules}
 use Rattle.line_batch.proofs.judge.see.Goals as goal
 
 pub returns : goal.returns

@@ -1,9 +1,7 @@
 -- `line_batch::judge::see_anchors` meets its contract. The invariant: what all anchors settle those left settle. Assumes nothing.
-use mathlib.Core.Path.{◌≡◌, refl, sym, ◌∙◌, ap}
-use native.Mathlib.Omega.{arith}
-use borrow.Author.Rules.{rules}
+use mathlib.Core.Path.{◌≡◌}
 use lib.ListN.{length}
-use Rattle.line_batch.specs.Inner.Anchors.{anchors_of, next_list}
+use Rattle.line_batch.specs.Inner.Anchors.{anchors_of}
 use Rattle.line_batch.specs.Inner.Judged.{seen_of, start_seen}
 use Rattle.line_batch.proofs.judge.see_anchors.Given as goal
 

@@ -1,5 +1,4 @@
 -- `line_batch::list::write_front` meets its contract: by the test (`Rows.antt`). Assumes nothing.
-use borrow.Author.Rules.{rules}
 use Rattle.line_batch.proofs.Rows.{front_numbered, front-none}
 use Rattle.line_batch.proofs.list.write_front.Goals as goal
 

@@ -1,7 +1,5 @@
 -- `line_batch::list::write_row` meets its contract: what the two writers wrote is all (`Rows.antt`). Assumes nothing.
-use Prim.Native.Nat.{◌≤◌}
 use native.Mathlib.Omega.{arith}
-use borrow.Author.Rules.{rules}
 use lib.ListN.{length}
 use Rattle.line_batch.proofs.Rows.{allowed, ready, done}
 use Rattle.line_batch.proofs.list.write_row.Goals as goal

@@ -1,10 +1,7 @@
 -- `line_batch::numbered::pass_to` meets its contract. The invariant: where all anchors lead those left lead (`Passing.antt`). Assumes nothing.
-use mathlib.Core.Path.{◌≡◌, refl, sym, ◌∙◌, ap}
+use mathlib.Core.Path.{refl, sym, ◌∙◌, ap}
 use native.Mathlib.Omega.{arith}
-use borrow.Author.Rules.{rules}
-use lib.ListN.{length}
-use Rattle.line_batch.specs.Inner.Anchors.{anchors_of, next_list}
-use Rattle.line_batch.specs.Inner.Numbered.{passed_by, pass_to}
+use Rattle.line_batch.specs.Inner.Anchors.{next_list}
 use Rattle.line_batch.proofs.Passing.{none_left, reached, goes_on_lem}
 use Rattle.line_batch.proofs.numbered.pass_to.Goals as goal
 

@@ -1,11 +1,8 @@
 -- `line_batch::numbered::pass_to` meets its contract. The invariant: where all anchors lead those left lead (`Passing.antt`). Assumes nothing.
-use mathlib.Core.Path.{◌≡◌, refl, sym, ◌∙◌, ap}
-use native.Mathlib.Omega.{arith}
-use borrow.Author.Rules.{rules}
+use mathlib.Core.Path.{◌≡◌}
 use lib.ListN.{length}
-use Rattle.line_batch.specs.Inner.Anchors.{anchors_of, next_list}
+use Rattle.line_batch.specs.Inner.Anchors.{anchors_of}
 use Rattle.line_batch.specs.Inner.Numbered.{passed_by, pass_to}
-use Rattle.line_batch.proofs.Passing.{none_left, reached, goes_on_lem}
 use Rattle.line_batch.proofs.numbered.pass_to.Given as goal
 
 abbrev pub invariant-loop-z : goal.invariant-loop-z

@@ -1,13 +1,12 @@
 -- `line_batch::numbered::write_numbered` meets its contract. The invariant: what is left to write (`Writing.antt`). Assumes nothing.
-use mathlib.Core.Path.{sym, ◌∙◌, ap}
+use mathlib.Core.Path.{◌≡◌, sym, ◌∙◌, ap}
 use mathlib.Core.List.{◌∷◌}
-use Prim.Native.Nat.{◌+◌, ◌-◌, ◌<◌}
+use Prim.Native.Nat.{◌+◌, ◌<◌}
 use native.Mathlib.Omega.{arith}
-use borrow.Author.Rules.{rules}
 use lib.ListN.{length, drop}
 use Rattle.line_batch.specs.Inner.Anchors.{anchors_of}
 use Rattle.line_batch.specs.Inner.Numbered.{passed_by, none_passed, numbered_from}
-use Rattle.line_batch.proofs.Writing.{none_numbered, no_more, one_numbered, Left, at_first, ended, goes_on_lem}
+use Rattle.line_batch.proofs.Writing.{none_numbered, no_more, one_numbered, at_first, ended, goes_on_lem}
 use Rattle.line_batch.proofs.numbered.write_numbered.Goals as goal
 
 pub loop-k-init : goal.loop-k-init
@@ -40,4 +39,8 @@ pub shape_of-lines : goal.shape_of-lines
 shape_of-lines c = c.loop-k.invariant.same
 
 pub returns : goal.returns
-returns c = let a = c.args in let both = ended c.loop-k.invariant (no_more a.all.left (passed_by a.s.now c.loop-k.z) a.pcs.now c.loop-k.k c.loop-k-test.false) in record { lines_after = both.0; value = both.1 }
+returns c =
+    let a = c.args in
+    let both = ended c.loop-k.invariant (no_more a.all.left (passed_by a.s.now c.loop-k.z) a.pcs.now c.loop-k.k c.loop-k-test.false) in
+    let all : length a.pcs.now ≡ c.loop-k.k = omega arith in
+    record { lines_after = both.0; value = all ∙ both.1 }

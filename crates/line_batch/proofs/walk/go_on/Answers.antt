@@ -1,7 +1,6 @@
 -- `line_batch::walk::go_on` meets its contract. Assumes nothing.
-use mathlib.Core.Path.{◌≡◌, ◌∙◌, ap}
+use mathlib.Core.Path.{◌∙◌, ap}
 use native.Mathlib.Omega.{arith}
-use borrow.Author.Rules.{rules}
 use lib.ListN.{drop}
 use mir.Syntax.{w64}
 use mir.Facts.{to_z-of_z}

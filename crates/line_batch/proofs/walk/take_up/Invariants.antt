@@ -1,14 +1,11 @@
 -- `line_batch::walk::take_up` meets its contract. The invariant: what the anchors from the start on give those left give (`Taking.antt`). Assumes nothing.
-use mathlib.Core.Path.{◌≡◌, refl, sym, ◌∙◌, ap}
+use mathlib.Core.Path.{◌≡◌}
 use Prim.Native.Nat.{◌*◌, ◌≤◌}
-use native.Mathlib.Omega.{arith}
-use borrow.Author.Rules.{rules}
 use lib.ListN.{length}
 use lib.Signed.{mag}
-use Rattle.line_batch.specs.Inner.Anchors.{anchors_of, next_list}
+use Rattle.line_batch.specs.Inner.Anchors.{anchors_of}
 use Rattle.line_batch.specs.Inner.Walk.{take_step}
 use Rattle.line_batch.specs.Inner.Steps.{step_of}
-use Rattle.line_batch.proofs.Taking.{none_left, stays, moves}
 use Rattle.line_batch.proofs.walk.take_up.Given as goal
 
 abbrev pub invariant-loop-walk : goal.invariant-loop-walk

@@ -1,15 +1,12 @@
 -- `line_batch::walk::write_lines` meets its contract. The invariant: what is written in the end from here on is what is written from the start on (`Writing.antt`).
 -- Assumes nothing.
 use mathlib.Core.Path.{◌≡◌, refl, sym, ◌∙◌, ap}
-use Prim.Native.Nat.{◌+◌, ◌-◌, ◌*◌, ◌≤◌, ◌<◌}
+use Prim.Native.Nat.{◌≤◌, ◌<◌}
 use native.Mathlib.Omega.{arith}
-use borrow.Author.Rules.{rules}
-use lib.ListN.{length, drop, get_or, set, length-set}
-use lib.Signed.{mag}
+use lib.ListN.{length, get_or, length-set}
 use Rattle.format.specs.Limits.{MOST}
-use Rattle.slice.specs.Inner.Splice.{splice}
-use Rattle.line_batch.specs.Inner.Walk.{forward, line_in, lines_from, end_of}
-use Rattle.line_batch.specs.Inner.Steps.{step_of, Writable}
+use Rattle.line_batch.specs.Inner.Walk.{forward, line_in}
+use Rattle.line_batch.specs.Inner.Steps.{step_of}
 use Rattle.line_batch.proofs.Writing.{this_one, written_on, read-on, written_all, read_all}
 use Rattle.line_batch.proofs.walk.write_lines.Goals as goal
 

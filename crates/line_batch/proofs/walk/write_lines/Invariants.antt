@@ -1,15 +1,11 @@
 -- `line_batch::walk::write_lines` meets its contract. The invariant: what is written in the end from here on is what is written from the start on (`Writing.antt`).
-use mathlib.Core.Path.{◌≡◌, refl, sym, ◌∙◌, ap}
-use Prim.Native.Nat.{◌+◌, ◌-◌, ◌*◌, ◌≤◌, ◌<◌}
-use native.Mathlib.Omega.{arith}
-use borrow.Author.Rules.{rules}
-use lib.ListN.{length, drop, get_or, set, length-set}
+use mathlib.Core.Path.{◌≡◌}
+use Prim.Native.Nat.{◌*◌, ◌≤◌}
+use lib.ListN.{length, drop}
 use lib.Signed.{mag}
-use Rattle.format.specs.Limits.{MOST}
 use Rattle.slice.specs.Inner.Splice.{splice}
-use Rattle.line_batch.specs.Inner.Walk.{forward, line_in, lines_from, end_of}
+use Rattle.line_batch.specs.Inner.Walk.{lines_from, end_of}
 use Rattle.line_batch.specs.Inner.Steps.{step_of, Writable}
-use Rattle.line_batch.proofs.Writing.{this_one, written_on, read-on, written_all, read_all}
 use Rattle.line_batch.proofs.walk.write_lines.Given as goal
 
 abbrev pub invariant-loop-k : goal.invariant-loop-k
@@ -19,6 +15,3 @@ invariant-loop-k l =
     × (end_of l.deltas (step_of l.s l.walk) (drop l.k l.pcs) ≡ end_of l.deltas (step_of l.s l.initial.walk) (drop l.start l.pcs))
     × (mag l.walk.sum ≤ 128 * l.walk.read)
     × Writable l.deltas (step_of l.s l.walk) (drop l.k l.pcs)
-
-abbrev pub decreases-loop-k : goal.decreases-loop-k
-decreases-loop-k l = length l.pcs - l.k

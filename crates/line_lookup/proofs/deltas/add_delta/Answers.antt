@@ -1,5 +1,4 @@
 -- `line_lookup::deltas::add_delta` meets its contract: by the tests (`Sums.antt`). Assumes nothing.
-use borrow.Author.Rules.{rules}
 use Rattle.line_lookup.proofs.Sums.{left_alone, upward, downward, sum_fits, sum_added}
 use Rattle.line_lookup.proofs.deltas.add_delta.Goals as goal
 
