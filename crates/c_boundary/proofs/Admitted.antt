@@ -1,57 +1,50 @@
 -- A call that tests 21 and 22 first.
---     above, longer, passes     what the code of the test returns, by its two tests
---     stops                     where that is a refusal: it is what the call returns, and the array is as it was
---     goes_on_lem                   where it is 0: what the call answers is what it answers behind the test
+--     stops      where a limit or the chunk's length is refused: it is what the call answers
+--     behind     where they are not: what the call answers is what it answers behind the test
 -- Assumes nothing.
+use Rattle.std.specs.Prelude.{Result, Ok, Err}
 use mathlib.Core.Path.{◌≡◌, refl, sym, ◌∙◌, ap}
 use mathlib.Core.Bool.{Bool, true, false, cond}
-use mathlib.Core.List.{List, []}
-use Prim.Native.Nat.{ℕ, ◌≤◌, ◌<◌}
+use Prim.Native.Nat.{ℕ}
 use native.Mathlib.Omega.{arith}
-use borrow.Author.Tests.{le-leb, lt-leb}
 use lib.Dec.{leb}
 use lib.ListN.{length}
 use Rattle.format.specs.declared.limits.ResourceLimits.{ResourceLimits}
+use Rattle.format.specs.declared.refusal.Refusal.{Refusal}
 use Rattle.format.specs.declared.refusal.Refusal.TheVariants.{LimitAboveCeiling, InputBytes}
 use Rattle.format.specs.Form.{Bytes}
 use Rattle.format.specs.Limits.{within_ceilings}
-use Rattle.c_boundary.specs.Status.{Answer, done, refuses, coded, status, written, admitted}
+use Rattle.c_boundary.specs.Status.{Answer, refuses, admitted, admits}
 
--- ## The test
-module _ (s : Bytes) {l L : ResourceLimits} (is : l ≡ L) {w : Bool} (within : w ≡ within_ceilings l) where
-  ceilings_are : w ≡ within_ceilings L
-  ceilings_are = within ∙ ap within_ceilings is
-
-  pub above : {r : ℕ} → w ≡ false → r ≡ coded LimitAboveCeiling → r ≡ status (admitted L s (done []))
-  above e code = rw (sym ceilings_are ∙ e) code
-
-  module _ (e : w ≡ true) where
-    inside : within_ceilings L ≡ true
-    inside = sym ceilings_are ∙ e
-
-    pub longer : {r : ℕ} → l.max_input_bytes < length s → r ≡ coded InputBytes → r ≡ status (admitted L s (done []))
-    longer h code = rw (inside, lt-leb (length s) L.max_input_bytes (rw is at h)) code
-
-    pub passes : length s ≤ l.max_input_bytes → 0 ≡ status (admitted L s (done []))
-    passes h = rw (inside, le-leb (length s) L.max_input_bytes (rw is at h))
-
--- ## A call behind it
 abbrev choose : Bool → Bool → Answer → Answer
 choose within short a = cond within (cond short a (refuses InputBytes)) (refuses LimitAboveCeiling)
 
-module _ (L : ResourceLimits) (s : Bytes) {q : ℕ} (tested : q ≡ status (admitted L s (done []))) (a : Answer) (old : List ℕ) where
-  pub stops : 0 < q → (q ≡ status (admitted L s a)) × (old ≡ written (admitted L s a) old)
-  stops h = go (within_ceilings L) (leb (length s) L.max_input_bytes) tested
-    where
-      go : (b c : Bool) → q ≡ status (choose b c (done [])) → (q ≡ status (choose b c a)) × (old ≡ written (choose b c a) old)
-      go true true e = absurd (omega (arith, e))
-      go true false e = (e, refl)
-      go false c e = (e, refl)
+abbrev chosen : ResourceLimits → Bool → Bool → Result ResourceLimits Refusal
+chosen L within short = cond within (cond short (Ok L) (Err InputBytes)) (Err LimitAboveCeiling)
 
-  pub goes_on_lem : q ≤ 0 → {r : ℕ} {new : List ℕ} → (r ≡ status a) × (new ≡ written a old) → (r ≡ status (admitted L s a)) × (new ≡ written (admitted L s a) old)
-  goes_on_lem h {r} {new} said = go (within_ceilings L) (leb (length s) L.max_input_bytes) tested
+module _ (L : ResourceLimits) (s : Bytes) where
+  pub stops : (a : Answer) {q : Refusal} → Err q ≡ admits L s → refuses q ≡ admitted L s a
+  stops a {q} e = go (within_ceilings L) (leb (length s) L.max_input_bytes) e
     where
-      go : (b c : Bool) → q ≡ status (choose b c (done [])) → (r ≡ status (choose b c a)) × (new ≡ written (choose b c a) old)
-      go true true e = said
-      go true false e = absurd (omega (arith, e))
-      go false c e = absurd (omega (arith, e))
+      go : (b c : Bool) → Err q ≡ chosen L b c → refuses q ≡ choose b c a
+      go true true e = absurd (let z : ◌≡◌ {A = ℕ} 0 1 = cc in omega arith)
+      go true false e = cc
+      go false c e = cc
+
+  module _ {l : ResourceLimits} (told : Ok l ≡ admits L s) where
+    pub own_limits : l ≡ L
+    own_limits = go (within_ceilings L) (leb (length s) L.max_input_bytes) told
+      where
+        go : (b c : Bool) → Ok l ≡ chosen L b c → l ≡ L
+        go true true e = cc
+        go true false e = absurd (let z : ◌≡◌ {A = ℕ} 0 1 = cc in omega arith)
+        go false c e = absurd (let z : ◌≡◌ {A = ℕ} 0 1 = cc in omega arith)
+
+    -- `of` gives the numbers of what was read
+    pub behind : {A : Type 0} (of : A → Answer) {x y : A} → x ≡ y → of x ≡ admitted L s (of y)
+    behind of {x} {y} said = ap of said ∙ go (within_ceilings L) (leb (length s) L.max_input_bytes) told
+      where
+        go : (b c : Bool) → Ok l ≡ chosen L b c → of y ≡ choose b c (of y)
+        go true true e = refl
+        go true false e = absurd (let z : ◌≡◌ {A = ℕ} 0 1 = cc in omega arith)
+        go false c e = absurd (let z : ◌≡◌ {A = ℕ} 0 1 = cc in omega arith)

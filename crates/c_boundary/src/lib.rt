@@ -4,10 +4,10 @@
 pub mod signed;
 
 ghost use Rattle.std.specs.Prelude.{◌≡◌, [], ◌∷◌};
-ghost use Rattle.c_boundary.specs.Status.{limits_of, with_place, coded, done, status, admitted};
+ghost use Rattle.c_boundary.specs.Status.{limits_of, with_place, coded, status, written, admits, in_numbers};
 
 use format::limits::ResourceLimits;
-use format::refusal::{Place, Refusal};
+use format::refusal::Refusal;
 use format_report::report_refusal;
 
 // The nine limits in the order of `ResourceLimits`.
@@ -27,12 +27,12 @@ pub fn limits_of(l: &[u64; 9]) -> ResourceLimits
     }
 }
 
-fn with_place(number: u32, place: Place) -> u64
+fn with_place(number: u32, place: Option<usize>) -> u64
     ensures { result ≡ with_place number place }
 {
     match place {
-        Place::None => number as u64,
-        Place::At(at) => {
+        None => number as u64,
+        Some(at) => {
             if 4294967296 <= at {
                 return number as u64;
             }
@@ -50,20 +50,33 @@ pub fn refused(q: Refusal) -> u64
     with_place(report.number as u32, place)
 }
 
-// 0, or 21 where a limit is above its ceiling, or 22 where the chunk is longer than the input limit. Ruled out: 22 before 21, a chunk as long as the limit refused.
-pub fn tested(chunk: &[u8], limits: &[u64; 9]) -> u64
-    ensures { result ≡ status (admitted (limits_of limits.now) chunk.now (done [])) }
+// The limits, or 21 where one is above its ceiling, or 22 where the chunk is longer than the input limit. Ruled out: 22 before 21, a chunk as long as the limit refused.
+pub fn admit(chunk: &[u8], limits: &[u64; 9]) -> Result<ResourceLimits, Refusal>
+    ensures { result ≡ admits (limits_of limits.now) chunk.now }
 {
     let l = limits_of(limits);
-    let within = l.within_ceilings();
-    let longest = l.max_input_bytes;
-    if !within {
-        return refused(Refusal::LimitAboveCeiling);
+    if !l.within_ceilings() {
+        return Err(Refusal::LimitAboveCeiling);
     }
-    if longest < chunk.len() {
-        return refused(Refusal::InputBytes);
+    if l.max_input_bytes < chunk.len() {
+        return Err(Refusal::InputBytes);
     }
-    0
+    Ok(l)
+}
+
+// An answer handed over to C: 0 and its numbers in the lent array, or its refusal as one number and the array as it was.
+// Ruled out: an array that is touched where the answer is a refusal, 0 for a refusal.
+pub fn answered<const N: usize>(answer: Result<[u64; N], Refusal>, out: &mut [u64; N]) -> u64
+    ensures value { result ≡ status (in_numbers answer.entry) }
+    ensures out_after { out.new ≡ written (in_numbers answer.entry) out.old }
+{
+    match answer {
+        Err(q) => refused(q),
+        Ok(numbers) => {
+            *out = numbers;
+            0
+        }
+    }
 }
 
 // One number in an array, and two.

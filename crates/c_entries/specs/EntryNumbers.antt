@@ -1,7 +1,7 @@
 -- The numbers of strings and of a function's entries.
+use Rattle.std.specs.Prelude.{Option, Some, None}
+use Rattle.read_field.specs.declared.string.StringAt.{StringAt}
 use Rattle.std.specs.Prelude.{cond, List, [], ◌∷◌, ℕ}
-use Rattle.read_field.specs.declared.string.OptionString.{OptionString}
-use Rattle.read_field.specs.declared.string.OptionString.TheVariants as string
 use Rattle.read_entry.specs.declared.constant.ConstantValue.{ConstantValue}
 use Rattle.read_entry.specs.declared.constant.ConstantValue.TheVariants as value
 use Rattle.format.specs.declared.entry.UpvalueDesc.{UpvalueDesc}
@@ -9,19 +9,19 @@ use Rattle.format.specs.declared.entry.AbsLineInfo.{AbsLineInfo}
 use Rattle.c_boundary.specs.Status.{complement}
 
 -- of a string whether it is there, its place and its length
-abbrev pub present_number : OptionString → ℕ
-present_number string.None = 0
-present_number (string.Some t) = 1
+abbrev pub present_number : Option StringAt → ℕ
+present_number None = 0
+present_number (Some t) = 1
 
-abbrev pub place_number : OptionString → ℕ
-place_number string.None = 0
-place_number (string.Some t) = t.place
+abbrev pub place_number : Option StringAt → ℕ
+place_number None = 0
+place_number (Some t) = t.place
 
-abbrev pub length_number : OptionString → ℕ
-length_number string.None = 0
-length_number (string.Some t) = t.len
+abbrev pub length_number : Option StringAt → ℕ
+length_number None = 0
+length_number (Some t) = t.len
 
-abbrev pub string_numbers : OptionString → List ℕ
+abbrev pub string_numbers : Option StringAt → List ℕ
 string_numbers t = present_number t ∷ place_number t ∷ length_number t ∷ []
 
 -- the tag of lobject.h (0 nil, 1 false, 17 true, 3 integer, 19 float, 4 short string, 20 long string); an integer's or float's bits or a string's place; a string's length

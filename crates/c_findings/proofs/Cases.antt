@@ -4,6 +4,7 @@
 --     written_holds    the numbers of a chunk's one finding at the front of a list of 8, 7, 4 and 3 numbers: four are needed
 -- Told apart: verdict and count exchanged, findings in another order, room counted in numbers or rounded up, the list touched behind the findings or on a refusal.
 -- Assumes nothing.
+use Rattle.std.specs.Prelude.{Ok, Err}
 use mathlib.Core.Path.{◌≡◌, refl}
 use mathlib.Core.List.{[], ◌∷◌, ◌++◌, map}
 use Prim.Native.Nat.{ℕ}
@@ -19,7 +20,6 @@ use Rattle.validate_rules.specs.Rules.{instruction}
 use Rattle.validate_rules.specs.Findings.{code_groups, groups, limited, chunk_findings}
 use Rattle.validate_rules.specs.declared.finding.Rule.TheVariants.{Register, Jump}
 use Rattle.validate_rules.specs.declared.finding.Verdict.TheVariants.{ValidForAnalysis, Invalid, Incomplete}
-use Rattle.validate_plan.specs.declared.FindingsAnswer.TheVariants.{Ok, Err}
 use Rattle.c_boundary.specs.Status.{done, refuses}
 use Rattle.c_findings.specs.FindingNumbers.{list_numbers, of_findings, numbers_written}
 
@@ -27,7 +27,7 @@ list_holds : list_numbers (record { function = 1; pc = 2; rule = Register 3 } �
 unfolding list_numbers
 list_holds = refl
 
-answers_hold : of_findings (Ok ValidForAnalysis 3) ∷ of_findings (Ok Invalid 4) ∷ of_findings (Ok Incomplete 10001) ∷ of_findings (Err LentSpace) ∷ []
+answers_hold : of_findings (Ok (ValidForAnalysis, 3)) ∷ of_findings (Ok (Invalid, 4)) ∷ of_findings (Ok (Incomplete, 10001)) ∷ of_findings (Err LentSpace) ∷ []
     ≡ done (0 ∷ 3 ∷ []) ∷ done (1 ∷ 4 ∷ []) ∷ done (2 ∷ 10001 ∷ []) ∷ refuses LentSpace ∷ []
 answers_hold = refl
 

@@ -14,8 +14,8 @@ ghost use Rattle.c_findings.specs.FindingNumbers.{list_numbers, of_findings, num
 use c_boundary::{limits_of, refused, two};
 use c_finding::{put_finding, verdict_number};
 use format::limits::ResourceLimits;
-use validate_plan::{FindingsAnswer, forward, prepare};
-use validate_search::search::Position;
+use validate_plan::{forward, prepare};
+use validate_search::search::{Position, Step};
 
 // The first `count` findings from a position on, at the front of the list.
 fn write_findings(
@@ -31,10 +31,11 @@ fn write_findings(
     let mut p = start;
     let mut k = 0;
     while k < count {
-        let step = forward(chunk, limits, p);
-        let finding = step.finding;
+        let Step::Found(finding, next) = forward(chunk, limits, p) else {
+            break;
+        };
         put_finding(list, 4 * k, finding);
-        p = step.next;
+        p = next;
         k += 1;
     }
 }
@@ -47,14 +48,11 @@ pub fn list_findings(chunk: &[u8], limits: &[u64; 9], list: &mut [u64], out: &mu
     ensures list_after { list.new ≡ numbers_written list.old (read (limits_of limits.now) chunk.now) }
 {
     let bounds = limits_of(limits);
-    let plan = prepare(chunk, bounds, list.len() / 4);
-    let start = plan.start;
-    write_findings(chunk, bounds, start, plan.count, list);
-    let answer = plan.answer;
-    match answer {
-        FindingsAnswer::Err(q) => refused(q),
-        FindingsAnswer::Ok { verdict, count } => {
-            *out = two(verdict_number(verdict), count as u64);
+    match prepare(chunk, bounds, list.len() / 4) {
+        Err(q) => refused(q),
+        Ok(plan) => {
+            write_findings(chunk, bounds, plan.start, plan.count, list);
+            *out = two(verdict_number(plan.verdict), plan.count as u64);
             0
         }
     }

@@ -1,7 +1,7 @@
 -- The numbers of a chunk's summary and of a function's fields.
+use Rattle.std.specs.Prelude.{Option, Some, None}
+use Rattle.format.specs.declared.header.Warning.{Warning}
 use Rattle.std.specs.Prelude.{List, [], ◌∷◌, ℕ}
-use Rattle.read_header.specs.declared.OptionWarning.{OptionWarning}
-use Rattle.read_header.specs.declared.OptionWarning.TheVariants as option
 use Rattle.format.specs.declared.header.WarningCode.{WarningCode}
 use Rattle.format.specs.declared.header.WarningCode.TheVariants.{L54Header003, L54Chunk001}
 use Rattle.format.specs.Warnings.{warned}
@@ -15,13 +15,13 @@ code_number L54Header003 = 1
 code_number L54Chunk001 = 2
 
 -- of a warning as it is reported; where there is none, 0
-abbrev pub warning_code : OptionWarning → ℕ
-warning_code option.None = 0
-warning_code (option.Some w) = code_number (warned w).code
+abbrev pub warning_code : Option Warning → ℕ
+warning_code None = 0
+warning_code (Some w) = code_number (warned w).code
 
-abbrev pub warning_place : OptionWarning → ℕ
-warning_place option.None = 0
-warning_place (option.Some w) = (warned w).place
+abbrev pub warning_place : Option Warning → ℕ
+warning_place None = 0
+warning_place (Some w) = (warned w).place
 
 -- (`luac_int` is 22,136 in every chunk that is read)
 abbrev pub summary_numbers : ChunkSummary → List ℕ

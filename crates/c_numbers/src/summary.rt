@@ -3,27 +3,26 @@ ghost use Rattle.std.specs.Prelude.{◌≡◌};
 ghost use Rattle.c_numbers.specs.Numbers.{warning_code, warning_place, summary_numbers};
 
 use format::header::Warning;
-use read_header::OptionWarning;
 use show_chunk::summary::ChunkSummary;
 
-fn warning_code(w: OptionWarning) -> u64
+fn warning_code(w: Option<Warning>) -> u64
     ensures { result ≡ warning_code w }
 {
     match w {
-        OptionWarning::None => 0,
-        OptionWarning::Some(warning) => match warning {
+        None => 0,
+        Some(warning) => match warning {
             Warning::NonStandardFormat(_) => 1,
             Warning::TrailingBytes(_) => 2,
         },
     }
 }
 
-fn warning_place(w: OptionWarning) -> u64
+fn warning_place(w: Option<Warning>) -> u64
     ensures { result ≡ warning_place w }
 {
     match w {
-        OptionWarning::None => 0,
-        OptionWarning::Some(warning) => match warning {
+        None => 0,
+        Some(warning) => match warning {
             Warning::NonStandardFormat(place) => place as u64,
             Warning::TrailingBytes(place) => place as u64,
         },

@@ -1,13 +1,12 @@
 -- What is answered of a function that is read at a place, before and behind the functions that nest in it:
 --     head_at limits place chunk, tail_at ..
 -- Bytes before the place are not looked at. `head` counts the instructions of the functions before; here there are none.
+use Rattle.std.specs.Prelude.{Result, Ok, Err}
+use Rattle.format.specs.declared.refusal.Refusal.{Refusal}
+use Rattle.slice.specs.declared.cursor.Cursor.{Cursor}
 use Rattle.std.specs.Prelude.{List, [], ◌∷◌, ℕ, drop}
 use Rattle.read_prototype.specs.declared.parts.Head.{Head}
-use Rattle.read_prototype.specs.declared.parts.HeadResult.{HeadResult}
-use Rattle.read_prototype.specs.declared.parts.HeadResult.TheVariants as head
 use Rattle.read_prototype.specs.declared.parts.Tail.{Tail}
-use Rattle.read_prototype.specs.declared.parts.TailResult.{TailResult}
-use Rattle.read_prototype.specs.declared.parts.TailResult.TheVariants as tail
 use Rattle.format.specs.Form.{Bytes}
 use Rattle.read_prototype.specs.Parts as parts
 use Rattle.read_prototype.specs.PartsShown.{head_result, tail_result}
@@ -36,9 +35,9 @@ head_numbers h =
     ∷ []
 
 -- (the place behind is that of the nested functions)
-abbrev pub of_head : HeadResult → Answer
-of_head (head.Ok h to) = done (head_numbers h)
-of_head (head.Err q) = refuses q
+abbrev pub of_head : Result (Head × Cursor) Refusal → Answer
+of_head (Ok (h, to)) = done (head_numbers h)
+of_head (Err q) = refuses q
 
 abbrev pub tail_numbers : Tail → ℕ → List ℕ
 tail_numbers t to =
@@ -53,9 +52,9 @@ tail_numbers t to =
     ∷ to
     ∷ []
 
-abbrev pub of_tail : TailResult → Answer
-of_tail (tail.Ok t to) = done (tail_numbers t to.at)
-of_tail (tail.Err q) = refuses q
+abbrev pub of_tail : Result (Tail × Cursor) Refusal → Answer
+of_tail (Ok (t, to)) = done (tail_numbers t to.at)
+of_tail (Err q) = refuses q
 
 -- ## What each call answers, behind 21 and 22
 abbrev pub head_at : List ℕ → ℕ → Bytes → Answer

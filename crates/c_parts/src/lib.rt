@@ -1,16 +1,17 @@
 // A function that is read at a place, before and behind the functions that nest in it, as numbers: what crate `lafzimdo` exports under the same names, with `lafzimdo_` before them. Each takes the nine limits as they cross the
-// boundary to C, and a lent array for its answer, and returns 0, or a refusal as one number (specs/Status.antt of crate c_boundary); the array is then as it was.
+// boundary to C, and answers an array of numbers, or the refusal.
 // Each tests 21 and 22 first, as every call on a chunk does. No pass over the chunk: each costs what its part costs. The chunk is not judged, so of the totals only this function's own instructions and nested functions are
 // held against theirs. Where no such part begins at the place, the answer is what the bytes there spell; behind the end of the chunk there are none.
 #![tactic(auto)]
 
 ghost use Rattle.std.specs.Prelude.{◌≡◌};
-ghost use Rattle.c_boundary.specs.Status.{status, written};
+ghost use Rattle.c_boundary.specs.Status.{in_numbers};
 ghost use Rattle.c_parts.specs.PartNumbers.{head_numbers, tail_numbers, head_at, tail_at};
 
-use c_boundary::{limits_of, refused, tested};
+use c_boundary::admit;
 use c_entries::strings::{length_number, place_number, present_number};
-use read_prototype::parts::{Head, HeadResult, Tail, TailResult, read_head, read_tail};
+use format::refusal::Refusal;
+use read_prototype::parts::{Head, Tail, read_head, read_tail};
 use slice::cursor::Cursor;
 
 fn head_numbers(h: Head) -> [u64; 16]
@@ -43,29 +44,13 @@ fn head_numbers(h: Head) -> [u64; 16]
 }
 
 // The function that begins there, up to the functions that nest in it. Ruled out: a list's place before its count, an array that is touched where the answer is a refusal.
-pub fn head_at(chunk: &[u8], limits: &[u64; 9], place: usize, out: &mut [u64; 16]) -> u64
-    ensures value { result ≡ status (head_at limits.now place chunk.now) }
-    ensures out_after { out.new ≡ written (head_at limits.now place chunk.now) out.old }
+pub fn head_at(chunk: &[u8], limits: &[u64; 9], place: usize) -> Result<[u64; 16], Refusal>
+    ensures { in_numbers result ≡ head_at limits.now place chunk.now }
 {
-    let refusal = tested(chunk, limits);
-    if 0 < refusal {
-        return refusal;
-    }
+    let limits = admit(chunk, limits)?;
     let mut unused = [0usize; 4];
-    let answer = read_head(
-        chunk,
-        limits_of(limits),
-        0,
-        Cursor { at: place },
-        &mut unused,
-    );
-    match answer {
-        HeadResult::Err(q) => refused(q),
-        HeadResult::Ok { head, next: _ } => {
-            *out = head_numbers(head);
-            0
-        }
-    }
+    let (head, _) = read_head(chunk, limits, 0, Cursor { at: place }, &mut unused)?;
+    Ok(head_numbers(head))
 }
 
 fn tail_numbers(t: Tail, to: usize) -> [u64; 9]
@@ -85,22 +70,16 @@ fn tail_numbers(t: Tail, to: usize) -> [u64; 9]
 }
 
 // A function behind the functions that nest in it. Ruled out: anchors taken for locals, the place before the names given as the function's end.
-pub fn tail_at(chunk: &[u8], limits: &[u64; 9], place: usize, out: &mut [u64; 9]) -> u64
-    ensures value { result ≡ status (tail_at limits.now place chunk.now) }
-    ensures out_after { out.new ≡ written (tail_at limits.now place chunk.now) out.old }
+pub fn tail_at(chunk: &[u8], limits: &[u64; 9], place: usize) -> Result<[u64; 9], Refusal>
+    ensures { in_numbers result ≡ tail_at limits.now place chunk.now }
 {
-    let refusal = tested(chunk, limits);
-    if 0 < refusal {
-        return refusal;
-    }
-    let l = limits_of(limits);
+    let limits = admit(chunk, limits)?;
     let mut unused = [0usize; 4];
-    let answer = read_tail(chunk, l.max_string_bytes, Cursor { at: place }, &mut unused);
-    match answer {
-        TailResult::Err(q) => refused(q),
-        TailResult::Ok { tail, next } => {
-            *out = tail_numbers(tail, next.at);
-            0
-        }
-    }
+    let (tail, next) = read_tail(
+        chunk,
+        limits.max_string_bytes,
+        Cursor { at: place },
+        &mut unused,
+    )?;
+    Ok(tail_numbers(tail, next.at))
 }

@@ -7,8 +7,9 @@ ghost use Rattle.c_words.specs.Words.{mode_or_none, word_numbers, spelt};
 
 use c_boundary::signed::complement_of_i32;
 use word_fields::instruction::RawInstruction54;
-use word_opcodes::opcode::{OpMode54, Opcode54, OptionOpcode54};
+use word_opcodes::opcode::{OpMode54, Opcode54};
 
+// C gets an array of numbers, so a mode is one, and 5 stands for none: no `OpMode54` and no `Option` goes there.
 fn mode_number(m: OpMode54) -> u64
     ensures { result ≡ mode_number m }
 {
@@ -21,10 +22,10 @@ fn mode_number(m: OpMode54) -> u64
     }
 }
 
-fn mode_or_none(opcode: OptionOpcode54) -> u64
+fn mode_or_none(opcode: Option<Opcode54>) -> u64
     ensures { result ≡ mode_or_none opcode }
 {
-    let OptionOpcode54::Some(op) = opcode else {
+    let Some(op) = opcode else {
         return 5;
     };
     mode_number(op.mode())
@@ -68,16 +69,16 @@ pub fn word_of(
     let opcode = Opcode54::from_u8(op);
     RawInstruction54 {
         opcode_num: op,
-        opcode: opcode,
-        a: a,
-        k: k,
-        b: b,
+        opcode,
+        a,
+        k,
+        b,
         sb: 0,
-        c: c,
+        c,
         sc: 0,
-        bx: bx,
-        sbx: sbx,
-        ax: ax,
-        sj: sj,
+        bx,
+        sbx,
+        ax,
+        sj,
     }
 }

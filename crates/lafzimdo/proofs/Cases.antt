@@ -9,6 +9,8 @@
 --     refused_hold     a refusal is handed on
 -- Told apart: two numbers of an array exchanged, two codes or verdicts exchanged, a sign left out.
 -- Assumes nothing.
+use Rattle.std.specs.Prelude.{Option, Some, None, Ok, Err}
+use Rattle.format.specs.declared.header.Warning.{Warning}
 use mathlib.Core.Path.{◌≡◌, refl}
 use mathlib.Core.Bool.{true, false}
 use mathlib.Core.List.{List, [], ◌∷◌, map}
@@ -22,29 +24,12 @@ use Rattle.format_strict.specs.ReadStrict.{strict_body, strict_function, strict_
 use Rattle.format.proofs.Distinct.{distinct}
 use Rattle.format_spelling.specs.ReadSpelling.{spelling}
 use Rattle.format_spelling.specs.ReadSpelling as spelt
-use Rattle.read_field.specs.declared.string.OptionString.TheVariants as string
-use Rattle.read_header.specs.declared.OptionWarning.{OptionWarning}
-use Rattle.read_header.specs.declared.OptionWarning.TheVariants as option
 use Rattle.read_entry.specs.declared.constant.ConstantValue.{ConstantValue}
 use Rattle.read_entry.specs.declared.constant.ConstantValue.TheVariants as value
 use Rattle.show_row.specs.Asked.{function_of}
 use Rattle.validate_rules.specs.declared.finding.Verdict.TheVariants.{ValidForAnalysis, Invalid, Incomplete}
-use Rattle.show_chunk.specs.declared.summary.SummaryAnswer.TheVariants as summary
 use Rattle.show_chunk.specs.Fields.{shown_fields}
 use Rattle.show_chunk.specs.Summaries.{shown_summary}
-use Rattle.show_entry.specs.declared.WordAnswer.TheVariants as word
-use Rattle.show_entry.specs.declared.ConstantAnswer.TheVariants as constant
-use Rattle.show_entry.specs.declared.UpvalueAnswer.TheVariants as upvalue
-use Rattle.show_entry.specs.declared.DeltaAnswer.TheVariants as delta
-use Rattle.show_entry.specs.declared.AnchorAnswer.TheVariants as anchor
-use Rattle.show_entry.specs.declared.NameAnswer.TheVariants as name
-use Rattle.show_local.specs.declared.LocalAnswer.TheVariants as local
-use Rattle.line_lookup.specs.declared.line.LineAnswer.TheVariants as line
-use Rattle.line_batch.specs.declared.list.LinesAnswer.TheVariants as lines
-use Rattle.index.specs.declared.IndexAnswer.TheVariants as index
-use Rattle.copy.specs.declared.whole.CopyAnswer.TheVariants as copy
-use Rattle.validate_verdict.specs.declared.verdict.VerdictAnswer.TheVariants as verdict
-use Rattle.validate_verdict.specs.declared.verdict.CountAnswer.TheVariants as count
 use Rattle.c_boundary.specs.Status.{Answer, done, refuses}
 use Rattle.c_numbers.specs.Numbers.{warning_code, warning_place}
 use Rattle.lafzimdo.specs.Answers.{
@@ -66,10 +51,10 @@ use Rattle.lafzimdo.specs.Answers.{
 }
 
 -- ## The summary
-summary_holds : ofSummary (summary.Ok (record {
+summary_holds : ofSummary (Ok (record {
   summary = record {
     header = record { version = 1; format = 2; instruction_size = 3; lua_integer_size = 4; sizeof_sizet = 5; lua_number_size = 6; luac_int = pos 99; luac_num = 7 };
-    warnings = record { first = option.Some (TrailingBytes 11); second = option.Some (NonStandardFormat 12) };
+    warnings = record { first = Some (TrailingBytes 11); second = Some (NonStandardFormat 12) };
     functions = 8;
     trailing_at = 9;
     trailing_len = 10;
@@ -89,10 +74,10 @@ unfolding distinct strict_read strict_body strict_function spelling spelt.body s
 strict_read_lem = refl
 
 -- a warning, its code and its place
-warnings : List (OptionWarning × (ℕ × ℕ))
-warnings = (option.None, (0, 0)) ∷ (option.Some (NonStandardFormat 5), (1, 5)) ∷ (option.Some (TrailingBytes 46), (2, 46)) ∷ []
+warnings : List ((Option Warning) × (ℕ × ℕ))
+warnings = (None, (0, 0)) ∷ (Some (NonStandardFormat 5), (1, 5)) ∷ (Some (TrailingBytes 46), (2, 46)) ∷ []
 
-abbrev numbered : OptionWarning → ℕ × ℕ
+abbrev numbered : Option Warning → ℕ × ℕ
 numbered w = (warning_code w, warning_place w)
 
 warnings_hold : map (λ c. numbered c.0) warnings ≡ map (λ c. c.1) warnings
@@ -118,21 +103,21 @@ constants =
     ∷ (value.LongString (record { place = 148; len = 3 }), 20 ∷ 148 ∷ 3 ∷ [])
     ∷ []
 
-constants_hold : map (λ c. ofConstant (constant.Ok c.0)) constants ≡ map (λ c. done c.1) constants
+constants_hold : map (λ c. ofConstant (Ok c.0)) constants ≡ map (λ c. done c.1) constants
 unfolding constants
 constants_hold = refl
 
 entries : List (Answer × List ℕ)
 entries =
-    (ofWord (word.Ok 0x04030201), 0x04030201 ∷ [])
-    ∷ (ofUpvalue (upvalue.Ok (record { instack = 1; idx = 2; kind = 3 })), 1 ∷ 2 ∷ 3 ∷ [])
-    ∷ (ofDelta (delta.Ok (negsuc 127)), (2 ^ 64 - 128) ∷ [])
-    ∷ (ofAnchor (anchor.Ok (record { pc = 3; line = 4 })), 3 ∷ 4 ∷ [])
-    ∷ (of_local (local.Ok 7 5 6), 7 ∷ 5 ∷ 6 ∷ [])
-    ∷ (ofName (name.Ok (string.Some (record { place = 289; len = 4 }))), 1 ∷ 289 ∷ 4 ∷ [])
-    ∷ (ofName (name.Ok string.None), 0 ∷ 0 ∷ 0 ∷ [])
-    ∷ (ofLine (line.Ok 77), 77 ∷ [])
-    ∷ (ofLines (lines.Ok 5), 5 ∷ [])
+    (ofWord (Ok 0x04030201), 0x04030201 ∷ [])
+    ∷ (ofUpvalue (Ok (record { instack = 1; idx = 2; kind = 3 })), 1 ∷ 2 ∷ 3 ∷ [])
+    ∷ (ofDelta (Ok (negsuc 127)), (2 ^ 64 - 128) ∷ [])
+    ∷ (ofAnchor (Ok (record { pc = 3; line = 4 })), 3 ∷ 4 ∷ [])
+    ∷ (of_local (Ok (record { name_len = 7; startpc = 5; endpc = 6 })), 7 ∷ 5 ∷ 6 ∷ [])
+    ∷ (ofName (Ok (Some (record { place = 289; len = 4 }))), 1 ∷ 289 ∷ 4 ∷ [])
+    ∷ (ofName (Ok None), 0 ∷ 0 ∷ 0 ∷ [])
+    ∷ (ofLine (Ok 77), 77 ∷ [])
+    ∷ (ofLines (Ok 5), 5 ∷ [])
     ∷ []
 
 entries_hold : map (λ c. c.0) entries ≡ map (λ c. done c.1) entries
@@ -140,11 +125,11 @@ unfolding entries
 entries_hold = refl
 
 -- ## Whole chunks
-verdicts_hold : map (λ v. ofVerdict (verdict.Ok v)) (ValidForAnalysis ∷ Invalid ∷ Incomplete ∷ []) ≡ done (0 ∷ []) ∷ done (1 ∷ []) ∷ done (2 ∷ []) ∷ []
+verdicts_hold : map (λ v. ofVerdict (Ok v)) (ValidForAnalysis ∷ Invalid ∷ Incomplete ∷ []) ≡ done (0 ∷ []) ∷ done (1 ∷ []) ∷ done (2 ∷ []) ∷ []
 verdicts_hold = refl
 
-counts_hold : ofIndex (index.Ok 9) ∷ ofCopy (copy.Ok 311) ∷ ofCount (count.Ok 7) ∷ [] ≡ done (9 ∷ []) ∷ done (311 ∷ []) ∷ done (7 ∷ []) ∷ []
+counts_hold : ofIndex (Ok 9) ∷ ofCopy (Ok 311) ∷ ofCount (Ok 7) ∷ [] ≡ done (9 ∷ []) ∷ done (311 ∷ []) ∷ done (7 ∷ []) ∷ []
 counts_hold = refl
 
-refused_hold : ofLine (line.Err LineTooLarge) ∷ ofWord (word.Err NoEntry) ∷ ofLines (lines.Err AnchorOrder) ∷ ofLines (lines.Err PcOrder) ∷ [] ≡ refuses LineTooLarge ∷ refuses NoEntry ∷ refuses AnchorOrder ∷ refuses PcOrder ∷ []
+refused_hold : ofLine (Err LineTooLarge) ∷ ofWord (Err NoEntry) ∷ ofLines (Err AnchorOrder) ∷ ofLines (Err PcOrder) ∷ [] ≡ refuses LineTooLarge ∷ refuses NoEntry ∷ refuses AnchorOrder ∷ refuses PcOrder ∷ []
 refused_hold = refl

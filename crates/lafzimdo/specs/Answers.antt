@@ -1,98 +1,78 @@
 -- What is answered behind C: the numbers of each answer (done), or its refusal (refuses).
+use Rattle.std.specs.Prelude.{ℕ, ℤ, Option, Result, Ok, Err}
+use Rattle.format.specs.declared.entry.AbsLineInfo.{AbsLineInfo}
+use Rattle.format.specs.declared.entry.UpvalueDesc.{UpvalueDesc}
+use Rattle.format.specs.declared.refusal.Refusal.{Refusal}
+use Rattle.read_entry.specs.declared.constant.ConstantValue.{ConstantValue}
+use Rattle.read_field.specs.declared.string.StringAt.{StringAt}
+use Rattle.show_chunk.specs.declared.fields.FunctionFields.{FunctionFields}
+use Rattle.show_chunk.specs.declared.summary.ChunkSummary.{ChunkSummary}
+use Rattle.show_local.specs.declared.LocalShown.{LocalShown}
+use Rattle.validate_rules.specs.declared.finding.Verdict.{Verdict}
 use Rattle.std.specs.Prelude.{[], ◌∷◌}
-use Rattle.show_chunk.specs.declared.summary.SummaryAnswer.{SummaryAnswer}
-use Rattle.show_chunk.specs.declared.summary.SummaryAnswer.TheVariants as summary
-use Rattle.show_chunk.specs.declared.fields.FieldsAnswer.{FieldsAnswer}
-use Rattle.show_chunk.specs.declared.fields.FieldsAnswer.TheVariants as fields
-use Rattle.line_lookup.specs.declared.line.LineAnswer.{LineAnswer}
-use Rattle.line_lookup.specs.declared.line.LineAnswer.TheVariants as line
-use Rattle.line_batch.specs.declared.list.LinesAnswer.{LinesAnswer}
-use Rattle.line_batch.specs.declared.list.LinesAnswer.TheVariants as lines
-use Rattle.show_entry.specs.declared.WordAnswer.{WordAnswer}
-use Rattle.show_entry.specs.declared.WordAnswer.TheVariants as word
-use Rattle.show_entry.specs.declared.ConstantAnswer.{ConstantAnswer}
-use Rattle.show_entry.specs.declared.ConstantAnswer.TheVariants as constant
-use Rattle.show_entry.specs.declared.DeltaAnswer.{DeltaAnswer}
-use Rattle.show_entry.specs.declared.DeltaAnswer.TheVariants as delta
-use Rattle.show_local.specs.declared.LocalAnswer.{LocalAnswer}
-use Rattle.show_local.specs.declared.LocalAnswer.TheVariants as local
-use Rattle.show_entry.specs.declared.UpvalueAnswer.{UpvalueAnswer}
-use Rattle.show_entry.specs.declared.UpvalueAnswer.TheVariants as upvalue
-use Rattle.show_entry.specs.declared.AnchorAnswer.{AnchorAnswer}
-use Rattle.show_entry.specs.declared.AnchorAnswer.TheVariants as anchor
-use Rattle.show_entry.specs.declared.NameAnswer.{NameAnswer}
-use Rattle.show_entry.specs.declared.NameAnswer.TheVariants as name
-use Rattle.index.specs.declared.IndexAnswer.{IndexAnswer}
-use Rattle.index.specs.declared.IndexAnswer.TheVariants as index
-use Rattle.copy.specs.declared.whole.CopyAnswer.{CopyAnswer}
-use Rattle.copy.specs.declared.whole.CopyAnswer.TheVariants as copy
-use Rattle.validate_verdict.specs.declared.verdict.VerdictAnswer.{VerdictAnswer}
-use Rattle.validate_verdict.specs.declared.verdict.VerdictAnswer.TheVariants as verdict
-use Rattle.validate_verdict.specs.declared.verdict.CountAnswer.{CountAnswer}
-use Rattle.validate_verdict.specs.declared.verdict.CountAnswer.TheVariants as count
 use Rattle.c_boundary.specs.Status.{Answer, done, refuses, complement}
 use Rattle.c_entries.specs.EntryNumbers.{string_numbers, constant_numbers, upvalue_numbers, anchor_numbers, local_numbers}
 use Rattle.c_finding.specs.FindingNumbers.{verdict_number}
 use Rattle.c_numbers.specs.Numbers.{summary_numbers, fields_numbers}
 
-abbrev pub ofSummary : SummaryAnswer → Answer
-ofSummary (summary.Ok y) = done (summary_numbers y)
-ofSummary (summary.Err q) = refuses q
+abbrev pub ofSummary : Result ChunkSummary Refusal → Answer
+ofSummary (Ok y) = done (summary_numbers y)
+ofSummary (Err q) = refuses q
 
-abbrev pub of_fields : FieldsAnswer → Answer
-of_fields (fields.Ok y) = done (fields_numbers y)
-of_fields (fields.Err q) = refuses q
+abbrev pub of_fields : Result FunctionFields Refusal → Answer
+of_fields (Ok y) = done (fields_numbers y)
+of_fields (Err q) = refuses q
 
-abbrev pub ofLine : LineAnswer → Answer
-ofLine (line.Ok n) = done (n ∷ [])
-ofLine (line.Err q) = refuses q
+abbrev pub ofLine : Result ℕ Refusal → Answer
+ofLine (Ok n) = done (n ∷ [])
+ofLine (Err q) = refuses q
 
-abbrev pub ofLines : LinesAnswer → Answer
-ofLines (lines.Ok n) = done (n ∷ [])
-ofLines (lines.Err q) = refuses q
+abbrev pub ofLines : Result ℕ Refusal → Answer
+ofLines (Ok n) = done (n ∷ [])
+ofLines (Err q) = refuses q
 
 -- ## Entries
-abbrev pub ofWord : WordAnswer → Answer
-ofWord (word.Ok w) = done (w ∷ [])
-ofWord (word.Err q) = refuses q
+abbrev pub ofWord : Result ℕ Refusal → Answer
+ofWord (Ok w) = done (w ∷ [])
+ofWord (Err q) = refuses q
 
-abbrev pub ofConstant : ConstantAnswer → Answer
-ofConstant (constant.Ok k) = done (constant_numbers k)
-ofConstant (constant.Err q) = refuses q
+abbrev pub ofConstant : Result ConstantValue Refusal → Answer
+ofConstant (Ok k) = done (constant_numbers k)
+ofConstant (Err q) = refuses q
 
-abbrev pub ofUpvalue : UpvalueAnswer → Answer
-ofUpvalue (upvalue.Ok u) = done (upvalue_numbers u)
-ofUpvalue (upvalue.Err q) = refuses q
+abbrev pub ofUpvalue : Result UpvalueDesc Refusal → Answer
+ofUpvalue (Ok u) = done (upvalue_numbers u)
+ofUpvalue (Err q) = refuses q
 
-abbrev pub ofDelta : DeltaAnswer → Answer
-ofDelta (delta.Ok z) = done (complement z ∷ [])
-ofDelta (delta.Err q) = refuses q
+abbrev pub ofDelta : Result ℤ Refusal → Answer
+ofDelta (Ok z) = done (complement z ∷ [])
+ofDelta (Err q) = refuses q
 
-abbrev pub ofAnchor : AnchorAnswer → Answer
-ofAnchor (anchor.Ok a) = done (anchor_numbers a)
-ofAnchor (anchor.Err q) = refuses q
+abbrev pub ofAnchor : Result AbsLineInfo Refusal → Answer
+ofAnchor (Ok a) = done (anchor_numbers a)
+ofAnchor (Err q) = refuses q
 
-abbrev pub of_local : LocalAnswer → Answer
-of_local (local.Ok n startpc endpc) = done (local_numbers n startpc endpc)
-of_local (local.Err q) = refuses q
+abbrev pub of_local : Result LocalShown Refusal → Answer
+of_local (Ok l) = done (local_numbers l.name_len l.startpc l.endpc)
+of_local (Err q) = refuses q
 
-abbrev pub ofName : NameAnswer → Answer
-ofName (name.Ok t) = done (string_numbers t)
-ofName (name.Err q) = refuses q
+abbrev pub ofName : Result (Option StringAt) Refusal → Answer
+ofName (Ok t) = done (string_numbers t)
+ofName (Err q) = refuses q
 
 -- ## Whole chunks
-abbrev pub ofIndex : IndexAnswer → Answer
-ofIndex (index.Ok n) = done (n ∷ [])
-ofIndex (index.Err q) = refuses q
+abbrev pub ofIndex : Result ℕ Refusal → Answer
+ofIndex (Ok n) = done (n ∷ [])
+ofIndex (Err q) = refuses q
 
-abbrev pub ofCopy : CopyAnswer → Answer
-ofCopy (copy.Ok n) = done (n ∷ [])
-ofCopy (copy.Err q) = refuses q
+abbrev pub ofCopy : Result ℕ Refusal → Answer
+ofCopy (Ok n) = done (n ∷ [])
+ofCopy (Err q) = refuses q
 
-abbrev pub ofVerdict : VerdictAnswer → Answer
-ofVerdict (verdict.Ok v) = done (verdict_number v ∷ [])
-ofVerdict (verdict.Err q) = refuses q
+abbrev pub ofVerdict : Result Verdict Refusal → Answer
+ofVerdict (Ok v) = done (verdict_number v ∷ [])
+ofVerdict (Err q) = refuses q
 
-abbrev pub ofCount : CountAnswer → Answer
-ofCount (count.Ok n) = done (n ∷ [])
-ofCount (count.Err q) = refuses q
+abbrev pub ofCount : Result ℕ Refusal → Answer
+ofCount (Ok n) = done (n ∷ [])
+ofCount (Err q) = refuses q

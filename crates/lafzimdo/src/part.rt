@@ -4,6 +4,7 @@ ghost use Rattle.c_boundary.specs.Status.{status, written};
 ghost use Rattle.c_entries_at.specs.EntryNumbers.{word_at, constant_at, upvalue_at, delta_at, anchor_at, local_at, string_at};
 ghost use Rattle.c_parts.specs.PartNumbers.{head_at, tail_at};
 
+use c_boundary::answered;
 use c_entries_at::{anchor_at, constant_at, delta_at, local_at, string_at, upvalue_at, word_at};
 use c_parts::{head_at, tail_at};
 
@@ -18,7 +19,7 @@ pub extern "C" fn lafzimdo_head_at(
     ensures value { result ≡ status (head_at limits.now place chunk.now) }
     ensures out_after { out.new ≡ written (head_at limits.now place chunk.now) out.old }
 {
-    head_at(chunk, limits, place, out)
+    answered(head_at(chunk, limits, place), out)
 }
 
 // A function behind the functions that nest in it. Ruled out: deltas counted as anchors, the function's end before its last name.
@@ -32,7 +33,7 @@ pub extern "C" fn lafzimdo_tail_at(
     ensures value { result ≡ status (tail_at limits.now place chunk.now) }
     ensures out_after { out.new ≡ written (tail_at limits.now place chunk.now) out.old }
 {
-    tail_at(chunk, limits, place, out)
+    answered(tail_at(chunk, limits, place), out)
 }
 
 // The instruction word that begins at a place, and the place behind it. Ruled out: high byte first, a word behind the end of the chunk.
@@ -46,7 +47,7 @@ pub extern "C" fn lafzimdo_word_at(
     ensures value { result ≡ status (word_at limits.now place chunk.now) }
     ensures out_after { out.new ≡ written (word_at limits.now place chunk.now) out.old }
 {
-    word_at(chunk, limits, place, out)
+    answered(word_at(chunk, limits, place), out)
 }
 
 // The constant that begins at a place, and the place behind it. Ruled out: a short string shown as a long one, a string above its limit.
@@ -60,7 +61,7 @@ pub extern "C" fn lafzimdo_constant_at(
     ensures value { result ≡ status (constant_at limits.now place chunk.now) }
     ensures out_after { out.new ≡ written (constant_at limits.now place chunk.now) out.old }
 {
-    constant_at(chunk, limits, place, out)
+    answered(constant_at(chunk, limits, place), out)
 }
 
 // The upvalue that begins at a place, and the place behind it. Ruled out: instack and idx exchanged, two bytes an upvalue.
@@ -74,7 +75,7 @@ pub extern "C" fn lafzimdo_upvalue_at(
     ensures value { result ≡ status (upvalue_at limits.now place chunk.now) }
     ensures out_after { out.new ≡ written (upvalue_at limits.now place chunk.now) out.old }
 {
-    upvalue_at(chunk, limits, place, out)
+    answered(upvalue_at(chunk, limits, place), out)
 }
 
 // The line delta at a place, and the place behind it. Ruled out: a byte from 128 up shown as it stands.
@@ -88,7 +89,7 @@ pub extern "C" fn lafzimdo_delta_at(
     ensures value { result ≡ status (delta_at limits.now place chunk.now) }
     ensures out_after { out.new ≡ written (delta_at limits.now place chunk.now) out.old }
 {
-    delta_at(chunk, limits, place, out)
+    answered(delta_at(chunk, limits, place), out)
 }
 
 // The anchor that begins at a place, and the place behind it. Ruled out: pc and line exchanged, the place behind pc given as the one behind.
@@ -102,7 +103,7 @@ pub extern "C" fn lafzimdo_anchor_at(
     ensures value { result ≡ status (anchor_at limits.now place chunk.now) }
     ensures out_after { out.new ≡ written (anchor_at limits.now place chunk.now) out.old }
 {
-    anchor_at(chunk, limits, place, out)
+    answered(anchor_at(chunk, limits, place), out)
 }
 
 // The local variable that begins at a place, with its name as it is spelt, and the place behind it. Ruled out: an absent name shown as an empty one, startpc and endpc exchanged.
@@ -116,7 +117,7 @@ pub extern "C" fn lafzimdo_local_at(
     ensures value { result ≡ status (local_at limits.now place chunk.now) }
     ensures out_after { out.new ≡ written (local_at limits.now place chunk.now) out.old }
 {
-    local_at(chunk, limits, place, out)
+    answered(local_at(chunk, limits, place), out)
 }
 
 // The string that begins at a place, and the place behind it. Ruled out: an absent string shown as an empty one, a place before its size.
@@ -130,5 +131,5 @@ pub extern "C" fn lafzimdo_string_at(
     ensures value { result ≡ status (string_at limits.now place chunk.now) }
     ensures out_after { out.new ≡ written (string_at limits.now place chunk.now) out.old }
 {
-    string_at(chunk, limits, place, out)
+    answered(string_at(chunk, limits, place), out)
 }

@@ -1,12 +1,13 @@
 // Instruction words: their fields, and a word from its fields.
 ghost use Rattle.std.specs.Prelude.{◌≡◌};
 ghost use Rattle.word_fields.specs.Word.{decoded, encoded};
-ghost use Rattle.c_boundary.specs.Status.{status, written};
+ghost use Rattle.c_boundary.specs.Status.{status, written, in_numbers};
 ghost use Rattle.c_words.specs.Words.{word_numbers, spelt, of_encoded};
 
-use c_boundary::{one, refused};
+use c_boundary::answered;
 use c_words::{word_numbers, word_of};
-use word_fields::instruction::{Encoded, RawInstruction54};
+use format::refusal::Refusal;
+use word_fields::instruction::RawInstruction54;
 
 // All fields of an instruction word, with its opcode and mode. Ruled out: B read where C stands, a mode for a number that is no opcode's.
 #[unsafe(no_mangle)]
@@ -16,6 +17,24 @@ pub extern "C" fn lafzimdo_decode(word: u32, out: &mut [u64; 12]) -> u64
 {
     *out = word_numbers(RawInstruction54::decode(word));
     0
+}
+
+fn encode_in_numbers(
+    op: u8,
+    a: u8,
+    k: u8,
+    b: u8,
+    c: u8,
+    bx: u32,
+    sbx: i32,
+    ax: u32,
+    sj: i32,
+) -> Result<[u64; 1], Refusal>
+    ensures { in_numbers result ≡ of_encoded (encoded (spelt op a k b c bx sbx ax sj)) }
+{
+    let fields = word_of(op, a, k, b, c, bx, sbx, ax, sj);
+    let w = fields.encode()?;
+    Ok([w as u64])
 }
 
 // The instruction word of an opcode and of the fields that its mode uses, or why there is none.
@@ -36,13 +55,5 @@ pub extern "C" fn lafzimdo_encode(
     ensures value { result ≡ status (of_encoded (encoded (spelt op a k b c bx sbx ax sj))) }
     ensures out_after { out.new ≡ written (of_encoded (encoded (spelt op a k b c bx sbx ax sj))) out.old }
 {
-    let fields = word_of(op, a, k, b, c, bx, sbx, ax, sj);
-    let answer = fields.encode();
-    match answer {
-        Encoded::Refused(q) => refused(q),
-        Encoded::Word(w) => {
-            *out = one(w as u64);
-            0
-        }
-    }
+    answered(encode_in_numbers(op, a, k, b, c, bx, sbx, ax, sj), out)
 }

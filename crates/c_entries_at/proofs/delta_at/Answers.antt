@@ -1,22 +1,24 @@
 -- `c_entries_at::delta_at` meets its contract: by the test of 21 and 22, then by what was read. Assumes nothing.
-use mathlib.Core.Path.{refl, ◌∙◌, ap}
-use mathlib.Core.List.{[], ◌∷◌}
-use lib.ListN.{drop}
-use Rattle.format.specs.ReadFields.{field}
-use Rattle.read_field.specs.Shown.{u8_result}
+use mathlib.Core.Path.{sym, ◌∙◌}
+use Rattle.std.proofs.lemmas.Result.{err_from_is_err_and}
 use Rattle.c_boundary.specs.Status.{limits_of}
-use Rattle.c_boundary.proofs.Calls.{call_refuses, call_answers}
+use Rattle.c_boundary.proofs.Admitted.{stops, behind}
 use Rattle.c_entries_at.specs.EntryNumbers.{of_delta_at}
-use Rattle.c_boundary.proofs.Admitted.{stops, goes_on_lem}
 use Rattle.c_entries_at.proofs.delta_at.Goals as goal
 
-pub returns-then-refusal-gt0 : goal.returns-then-refusal-gt0
-returns-then-refusal-gt0 c = let a = c.args in let both = stops (limits_of a.limits.now) a.chunk.now c.tested-refusal.ensures _ a.out.now c.if-refusal-gt0.true in record { value = both.0; out_after = both.1 }
+pub returns-in_err-admit : goal.returns-in_err-admit
+returns-in_err-admit c =
+    let a = c.args in
+    let p = err_from_is_err_and c.from_residual.result c.from_residual.ensures.1 in
+    rw (p.1, p.2) (stops (limits_of a.limits.now) a.chunk.now _ (sym c.in_err-admit.was ∙ c.admit.ensures))
 
-pub returns-in-Err : goal.returns-in-Err
-returns-in-Err c = let a = c.args in let both = goes_on_lem (limits_of a.limits.now) a.chunk.now c.tested-refusal.ensures _ a.out.now c.if-refusal-gt0.false
-    (call_refuses of_delta_at (λ L. u8_result (field 1 a.place (drop a.place a.chunk.now))) a.out.now (λ i. limits_of a.limits.now) c.read_u8-answer.ensures c.in-Err.is refl c.refused.ensures) in record { value = both.0; out_after = both.1 }
+pub returns-in_err-delta : goal.returns-in_err-delta
+returns-in_err-delta c =
+    let a = c.args in
+    let p = err_from_is_err_and c.from_residual-in_err-delta.result c.from_residual-in_err-delta.ensures.1 in
+    rw (p.1, p.2) (behind (limits_of a.limits.now) a.chunk.now (sym c.in_ok-admit.was ∙ c.admit.ensures) of_delta_at (sym c.in_err-delta.was ∙ c.read_u8.ensures))
 
-pub returns-in-Ok : goal.returns-in-Ok
-returns-in-Ok c = let a = c.args in let both = goes_on_lem (limits_of a.limits.now) a.chunk.now c.tested-refusal.ensures _ a.out.now c.if-refusal-gt0.false
-    (call_answers of_delta_at (λ L. u8_result (field 1 a.place (drop a.place a.chunk.now))) a.out.now (λ i. limits_of a.limits.now) c.read_u8-answer.ensures c.in-Ok.is refl (c.two.ensures ∙ ap (λ n. n ∷ c.in-Ok.next.at ∷ []) c.delta_number.ensures)) in record { value = both.0; out_after = both.1 }
+pub returns : goal.returns
+returns c =
+    let a = c.args in
+    rw c.delta_number.ensures (behind (limits_of a.limits.now) a.chunk.now (sym c.in_ok-admit.was ∙ c.admit.ensures) of_delta_at (sym c.in_ok-delta.was ∙ c.read_u8.ensures))
