@@ -2,12 +2,11 @@
 --     decimal n            a number's digits
 --     first_line            a chunk that is read
 --     refusal_line          one that is not
+use Rattle.std.specs.Prelude.{Option, Some, None}
 use Rattle.std.specs.Prelude.{cond, ℕ, zero, suc, ◌/◌, ◌%◌, List, [], ◌∷◌, ◌++◌, ltb}
 use Rattle.text_print.specs.Digits.{hex_digit_ascii}
 use Rattle.format.specs.Ascii.{ascii}
 use Rattle.format.specs.declared.refusal.Refusal.{Refusal}
-use Rattle.format.specs.declared.refusal.Place.{Place}
-use Rattle.format.specs.declared.refusal.Place.TheVariants as place
 use Rattle.format.specs.Refusals.{reported}
 use Rattle.validate_rules.specs.declared.finding.Verdict.{Verdict}
 use Rattle.validate_rules.specs.Findings.{verdict_word}
@@ -36,9 +35,9 @@ first_line bytes functions trailing v =
     ++ (verdict_word v ++ (10 ∷ [])))))
 
 -- a place, where there is one
-abbrev pub at_place : Place → List ℕ
-at_place (place.At n) = ascii " at " ++ decimal n
-at_place place.None = []
+abbrev pub at_place : Option ℕ → List ℕ
+at_place (Some n) = ascii " at " ++ decimal n
+at_place None = []
 
 -- the refusal's number, and its place
 unfoldable pub refusal_line : Refusal → List ℕ

@@ -8,7 +8,7 @@ ghost use Rattle.validate_rules.specs.Findings.{verdict_word};
 ghost use Rattle.chunklist_lines.specs.Lines.{decimal, spaced, first_line, at_place, refusal_line};
 ghost use Rattle.chunklist_lines.specs.Inner.Rows.{row_line};
 
-use format::refusal::{Place, Refusal};
+use format::refusal::Refusal;
 use format_report::report_refusal;
 use read_next::Row;
 use std::io;
@@ -135,7 +135,12 @@ pub fn first_line<W: Write>(
 }
 
 // The place of a refusal, if it has one.
-fn at_place<W: Write>(to: &mut W, out: &mut Out, used: usize, place: Place) -> io::Result<usize>
+fn at_place<W: Write>(
+    to: &mut W,
+    out: &mut Out,
+    used: usize,
+    place: Option<usize>,
+) -> io::Result<usize>
     requires { Fits used }
     ensures fits { IfOk result (λ after. Fits after) }
     ensures result_after { IfOk result (λ after. waiting out.new after ≡ puts (at_place place) (waiting out.old used)) }
@@ -143,8 +148,8 @@ fn at_place<W: Write>(to: &mut W, out: &mut Out, used: usize, place: Place) -> i
         (take used out.old ++ at_place place) out.new result }
 {
     match place {
-        Place::At(at) => labelled(to, out, used, b" at ", at as u64),
-        Place::None => Ok(used),
+        Some(at) => labelled(to, out, used, b" at ", at as u64),
+        None => Ok(used),
     }
 }
 

@@ -1,5 +1,6 @@
 -- What is listed of a chunk, in the code's terms: by what the first pass showed.
 -- Assumes nothing.
+use Rattle.std.specs.Prelude.{Ok, Err}
 use Rattle.std.specs.Prelude.{Option, Result, IfOk}
 use mathlib.Core.Path.{◌≡◌, refl, sym, ap, subst, ◌∙◌}
 use mathlib.Core.List.{List, [], ◌∷◌, ◌++◌}
@@ -11,7 +12,6 @@ use Rattle.format.specs.Form.{Bytes}
 use Rattle.format.specs.Reading.{Prototype}
 use Rattle.format.specs.ReadChunk.{Outcome, read}
 use Rattle.read_chunk.specs.declared.summary.Summary.{Summary}
-use Rattle.read_chunk.specs.declared.summary.JudgedResult.TheVariants as judged
 use Rattle.read_chunk.specs.Inner.Decoded.{judged_result}
 use Rattle.read_chunk.proofs.MainAt.{was_refused}
 use Rattle.read_next.specs.Inner.Rows.{chunk_rows}
@@ -25,7 +25,7 @@ use Rattle.chunklist_listing.specs.Listing.{function_line, function_lines}
 use Rattle.chunklist_listing.specs.Inner.Rows.{lines_of, row_lines}
 use Rattle.chunklist_lines.proofs.Laws.{then_ok}
 
-pub refused-lines : (bytes : ℕ) (v : Verdict) (o : Outcome) (q : Refusal) → judged.Err q ≡ judged_result o → []
+pub refused-lines : (bytes : ℕ) (v : Verdict) (o : Outcome) (q : Refusal) → Err q ≡ judged_result o → []
     ≡ lines_of bytes v o
 refused-lines bytes v o q e = sym (ap (lines_of bytes v) (was_refused o q e))
 
@@ -38,7 +38,7 @@ as_many : (ps : List Prototype) → length (rows_for ps) ≡ length ps
 as_many [] = refl
 as_many (p ∷ ps) = rw (as_many ps)
 
-module _ (L : ResourceLimits) (s : Bytes) (d : Summary) (e : judged.Ok d ≡ judged_result (read L s)) where
+module _ (L : ResourceLimits) (s : Bytes) (d : Summary) (e : Ok d ≡ judged_result (read L s)) where
   pub all-counted : length (chunk_rows L s 32) ≡ d.functions
   all-counted = ap length (rows_shown L s d e) ∙ as_many (r L s d e).functions ∙ sym
       (ap (λ k. k.functions) (shows L s d e))

@@ -14,14 +14,14 @@ ghost use Rattle.chunklist_listing.specs.Inner.Rows.{lines_of, row_lines};
 use chunklist_lines::{first_line, function_line, refusal_line};
 use format::limits::ResourceLimits;
 use read_chunk::MAIN_AT;
-use read_chunk::summary::{JudgedResult, judge_chunk};
-use read_next::{COUNTS, Met, go_down, next_function};
+use read_chunk::summary::judge_chunk;
+use read_next::{COUNTS, go_down, next_function};
 use slice::cursor::Cursor;
 use std::io;
 use std::io::Write;
 use text_print::Out;
 use validate_rules::finding::Verdict;
-use validate_verdict::verdict::{VerdictAnswer, chunk_verdict};
+use validate_verdict::verdict::chunk_verdict;
 
 // The longest file that is read.
 const LONGEST: usize = 49152;
@@ -67,16 +67,14 @@ fn function_lines<W: Write>(
     let mut at = start;
     let mut number = 0;
     let mut used = used;
-    loop {
-        let Met::Function(row, d, first) = next_function(s, limits, &left, depth, at) else {
-            return Ok(used);
-        };
+    while let Some((row, d, first)) = next_function(s, limits, &left, depth, at) {
         used = function_line(to, out, used, number, row)?;
         go_down(&mut left, d, row.protos);
         depth = d + 1;
         at = first;
         number += 1;
     }
+    Ok(used)
 }
 
 // All that is printed of a file. Ruled out: trailing bytes not counted, every function shown at depth 0.
@@ -89,10 +87,9 @@ pub fn listing<W: Write>(s: &[u8], to: &mut W, out: &mut Out, used: usize) -> io
         (take used out.old ++ listings.listing s.now) out.new result }
 {
     let limits = list_limits();
-    let answer = chunk_verdict(s, limits);
-    match answer {
-        VerdictAnswer::Err(why) => refusal_line(to, out, used, why),
-        VerdictAnswer::Ok(verdict) => chunk_lines(s, limits, verdict, to, out, used),
+    match chunk_verdict(s, limits) {
+        Err(why) => refusal_line(to, out, used, why),
+        Ok(verdict) => chunk_lines(s, limits, verdict, to, out, used),
     }
 }
 
@@ -112,15 +109,12 @@ fn chunk_lines<W: Write>(
     ensures given { Printed (W.contents to.old) (W.contents to.new)
         (take used out.old ++ lines_of (length s.now) verdict (read limits s.now)) out.new result }
 {
-    let judged = judge_chunk(s, limits);
-    match judged {
+    let Ok(summary) = judge_chunk(s, limits) else {
         // Never: it was read for the verdict.
-        JudgedResult::Err(_) => Ok(used),
-        JudgedResult::Ok(summary) => {
-            let n = summary.functions;
-            let used = first_line(to, out, used, s.len(), n, summary.trailing_len, verdict)?;
-            let start = Cursor { at: MAIN_AT };
-            function_lines(s, limits, start, n, to, out, used)
-        }
-    }
+        return Ok(used);
+    };
+    let n = summary.functions;
+    let used = first_line(to, out, used, s.len(), n, summary.trailing_len, verdict)?;
+    let start = Cursor { at: MAIN_AT };
+    function_lines(s, limits, start, n, to, out, used)
 }

@@ -1,8 +1,8 @@
 // The lines of an input, found in a buffer that is filled piece by piece.
 #![tactic(auto)]
 
-ghost use Rattle.std.specs.Prelude.{◌≡◌, ℕ, ◌+◌, ◌≤◌, ◌<◌, length, get_or};
-ghost use Rattle.text_line.specs.Inner.Lines.{Held, Within};
+ghost use Rattle.std.specs.Prelude.{◌≡◌, ◌≤◌, ◌<◌, ◌==◌, length, position, IfSome};
+ghost use Rattle.text_line.specs.Inner.Lines.{Held, Inside, Within};
 
 use std::io::Read;
 
@@ -24,20 +24,18 @@ pub struct Lines {
 
 #[derive(Clone, Copy)]
 pub enum Found {
-    // A line, or so much of one that it is no request, however it goes on.
-    Line,
+    // A line, or so much of one that it is no request, however it goes on: where it begins and ends in the buffer.
+    Line(usize, usize),
     // No line so far.
     Nothing,
     // The end of the input.
     End,
 }
 
-// What was found, the line's bytes where there is one, and what is left.
+// What was found, and what is left.
 #[derive(Clone, Copy)]
 pub struct Step {
     pub found: Found,
-    pub from: usize,
-    pub to: usize,
     pub rest: Lines,
 }
 
@@ -62,8 +60,8 @@ pub fn next<R: Read>(input: &mut R, buf: &mut [u8], l: Lines) -> Step
     requires { Held l (length buf.old) }
     ensures { Within result (length buf.new) }
 {
-    let at = newline(buf, l.seen, l.end);
-    if at < l.end {
+    if let Some(n) = newline(&buf[l.seen..l.end]) {
+        let at = l.seen + n;
         return ended(l, at, at + 1);
     }
     if l.done {
@@ -76,35 +74,26 @@ pub fn next<R: Read>(input: &mut R, buf: &mut [u8], l: Lines) -> Step
     let rest = filled(input, buf, l);
     Step {
         found: Found::Nothing,
-        from: 0,
-        to: 0,
         rest,
     }
 }
 
-// The first newline of buf between from and to, or to where there is none.
-fn newline(buf: &[u8], from: usize, to: usize) -> usize
-    requires { (from ≤ to) × (to ≤ length buf.now) }
-    ensures lower_bound { (from ≤ result) × (result ≤ to) }
-    ensures by_index { (k : ℕ) → k < result → from ≤ k → get_or buf.now k 0 ≡ 10 → ⊥ }
-    ensures result_value { result < to → get_or buf.now result 0 ≡ 10 }
+// The place of the first newline, if there is one.
+fn newline(bytes: &[u8]) -> Option<usize>
+    ensures value { result ≡ position (λ b. b == 10) bytes.now }
+    ensures bound { IfSome result (λ n. n < length bytes.now) }
 {
-    let mut i = from;
-    while i < to {
-        if buf[i] == b'\n' {
-            return i;
-        }
-        i += 1;
-    }
-    i
+    bytes.iter().position(|b| *b == b'\n')
 }
 
 // What waiting bytes are: a line, or the rest of a long one.
-fn kind(long: bool) -> Found {
-    if long {
+fn waiting(l: Lines, to: usize) -> Found
+    ensures { l.start ≤ to → Inside result to }
+{
+    if l.long {
         return Found::Nothing;
     }
-    Found::Line
+    Found::Line(l.start, to)
 }
 
 // The line that ends at `at`, where what follows begins at `next`.
@@ -112,11 +101,8 @@ fn ended(l: Lines, at: usize, next: usize) -> Step
     requires { (l.start ≤ at) × (at ≤ next) × (next ≤ l.end) }
     ensures { Within result l.end }
 {
-    let found = kind(l.long);
     Step {
-        found,
-        from: l.start,
-        to: at,
+        found: waiting(l, at),
         rest: Lines {
             start: next,
             seen: next,
@@ -135,8 +121,6 @@ fn last(l: Lines) -> Step
     if l.start == l.end {
         return Step {
             found: Found::End,
-            from: 0,
-            to: 0,
             rest: l,
         };
     }
@@ -148,12 +132,9 @@ fn passed(l: Lines) -> Step
     requires { Held l l.end }
     ensures { Within result l.end }
 {
-    let found = kind(l.long);
     let end = l.end;
     Step {
-        found,
-        from: l.start,
-        to: end,
+        found: waiting(l, end),
         rest: Lines {
             start: end,
             seen: end,
@@ -172,27 +153,13 @@ fn room(buf: &mut [u8], l: Lines) -> Lines
     if l.end < buf.len() {
         return l;
     }
-    let start = l.start;
-    let end = l.end;
-    shift(buf, start, end);
+    let waiting = l.end - l.start;
+    buf.copy_within(l.start..l.end, 0);
     Lines {
         start: 0,
-        seen: end - start,
-        end: end - start,
-        long: l.long,
-        done: l.done,
-    }
-}
-
-// Moves the bytes between from and to to the front.
-fn shift(buf: &mut [u8], from: usize, to: usize)
-    requires { (from ≤ to) × (to ≤ length buf.old) }
-    ensures { (k : ℕ) → from + k < to → get_or buf.new k 0 ≡ get_or buf.old (from + k) 0 }
-{
-    let mut i = from;
-    while i < to {
-        buf[i - from] = buf[i];
-        i += 1;
+        seen: waiting,
+        end: waiting,
+        ..l
     }
 }
 
@@ -204,11 +171,10 @@ fn filled<R: Read>(input: &mut R, buf: &mut [u8], l: Lines) -> Lines
     let end = l.end;
     let n = read(input, &mut buf[end..]);
     Lines {
-        start: l.start,
         seen: end,
         end: end + n,
-        long: l.long,
         done: n == 0,
+        ..l
     }
 }
 
@@ -216,8 +182,5 @@ fn filled<R: Read>(input: &mut R, buf: &mut [u8], l: Lines) -> Lines
 fn read<R: Read>(input: &mut R, buf: &mut [u8]) -> usize
     ensures { result ≤ length buf.new }
 {
-    match input.read(buf) {
-        Ok(n) => n,
-        Err(_) => 0,
-    }
+    input.read(buf).unwrap_or(0)
 }

@@ -17,6 +17,7 @@ pub fn decimal(n: u64, out: &mut [u8; 20]) -> usize
 fn digit_count(n: u64) -> usize
     ensures { IsDigitCount 10 1 n result }
 {
+    // A loop while something is left: the digits are not counted before they are divided off.
     let mut k = 1;
     let mut rest = n / 10;
     while rest > 0 {
@@ -31,10 +32,8 @@ fn write_digits(n: u64, k: usize, out: &mut [u8])
     requires { k ≤ length out.old }
     ensures { take k out.new ≡ last_digits 10 k n }
 {
-    let mut i = k;
     let mut rest = n;
-    while i > 0 {
-        i -= 1;
+    for i in (0..k).rev() {
         out[i] = digit_to_ascii(rest % 10);
         rest /= 10;
     }

@@ -35,6 +35,7 @@ fn put<W: Write>(to: &mut W, out: &mut Out, used: usize, byte: u8) -> io::Result
 fn write_out<W: Write>(to: &mut W, bytes: &[u8]) -> io::Result<()>
     ensures { Written (W.contents to.old) (W.contents to.new) bytes.now result }
 {
+    // A place and no iterator: how far a write goes is the writer's answer.
     let mut done = 0;
     while done < bytes.len() {
         let n = to.write(&bytes[done..])?;
@@ -62,10 +63,8 @@ pub fn text<W: Write>(to: &mut W, out: &mut Out, used: usize, s: &[u8]) -> io::R
     ensures given { Printed (W.contents to.old) (W.contents to.new) (take used out.old ++ s.now) out.new result }
 {
     let mut at = used;
-    let mut i = 0;
-    while i < s.len() {
-        at = put(to, out, at, s[i])?;
-        i += 1;
+    for b in s {
+        at = put(to, out, at, *b)?;
     }
     Ok(at)
 }

@@ -1,3 +1,2 @@
-pub mod Hex
 pub mod Numbers
 pub mod Tokens

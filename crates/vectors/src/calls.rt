@@ -5,7 +5,7 @@ use lafzimdo::summary::lafzimdo_summary;
 use lafzimdo::whole::{lafzimdo_copy_length, lafzimdo_finding_count, lafzimdo_verdict};
 use text_list::Numbers;
 use vectors_answer::answer;
-use vectors_answer::answer::one;
+use vectors_answer::answer::array;
 
 fn summary(chunk: &[u8], limits: &[u64; 9], got: &mut Numbers) -> usize {
     let mut out = [0u64; 15];
@@ -22,20 +22,20 @@ fn totals(chunk: &[u8], limits: &[u64; 9], got: &mut Numbers) -> usize {
 fn verdict(chunk: &[u8], limits: &[u64; 9], got: &mut Numbers) -> usize {
     let mut out = [0u64; 1];
     let status = lafzimdo_verdict(chunk, limits, &mut out);
-    one(got, 0, status, &out)
+    array(got, 0, status, &out)
 }
 
 fn finding_count(chunk: &[u8], limits: &[u64; 9], got: &mut Numbers, at: usize) -> usize {
     let mut out = [0u64; 1];
     let status = lafzimdo_finding_count(chunk, limits, &mut out);
-    one(got, at, status, &out)
+    array(got, at, status, &out)
 }
 
 // The length of the copy.
 fn measure(chunk: &[u8], limits: &[u64; 9], got: &mut Numbers) -> usize {
     let mut out = [0u64; 1];
     let status = lafzimdo_copy_length(chunk, limits, &mut out);
-    one(got, 0, status, &out)
+    array(got, 0, status, &out)
 }
 
 fn function(chunk: &[u8], limits: &[u64; 9], f: usize, got: &mut Numbers) -> usize {
@@ -54,7 +54,7 @@ fn line(
 ) -> usize {
     let mut out = [0u64; 1];
     let status = lafzimdo_line(chunk, limits, f, pc, &mut out);
-    one(got, at, status, &out)
+    array(got, at, status, &out)
 }
 
 // The lines of `count` instructions, from one on.
@@ -67,15 +67,8 @@ fn lines(
     got: &mut Numbers,
 ) -> usize {
     let mut at = 0;
-    let mut pc = from;
-    let mut left = count;
-    while left > 0 {
+    for pc in (from..=usize::MAX).take(count) {
         at = line(chunk, limits, f, pc, got, at);
-        if usize::MAX <= pc {
-            return at;
-        }
-        pc += 1;
-        left -= 1;
     }
     at
 }
@@ -87,22 +80,34 @@ fn far_lines(chunk: &[u8], limits: &[u64; 9], f: usize, got: &mut Numbers) -> us
     line(chunk, limits, f, 18446744073709551615, got, at)
 }
 
-// What a letter asks, with its arguments: how many numbers the answer has, more than any has where the letter means no call.
-pub fn ask(kind: u8, chunk: &[u8], limits: &[u64; 9], args: &Numbers, got: &mut Numbers) -> usize {
+// What a letter asks, with its arguments: how many numbers the answer has, or none where the letter means no call.
+pub fn ask(
+    kind: u8,
+    chunk: &[u8],
+    limits: &[u64; 9],
+    args: &Numbers,
+    got: &mut Numbers,
+) -> Option<usize> {
     match kind {
-        b's' => summary(chunk, limits, got),
-        b't' => totals(chunk, limits, got),
-        b'm' => measure(chunk, limits, got),
-        b'g' => vectors_records::findings(chunk, limits, got),
+        b's' => Some(summary(chunk, limits, got)),
+        b't' => Some(totals(chunk, limits, got)),
+        b'm' => Some(measure(chunk, limits, got)),
+        b'g' => Some(vectors_records::findings(chunk, limits, got)),
         _ => ask_word(kind, chunk, limits, args, got),
     }
 }
 
 // The letters that are about an instruction word.
-fn ask_word(kind: u8, chunk: &[u8], limits: &[u64; 9], args: &Numbers, got: &mut Numbers) -> usize {
+fn ask_word(
+    kind: u8,
+    chunk: &[u8],
+    limits: &[u64; 9],
+    args: &Numbers,
+    got: &mut Numbers,
+) -> Option<usize> {
     match kind {
-        b'w' => words::decode(args, got),
-        b'e' => words::encode(args, got),
+        b'w' => Some(words::decode(args, got)),
+        b'e' => Some(words::encode(args, got)),
         _ => ask_range(kind, chunk, limits, args, got),
     }
 }
@@ -114,25 +119,31 @@ fn ask_range(
     limits: &[u64; 9],
     args: &Numbers,
     got: &mut Numbers,
-) -> usize {
+) -> Option<usize> {
     let a = args[0] as usize;
     let b = args[1] as usize;
     let c = args[2] as usize;
     match kind {
-        b'p' => lines(chunk, limits, a, b, c, got),
-        b'l' => lent::locals(chunk, limits, a, b, got),
-        b'c' => lent::copy(chunk, limits, a, b, c, got),
-        b'r' => lent::index(chunk, limits, a, b, c, got),
-        b'v' => lent::findings(chunk, limits, a, b, c, got),
+        b'p' => Some(lines(chunk, limits, a, b, c, got)),
+        b'l' => Some(lent::locals(chunk, limits, a, b, got)),
+        b'c' => Some(lent::copy(chunk, limits, a, b, c, got)),
+        b'r' => Some(lent::index(chunk, limits, a, b, c, got)),
+        b'v' => Some(lent::findings(chunk, limits, a, b, c, got)),
         _ => ask_function(kind, chunk, limits, a, got),
     }
 }
 
 // The letters with a function.
-fn ask_function(kind: u8, chunk: &[u8], limits: &[u64; 9], f: usize, got: &mut Numbers) -> usize {
+fn ask_function(
+    kind: u8,
+    chunk: &[u8],
+    limits: &[u64; 9],
+    f: usize,
+    got: &mut Numbers,
+) -> Option<usize> {
     match kind {
-        b'f' => function(chunk, limits, f, got),
-        b'o' => far_lines(chunk, limits, f, got),
+        b'f' => Some(function(chunk, limits, f, got)),
+        b'o' => Some(far_lines(chunk, limits, f, got)),
         _ => entries::entries(kind, chunk, limits, f, got),
     }
 }

@@ -5,10 +5,7 @@ use lafzimdo::entry::{
 };
 use text_list::{Numbers, ROOM};
 use vectors_answer::answer;
-use vectors_answer::answer::{one, three, two};
-
-// No list is so long.
-const BAD: usize = ROOM + 1;
+use vectors_answer::answer::array;
 
 fn instruction(
     chunk: &[u8],
@@ -20,7 +17,7 @@ fn instruction(
 ) -> usize {
     let mut out = [0u64; 1];
     let status = lafzimdo_instruction(chunk, limits, f, e, &mut out);
-    one(got, at, status, &out)
+    array(got, at, status, &out)
 }
 
 fn constant(
@@ -46,7 +43,7 @@ fn upvalue(
 ) -> usize {
     let mut out = [0u64; 3];
     let status = lafzimdo_upvalue(chunk, limits, f, e, &mut out);
-    three(got, at, status, &out)
+    array(got, at, status, &out)
 }
 
 fn delta(
@@ -59,7 +56,7 @@ fn delta(
 ) -> usize {
     let mut out = [0u64; 1];
     let status = lafzimdo_delta(chunk, limits, f, e, &mut out);
-    one(got, at, status, &out)
+    array(got, at, status, &out)
 }
 
 fn anchor(
@@ -72,7 +69,7 @@ fn anchor(
 ) -> usize {
     let mut out = [0u64; 2];
     let status = lafzimdo_anchor(chunk, limits, f, e, &mut out);
-    two(got, at, status, &out)
+    array(got, at, status, &out)
 }
 
 fn name(
@@ -88,7 +85,7 @@ fn name(
     answer::name(got, at, chunk, status, &out)
 }
 
-// One entry of the list that a letter means.
+// One entry of the list that a letter means, or none where it means no list.
 fn entry(
     kind: u8,
     chunk: &[u8],
@@ -97,35 +94,33 @@ fn entry(
     e: usize,
     got: &mut Numbers,
     at: usize,
-) -> usize {
+) -> Option<usize> {
     match kind {
-        b'i' => instruction(chunk, limits, f, e, got, at),
-        b'k' => constant(chunk, limits, f, e, got, at),
-        b'u' => upvalue(chunk, limits, f, e, got, at),
-        b'd' => delta(chunk, limits, f, e, got, at),
-        b'a' => anchor(chunk, limits, f, e, got, at),
-        b'n' => name(chunk, limits, f, e, got, at),
-        _ => BAD,
+        b'i' => Some(instruction(chunk, limits, f, e, got, at)),
+        b'k' => Some(constant(chunk, limits, f, e, got, at)),
+        b'u' => Some(upvalue(chunk, limits, f, e, got, at)),
+        b'd' => Some(delta(chunk, limits, f, e, got, at)),
+        b'a' => Some(anchor(chunk, limits, f, e, got, at)),
+        b'n' => Some(name(chunk, limits, f, e, got, at)),
+        _ => None,
     }
 }
 
-// Every entry of the list that a letter means, and the refusal behind the last.
-pub fn entries(kind: u8, chunk: &[u8], limits: &[u64; 9], f: usize, got: &mut Numbers) -> usize {
+// Every entry of the list that a letter means, and the refusal behind the last. A list that is full takes no more.
+pub fn entries(
+    kind: u8,
+    chunk: &[u8],
+    limits: &[u64; 9],
+    f: usize,
+    got: &mut Numbers,
+) -> Option<usize> {
     let mut at = 0;
-    let mut e = 0;
-    while e < ROOM {
+    for e in 0..ROOM {
         let start = at;
-        at = entry(kind, chunk, limits, f, e, got, start);
-        if at >= ROOM {
-            return at;
+        at = entry(kind, chunk, limits, f, e, got, start)?;
+        if at >= ROOM || got.get(start) != Some(&0) {
+            break;
         }
-        if start >= ROOM {
-            return at;
-        }
-        if got[start] != 0 {
-            return at;
-        }
-        e += 1;
     }
-    at
+    Some(at)
 }

@@ -1,9 +1,10 @@
-// The calls that write into lent memory. What is lent is the front of 65,536 places, each 165 before the call; behind the answer stand some of the places, and how many were written.
+// The calls that write into lent memory. What is lent is the front of 65,536 places, each 165 before the call;
+// behind the answer stand some of the places, and how many were written.
 use lafzimdo::finding::lafzimdo_findings;
 use lafzimdo::space::{lafzimdo_copy, lafzimdo_index, lafzimdo_local};
 use text_list::{Numbers, ROOM};
-use vectors_answer::answer::{one, three, two};
-use vectors_answer::lent as shown;
+use vectors_answer::answer::array;
+use vectors_answer::lent::shown;
 
 // The archive copy, written into `lent` bytes; then `count` places from `from` on, and how many were written.
 pub fn copy(
@@ -16,7 +17,7 @@ pub fn copy(
 ) -> usize {
     let mut memory = [165u8; ROOM];
     let at = copy_in(chunk, limits, &mut memory, lent, got);
-    shown::bytes(got, at, &memory, lent, from, count)
+    shown(got, at, &memory, lent, from, count)
 }
 
 fn copy_in(
@@ -31,7 +32,7 @@ fn copy_in(
     }
     let mut out = [0u64; 1];
     let status = lafzimdo_copy(chunk, limits, &mut memory[..lent], &mut out);
-    one(got, 0, status, &out)
+    array(got, 0, status, &out)
 }
 
 // The index, in the same way, written into `lent` numbers of 32 bits.
@@ -45,7 +46,7 @@ pub fn index(
 ) -> usize {
     let mut memory = [165u32; ROOM];
     let at = index_in(chunk, limits, &mut memory, lent, got);
-    shown::words(got, at, &memory, lent, from, count)
+    shown(got, at, &memory, lent, from, count)
 }
 
 fn index_in(
@@ -60,7 +61,7 @@ fn index_in(
     }
     let mut out = [0u64; 1];
     let status = lafzimdo_index(chunk, limits, &mut memory[..lent], &mut out);
-    one(got, 0, status, &out)
+    array(got, 0, status, &out)
 }
 
 // The findings, in the same way, written into `lent` numbers of 64 bits.
@@ -74,7 +75,7 @@ pub fn findings(
 ) -> usize {
     let mut memory = [165u64; ROOM];
     let at = findings_in(chunk, limits, &mut memory, lent, got);
-    shown::longs(got, at, &memory, lent, from, count)
+    shown(got, at, &memory, lent, from, count)
 }
 
 fn findings_in(
@@ -89,7 +90,7 @@ fn findings_in(
     }
     let mut out = [0u64; 2];
     let status = lafzimdo_findings(chunk, limits, &mut memory[..lent], &mut out);
-    two(got, 0, status, &out)
+    array(got, 0, status, &out)
 }
 
 fn local(
@@ -120,27 +121,19 @@ fn local_in(
     }
     let mut out = [0u64; 3];
     let status = lafzimdo_local(chunk, limits, f, e, &mut memory[..lent], &mut out);
-    let at = three(got, at, status, &out);
-    shown::bytes(got, at, memory, lent, 0, out[0] as usize)
+    let at = array(got, at, status, &out);
+    shown(got, at, memory, lent, 0, out[0] as usize)
 }
 
 // The local variables of a function, from the first up to a refusal that is not for want of memory.
 pub fn locals(chunk: &[u8], limits: &[u64; 9], f: usize, lent: usize, got: &mut Numbers) -> usize {
     let mut at = 0;
-    let mut e = 0;
-    while e < ROOM {
+    for e in 0..ROOM {
         let start = at;
         at = local(chunk, limits, f, e, lent, got, start);
-        if start >= ROOM {
-            return at;
+        if !matches!(got.get(start), Some(0 | 26)) {
+            break;
         }
-        let status = got[start];
-        if status != 0 {
-            if status != 26 {
-                return at;
-            }
-        }
-        e += 1;
     }
     at
 }

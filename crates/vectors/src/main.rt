@@ -1,5 +1,5 @@
-// Asks the exported calls what the lines on standard input ask, and compares the answers with those that the lines give (docs/PROTOCOL.md). A line of output for each difference, and last how
-// many agree and how many differ.
+// Asks the exported calls what the lines on standard input ask, and compares the answers with those that the lines
+// give (docs/PROTOCOL.md). A line of output for each difference, and last how many agree and how many differ.
 #![tactic(auto)]
 
 ghost use Rattle.std.specs.Prelude.{length};
@@ -31,12 +31,13 @@ fn answer<W: Write>(
     from: usize,
     to: usize,
 ) -> io::Result<State> {
-    let len = s.len;
-    if chunk.len() < len {
+    let Some(chunk) = chunk.get(..s.len) else {
         return bad(output, s);
+    };
+    match calls::ask(kind, chunk, limits, want, got) {
+        Some(n) => judged(output, want, from, to, got, n, s),
+        None => bad(output, s),
     }
-    let n = calls::ask(kind, &chunk[..len], limits, want, got);
-    judged(output, want, from, to, got, n, s)
 }
 
 fn respond<W: Write>(
@@ -51,8 +52,7 @@ fn respond<W: Write>(
 ) -> io::Result<State>
     requires { Within step (length buf.now) }
 {
-    let heard = hear(output, buf, step, chunk, limits, want, s)?;
-    match heard {
+    match hear(output, buf, step, chunk, limits, want, s)? {
         Heard::Done(s) => Ok(s),
         Heard::Call(s, kind, from, to) => {
             answer(output, chunk, limits, want, got, s, kind, from, to)
@@ -60,7 +60,8 @@ fn respond<W: Write>(
     }
 }
 
-// Answers every line. Nothing says that the input ends, so the loop counts its turns down from a number that no run uses up.
+// Answers every line. Nothing says that the input ends, so the loop counts its turns up to a number that no run
+// reaches.
 fn respond_all<R: Read, W: Write>(
     reader: &mut R,
     output: &mut W,
@@ -79,16 +80,13 @@ fn respond_all<R: Read, W: Write>(
         },
     };
     let mut lines = Lines::new();
-    let mut turns = u64::MAX;
-    while turns > 0 {
+    for _ in 0..u64::MAX {
         let step = input::next(reader, buf, lines);
-        let found = step.found;
-        if let Found::End = found {
-            return Ok(s);
+        if let Found::End = step.found {
+            break;
         }
         s = respond(output, buf, step, chunk, limits, want, got, s)?;
         lines = step.rest;
-        turns -= 1;
     }
     Ok(s)
 }
@@ -103,8 +101,7 @@ fn run<R: Read, W: Write>(
     got: &mut Numbers,
 ) -> io::Result<()> {
     let s = respond_all(reader, output, buf, chunk, limits, want, got)?;
-    let tally = s.tally;
-    vectors_report::totals(output, tally)
+    vectors_report::totals(output, s.tally)
 }
 
 // The buffer of the input has room for two of the longest requests (crate text_line says why).

@@ -1,7 +1,7 @@
 // Instruction words.
 use lafzimdo::word::{lafzimdo_decode, lafzimdo_encode};
 use text_list::Numbers;
-use vectors_answer::answer::{array, one};
+use vectors_answer::answer::array;
 use vectors_answer::argument::{byte, low, low_signed};
 
 // The fields of a word.
@@ -26,5 +26,5 @@ pub fn encode(f: &Numbers, got: &mut Numbers) -> usize {
         low_signed(f, 8),
         &mut out,
     );
-    one(got, 0, status, &out)
+    array(got, 0, status, &out)
 }

@@ -1,5 +1,5 @@
 // What a call returns, and where that is 0 the numbers of its array.
-use text_list::{Numbers, bytes, longs, push};
+use text_list::{Numbers, numbers, push};
 
 // What is returned, and where that is 0 the array.
 pub fn array(got: &mut Numbers, at: usize, status: u64, out: &[u64]) -> usize {
@@ -7,26 +7,13 @@ pub fn array(got: &mut Numbers, at: usize, status: u64, out: &[u64]) -> usize {
     if status != 0 {
         return at;
     }
-    longs(got, at, out, 0, out.len())
-}
-
-// The same of one number, of two, of three: behind a reference to an array its length is known.
-pub fn one(got: &mut Numbers, at: usize, status: u64, out: &[u64; 1]) -> usize {
-    array(got, at, status, out)
-}
-
-pub fn two(got: &mut Numbers, at: usize, status: u64, out: &[u64; 2]) -> usize {
-    array(got, at, status, out)
-}
-
-pub fn three(got: &mut Numbers, at: usize, status: u64, out: &[u64; 3]) -> usize {
-    array(got, at, status, out)
+    numbers(got, at, out, 0, out.len())
 }
 
 // A string: its length, then its bytes, which are taken from the chunk.
 fn string(got: &mut Numbers, at: usize, chunk: &[u8], place: u64, len: u64) -> usize {
     let at = push(got, at, len);
-    bytes(got, at, chunk, place as usize, len as usize)
+    numbers(got, at, chunk, place as usize, len as usize)
 }
 
 // Of a summary the array, and the trailing bytes.
@@ -35,7 +22,7 @@ pub fn summary(got: &mut Numbers, chunk: &[u8], status: u64, out: &[u64; 15]) ->
     if status != 0 {
         return at;
     }
-    bytes(got, at, chunk, out[8] as usize, out[9] as usize)
+    numbers(got, at, chunk, out[8] as usize, out[9] as usize)
 }
 
 // Of a function the array, with the bytes of its source.
@@ -44,9 +31,9 @@ pub fn function(got: &mut Numbers, chunk: &[u8], status: u64, out: &[u64; 18]) -
     if status != 0 {
         return at;
     }
-    let at = longs(got, at, out, 0, 3);
+    let at = numbers(got, at, out, 0, 3);
     let at = string(got, at, chunk, out[3], out[4]);
-    longs(got, at, out, 5, 13)
+    numbers(got, at, out, 5, 13)
 }
 
 // Of a constant its kind, and its bytes or its value.

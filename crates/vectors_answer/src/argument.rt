@@ -1,30 +1,19 @@
 // The numbers of a request.
-use text_list::{Numbers, ROOM};
+use text_list::Numbers;
 
 // An argument, and its low bits.
 fn argument(f: &Numbers, i: usize) -> u64 {
-    if i < ROOM {
-        return f[i];
-    }
-    0
+    f.get(i).copied().unwrap_or(0)
 }
 
 pub fn byte(f: &Numbers, i: usize) -> u8 {
-    (argument(f, i) % 256) as u8
+    (argument(f, i) & 0xff) as u8
 }
 
 pub fn low(f: &Numbers, i: usize) -> u32 {
-    (argument(f, i) % 4294967296) as u32
+    (argument(f, i) & 0xffff_ffff) as u32
 }
 
 pub fn low_signed(f: &Numbers, i: usize) -> i32 {
-    signed(argument(f, i))
-}
-
-fn signed(x: u64) -> i32 {
-    let n = x % 4294967296;
-    if n < 2147483648 {
-        return n as i32;
-    }
-    -1 - (4294967295 - n) as i32
+    low(f, i).cast_signed()
 }

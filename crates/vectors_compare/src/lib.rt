@@ -11,50 +11,23 @@ pub fn first_difference(a: &[u64], b: &[u64]) -> usize
     ensures by_index { (k : ℕ) → k < result → get_or a.now k 0 ≡ get_or b.now k 0 }
     ensures fact { result < length a.now → result < length b.now → get_or a.now result 0 ≡ get_or b.now result 0 → ⊥ }
 {
-    let mut i = 0;
-    while i < a.len() {
-        if b.len() <= i {
+    for (i, x) in a.iter().enumerate() {
+        if b.get(i) != Some(x) {
             return i;
         }
-        if a[i] != b[i] {
-            return i;
-        }
-        i += 1;
     }
-    i
+    a.len()
 }
 
-// Whether two lists are the same.
-// Ruled out: a comparison that cannot fail, one that stops before the end, lengths that are not compared.
-fn same(a: &[u64], b: &[u64]) -> bool
-    ensures { (result ≡ true → a.now ≡ b.now) × (a.now ≡ b.now → result ≡ true) }
-{
-    if a.len() != b.len() {
-        return false;
-    }
-    let at = first_difference(a, b);
-    if at < a.len() {
-        return false;
-    }
-    true
-}
-
-// Whether the first n numbers that came are those that are wanted, from one place to another. A list that is full may have been cut, and agrees with none.
+// Whether the first n numbers that came are those that are wanted, from one place to another. A list that is full
+// may have been cut, and agrees with none.
+// The places stand beside the lists, and not slices: whether a list is full is part of what is asked.
 // Ruled out: an answer that is not compared, or only as far as it goes.
 pub fn agrees(want: &[u64], from: usize, to: usize, got: &[u64], n: usize) -> bool
     ensures fitting { result ≡ true → Fitting want.now from to got.now n × Alike want.now from to got.now n }
     ensures value { Fitting want.now from to got.now n → Alike want.now from to got.now n → result ≡ true }
 {
-    if to < from {
-        return false;
-    }
-    if want.len() <= to {
-        return false;
-    }
-    if got.len() <= n {
-        return false;
-    }
-    same(&want[from..to], &got[..n])
+    from <= to && to < want.len() && n < got.len() && want[from..to] == got[..n]
 }
 
 // How many answers agreed, and how many differed.
@@ -64,24 +37,14 @@ pub struct Tally {
     pub differ: u64,
 }
 
-fn more(n: u64) -> u64
-    ensures { n < 18446744073709551615 → result ≡ n + 1 }
-{
-    if n < u64::MAX {
-        return n + 1;
-    }
-    n
-}
-
 // One more that agrees.
 fn agreed(t: Tally) -> Tally
     ensures differ_value { result.differ ≡ t.differ }
     ensures agree_value { t.agree < 18446744073709551615 → result.agree ≡ t.agree + 1 }
 {
-    let agree = more(t.agree);
     Tally {
-        agree,
-        differ: t.differ,
+        agree: t.agree.saturating_add(1),
+        ..t
     }
 }
 
@@ -90,20 +53,23 @@ pub fn differed(t: Tally) -> Tally
     ensures agree_value { result.agree ≡ t.agree }
     ensures differ_value { t.differ < 18446744073709551615 → result.differ ≡ t.differ + 1 }
 {
-    let differ = more(t.differ);
     Tally {
-        agree: t.agree,
-        differ,
+        differ: t.differ.saturating_add(1),
+        ..t
     }
 }
 
 // Counts an answer of n numbers, held against those that are wanted.
 // Ruled out: an answer that differs and is not counted so, one that agrees and is counted as a difference.
 pub fn counted(t: Tally, want: &[u64], from: usize, to: usize, got: &[u64], n: usize) -> Tally
-    ensures agree_value { (Fitting want.now from to got.now n × Alike want.now from to got.now n → ⊥) → result.agree ≡ t.agree }
-    ensures differ_value { (Fitting want.now from to got.now n × Alike want.now from to got.now n → ⊥) → t.differ < 18446744073709551615 → result.differ ≡ t.differ + 1 }
-    ensures differ_value_2 { Fitting want.now from to got.now n → Alike want.now from to got.now n → result.differ ≡ t.differ }
-    ensures agree_value_2 { Fitting want.now from to got.now n → Alike want.now from to got.now n → t.agree < 18446744073709551615 → result.agree ≡ t.agree + 1 }
+    ensures agree_value { (Fitting want.now from to got.now n × Alike want.now from to got.now n → ⊥)
+        → result.agree ≡ t.agree }
+    ensures differ_value { (Fitting want.now from to got.now n × Alike want.now from to got.now n → ⊥)
+        → t.differ < 18446744073709551615 → result.differ ≡ t.differ + 1 }
+    ensures differ_value_2 { Fitting want.now from to got.now n → Alike want.now from to got.now n
+        → result.differ ≡ t.differ }
+    ensures agree_value_2 { Fitting want.now from to got.now n → Alike want.now from to got.now n
+        → t.agree < 18446744073709551615 → result.agree ≡ t.agree + 1 }
 {
     if agrees(want, from, to, got, n) {
         return agreed(t);

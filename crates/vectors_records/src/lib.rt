@@ -1,4 +1,5 @@
-// The findings as records, in the list that `validate_findings::validate_chunk_lua54` fills: no call behind C, but the form that a caller in Rattle has.
+// The findings as records, in the list that `validate_findings::validate_chunk_lua54` fills: no call behind C, but
+// the form that a caller in Rattle has.
 #![tactic(auto)]
 
 use c_boundary::signed::complement_of;
@@ -6,7 +7,6 @@ use c_boundary::{limits_of, refused};
 use c_finding::verdict_number;
 use text_list::Numbers;
 use validate_findings::array::chunk_findings;
-use validate_plan::FindingsAnswer;
 use validate_rules::finding::{Finding, MAX_DIAGNOSTICS, Rule, Severity, Verdict};
 use validate_verdict::tally::severity;
 
@@ -21,8 +21,8 @@ pub fn findings(chunk: &[u8], limits: &[u64; 9], got: &mut Numbers) -> usize {
     let answer = found.answer;
     let records = found.list;
     match answer {
-        FindingsAnswer::Err(q) => text_list::push(got, 0, refused(q)),
-        FindingsAnswer::Ok { verdict, count } => {
+        Err(q) => text_list::push(got, 0, refused(q)),
+        Ok((verdict, count)) => {
             let at = totals(got, verdict, count);
             all_of(got, at, records, count)
         }
@@ -37,13 +37,8 @@ fn totals(got: &mut Numbers, verdict: Verdict, count: usize) -> usize {
 
 fn all_of(got: &mut Numbers, at: usize, records: Records, count: usize) -> usize {
     let mut at = at;
-    let mut k = 0;
-    while k < LONGEST {
-        if count <= k {
-            return at;
-        }
-        at = record(got, at, records[k]);
-        k += 1;
+    for finding in records.iter().take(count) {
+        at = record(got, at, *finding);
     }
     at
 }

@@ -21,11 +21,13 @@ fn number<W: Write>(
     requires { Fits used }
     ensures { IfOk result (λ after. Fits after) }
 {
-    if at < numbers.len() {
-        return text_print::field(output, out, used, label, numbers[at]);
+    match numbers.get(at) {
+        Some(n) => text_print::field(output, out, used, label, *n),
+        None => {
+            let used = text_print::text(output, out, used, label)?;
+            text_print::text(output, out, used, b"nothing")
+        }
     }
-    let used = text_print::text(output, out, used, label)?;
-    text_print::text(output, out, used, b"nothing")
 }
 
 // The first number that differs: its place, and what it is in each list.
@@ -81,13 +83,7 @@ pub fn difference<W: Write>(
     if to < from {
         return no_request(output, line);
     }
-    if text_list::ROOM < n {
-        return no_request(output, line);
-    }
-    if want.len() <= to {
-        return too_long(output, line);
-    }
-    if got.len() <= n {
+    if want.len() <= to || got.len() <= n {
         return too_long(output, line);
     }
     reported(output, line, &want[from..to], &got[..n])

@@ -7,8 +7,8 @@ use std::io;
 use std::io::Write;
 use text_line::{Found, LONGEST, Step};
 use text_list::Numbers;
-use text_read::hex::Length;
-use text_read::{hex, spelt, token};
+use text_read::spelt::Spelt;
+use text_read::{hex, spelt};
 
 // The longest chunk.
 pub const LONGEST_CHUNK: usize = 65536;
@@ -25,22 +25,13 @@ pub enum Heard {
 // `chunk HEX`
 fn chunk_line<W: Write>(
     output: &mut W,
-    line: &[u8],
+    spelling: &[u8],
     chunk: &mut Chunk,
     s: State,
 ) -> io::Result<State> {
-    if line.len() < 6 {
-        return bad(output, s);
-    }
-    let read = hex::read(&line[6..], chunk);
-    let tally = s.tally;
-    match read {
-        Length::None => bad(output, s),
-        Length::Value(len) => Ok(State {
-            len,
-            lines: s.lines,
-            tally,
-        }),
+    match hex::read(spelling, chunk) {
+        None => bad(output, s),
+        Some(len) => Ok(State { len, ..s }),
     }
 }
 
@@ -52,20 +43,33 @@ fn limits_line<W: Write>(
     want: &mut Numbers,
     s: State,
 ) -> io::Result<State> {
-    let spelt = spelt::numbers(line, 7, want);
-    if spelt.to != 9 {
-        return bad(output, s);
+    match spelt::numbers(line, 7, want) {
+        Some(Spelt { to: 9, .. }) => {
+            limits.copy_from_slice(&want[..9]);
+            Ok(s)
+        }
+        _ => bad(output, s),
     }
-    *limits = [
-        want[0], want[1], want[2], want[3], want[4], want[5], want[6], want[7], want[8],
-    ];
-    Ok(s)
 }
 
 // `LETTER ARGUMENTS = NUMBERS`
-fn call_line(line: &[u8], kind: u8, want: &mut Numbers, s: State) -> Heard {
-    let spelt = spelt::numbers(line, 1, want);
-    Heard::Call(s, kind, spelt.from, spelt.to)
+fn call_line<W: Write>(
+    output: &mut W,
+    line: &[u8],
+    kind: u8,
+    want: &mut Numbers,
+    s: State,
+) -> io::Result<Heard> {
+    match spelt::numbers(line, 1, want) {
+        Some(
+            Spelt {
+                from: Some(from),
+                to,
+                ..
+            },
+        ) => Ok(Heard::Call(s, kind, from, to)),
+        _ => Ok(Heard::Done(bad(output, s)?)),
+    }
 }
 
 // What a line says that is a request.
@@ -78,13 +82,13 @@ fn request<W: Write>(
     want: &mut Numbers,
     s: State,
 ) -> io::Result<Heard> {
-    if token::begins(line, b"chunk ") {
-        return Ok(Heard::Done(chunk_line(output, line, chunk, s)?));
+    if let Some(spelling) = line.strip_prefix(b"chunk ") {
+        return Ok(Heard::Done(chunk_line(output, spelling, chunk, s)?));
     }
-    if token::begins(line, b"limits ") {
+    if line.starts_with(b"limits ") {
         return Ok(Heard::Done(limits_line(output, line, limits, want, s)?));
     }
-    Ok(call_line(line, kind, want, s))
+    call_line(output, line, kind, want, s)
 }
 
 // What a line says. An empty line and a comment ask nothing.
@@ -96,17 +100,11 @@ fn hear_line<W: Write>(
     want: &mut Numbers,
     s: State,
 ) -> io::Result<Heard> {
-    if line.len() == 0 {
-        return Ok(Heard::Done(s));
+    match line.first() {
+        None | Some(b'#') => Ok(Heard::Done(s)),
+        Some(_) if line.len() > LONGEST => Ok(Heard::Done(long(output, s)?)),
+        Some(kind) => request(output, line, *kind, chunk, limits, want, s),
     }
-    let kind = line[0];
-    if kind == b'#' {
-        return Ok(Heard::Done(s));
-    }
-    if line.len() > LONGEST {
-        return Ok(Heard::Done(long(output, s)?));
-    }
-    request(output, line, kind, chunk, limits, want, s)
 }
 
 // What a step over the input has found: the numbers of a call are then in `want`.
@@ -121,15 +119,10 @@ pub fn hear<W: Write>(
 ) -> io::Result<Heard>
     requires { Within step (length buf.now) }
 {
-    let found = step.found;
-    let from = step.from;
-    let to = step.to;
-    match found {
-        Found::Line => {
-            let s = next_line(s);
-            hear_line(output, &buf[from..to], chunk, limits, want, s)
+    match step.found {
+        Found::Line(from, to) => {
+            hear_line(output, &buf[from..to], chunk, limits, want, next_line(s))
         }
-        Found::Nothing => Ok(Heard::Done(s)),
-        Found::End => Ok(Heard::Done(s)),
+        Found::Nothing | Found::End => Ok(Heard::Done(s)),
     }
 }

@@ -24,11 +24,9 @@ pub fn long<W: Write>(output: &mut W, s: State) -> io::Result<State> {
 }
 
 fn one_differs(s: State) -> State {
-    let tally = differed(s.tally);
     State {
-        len: s.len,
-        lines: s.lines,
-        tally,
+        tally: differed(s.tally),
+        ..s
     }
 }
 
@@ -45,24 +43,16 @@ pub fn judged<W: Write>(
     if !agrees(want, from, to, got, n) {
         vectors_report::difference(output, s.lines, want, from, to, got, n)?;
     }
-    let tally = counted(s.tally, want, from, to, got, n);
     Ok(State {
-        len: s.len,
-        lines: s.lines,
-        tally,
+        tally: counted(s.tally, want, from, to, got, n),
+        ..s
     })
 }
 
 // One line more.
 pub fn next_line(s: State) -> State {
-    let tally = s.tally;
-    let mut lines = s.lines;
-    if lines < u64::MAX {
-        lines += 1;
-    }
     State {
-        len: s.len,
-        lines,
-        tally,
+        lines: s.lines.saturating_add(1),
+        ..s
     }
 }

@@ -16,46 +16,46 @@ pub function_lines-requires-clause-max_total_instructions_bound :
 function_lines-requires-clause-max_total_instructions_bound g c =
     let a = c.args in
     let d = c.in-Ok.summary in
-    let e = sym c.in-Ok.is ∙ c.judge_chunk-judged.ensures in
+    let e = sym c.in-Ok.is ∙ c.judge_chunk.ensures in
     (few_instructions a.limits a.s.now d e, all-counted a.limits a.s.now d e)
 
-pub returns-in-Err-clause-result_after : goal.returns-in-Err-clause-result_after
-returns-in-Err-clause-result_after g c =
+pub returns-in_default-clause-result_after : goal.returns-in_default-clause-result_after
+returns-in_default-clause-result_after g c =
     let a = c.args in
     let none = refused-lines (length a.s.now) a.verdict (read a.limits a.s.now) _
-    (sym c.in-Err.is ∙ c.judge_chunk-judged.ensures) in
+    (sym c.in_default.is ∙ c.judge_chunk.ensures) in
     nothing _ ∙ ap (λ l. puts l (waiting a.out.now a.used)) none
 
-pub returns-in_err-used-in-Ok-clause-given : goal.returns-in_err-used-in-Ok-clause-given
-returns-in_err-used-in-Ok-clause-given g c =
+pub returns-in_err-used-clause-given : goal.returns-in_err-used-clause-given
+returns-in_err-used-clause-given g c =
     let a = c.args in
     let d = c.in-Ok.summary in
     let waits = take a.used a.out.now in
     let line = first_line (length a.s.now) d.functions d.trailing_len a.verdict in
     let rows = row_lines 0 (chunk_rows a.limits a.s.now 32) in
     lines_printed a.limits a.s.now d
-    (sym c.in-Ok.is ∙ c.judge_chunk-judged.ensures) a.verdict c.first_line.new.out c.from_residual.result _ _ waits
+    (sym c.in-Ok.is ∙ c.judge_chunk.ensures) a.verdict c.first_line.new.out c.from_residual.result _ _ waits
     (printed_err _ _ _ _ c.from_residual.result c.from_residual.ensures.0
-    (stops _ _ _ _ waits line rows (begins (g.W.Write.contents a.to.now) _) c.in_err-used-in-Ok.ensures.given))
+    (stops _ _ _ _ waits line rows (begins (g.W.Write.contents a.to.now) _) c.in_err-used.ensures.given))
 
-pub returns-in_ok-used-in-Ok-clause-result_after : goal.returns-in_ok-used-in-Ok-clause-result_after
-returns-in_ok-used-in-Ok-clause-result_after g c =
+pub returns-clause-result_after : goal.returns-clause-result_after
+returns-clause-result_after g c =
     let a = c.args in
     chunk_put_ok a.limits a.s.now c.in-Ok.summary
-    (sym c.in-Ok.is ∙ c.judge_chunk-judged.ensures) a.verdict c.function_lines.new.out c.function_lines.result
-    (waiting a.out.now a.used) c.in_ok-used-in-Ok.ensures.result_after c.function_lines.ensures.result_after
+    (sym c.in-Ok.is ∙ c.judge_chunk.ensures) a.verdict c.function_lines.new.out c.function_lines.result
+    (waiting a.out.now a.used) c.in_ok-used.ensures.result_after c.function_lines.ensures.result_after
 
-pub returns-in_ok-used-in-Ok-clause-given : goal.returns-in_ok-used-in-Ok-clause-given
-returns-in_ok-used-in-Ok-clause-given g c =
+pub returns-clause-given : goal.returns-clause-given
+returns-clause-given g c =
     let a = c.args in
     let d = c.in-Ok.summary in
     let waits = take a.used a.out.now in
     let line = first_line (length a.s.now) d.functions d.trailing_len a.verdict in
     let rows = row_lines 0 (chunk_rows a.limits a.s.now 32) in
     lines_printed a.limits a.s.now d
-    (sym c.in-Ok.is ∙ c.judge_chunk-judged.ensures) a.verdict c.function_lines.new.out c.function_lines.result _ _ waits
+    (sym c.in-Ok.is ∙ c.judge_chunk.ensures) a.verdict c.function_lines.new.out c.function_lines.result _ _ waits
     (ends _ (g.W.Write.contents c.first_line.new.to) _ _
-    (take c.in_ok-used-in-Ok.used c.first_line.new.out) rows c.function_lines.new.out c.function_lines.result
+    (take c.in_ok-used.used c.first_line.new.out) rows c.function_lines.new.out c.function_lines.result
     (put_next _ _ _ _ waits line rows
-    (begins (g.W.Write.contents a.to.now) (waits ++ (line ++ rows))) _ c.in_ok-used-in-Ok.ensures.given)
+    (begins (g.W.Write.contents a.to.now) (waits ++ (line ++ rows))) _ c.in_ok-used.ensures.given)
     c.function_lines.ensures.given)

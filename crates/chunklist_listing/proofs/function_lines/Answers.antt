@@ -21,25 +21,25 @@ loop-row-init g c =
       rw whole (begins (g.W.Write.contents a.to.now) _),
     )
 
-pub returns-in_default-clause-result_after : goal.returns-in_default-clause-result_after
-returns-in_default-clause-result_after g c = nothing _ ∙ rw
+pub returns-clause-result_after : goal.returns-clause-result_after
+returns-clause-result_after g c = nothing _ ∙ rw
     (c.next_function.ensures.0, c.in_default.is) at c.loop-row.invariant.3
 
 pub returns-in_err-used-clause-given : goal.returns-in_err-used-clause-given
 returns-in_err-used-clause-given g c =
     let l = c.loop-row in
     printed_err _ _ _ _ c.from_residual.result c.from_residual.ensures.0
-    (stops _ (g.W.Write.contents l.to) _ _ (take l.used l.out) (row_line l.number c.in-Function.row) _
-    (rw c.in-Function.ensures.0 at l.invariant.4) c.in_err-used.ensures.given)
+    (stops _ (g.W.Write.contents l.to) _ _ (take l.used l.out) (row_line l.number c.in-Some.row) _
+    (rw c.in-Some.ensures.0 at l.invariant.4) c.in_err-used.ensures.given)
 
 pub loop-row-preserved : goal.loop-row-preserved
 loop-row-preserved g c =
     let l = c.loop-row in
-    let row = c.in-Function.row in
+    let row = c.in-Some.row in
     let rest = row_lines (l.number + 1)
-    (rows_from c.args.limits c.args.s.now (entered l.left c.in-Function.d row.protos)
-    (c.in-Function.d + 1) c.in-Function.first.at) in
-    let met = c.in-Function.ensures.0 in (
+    (rows_from c.args.limits c.args.s.now (entered l.left c.in-Some.d row.protos)
+    (c.in-Some.d + 1) c.in-Some.first.at) in
+    let met = c.in-Some.ensures.0 in (
       rw (c.go_down.ensures, length-set, length-set) l.invariant.0,
       rw c.go_down.ensures (omega (arith, rw met at l.invariant.1)),
       c.in_ok-used.ensures.fits,

@@ -1,25 +1,22 @@
 -- Numbers as a request spells them.
 --     spelt base most s     the number that s spells in base, where it is at most `most`
-use Rattle.std.specs.Prelude.{cond, ℕ, ◌+◌, ◌-◌, ◌*◌, ◌≤◌, List, [], ◌∷◌, leb, ltb}
-use Rattle.text_read.specs.declared.number.Number.{Number}
-use Rattle.text_read.specs.declared.number.Number.TheVariants.{Value, None}
+use Rattle.std.specs.Prelude.{cond, ℕ, ◌+◌, ◌-◌, ◌*◌, List, [], ◌∷◌, eqb, leb, ltb, length, Option, Some, None}
 
--- a byte as a digit: `0` to `9`, then `a` to `f`, and 255 for any other
-abbrev pub digit_of : ℕ → ℕ
-digit_of b = cond (ltb b 48) 255 (cond (ltb b 58) (b - 48) (cond (ltb b 97) 255 (cond (ltb b 103) (b - 87) 255)))
+-- a byte as a digit: `0` to `9`, then `a` to `f`
+abbrev pub digit_of : ℕ → Option ℕ
+digit_of b = cond (ltb b 48) None
+    (cond (ltb b 58) (Some (b - 48)) (cond (ltb b 97) None (cond (ltb b 103) (Some (b - 87)) None)))
 
--- the digits s behind the number n
-unfoldable pub spelling : ℕ → ℕ → ℕ → List ℕ → Number
-spelling base most n [] = Value n
-spelling base most n (b ∷ s) =
-    let more = spelling base most (n * base + digit_of b) s in
-    cond (ltb (digit_of b) base) (cond (leb (n * base + digit_of b) most) more None) None
+-- the digit d behind the number n, where what then stands there is at most `most`
+abbrev pub with_digit : ℕ → ℕ → ℕ → Option ℕ → Option ℕ
+with_digit base most n None = None
+with_digit base most n (Some d) = cond (ltb d base) (cond (leb (n * base + d) most) (Some (n * base + d)) None) None
 
-unfoldable pub spelt : ℕ → ℕ → List ℕ → Number
-spelt base most [] = None
-spelt base most (b ∷ s) = spelling base most 0 (b ∷ s)
+-- the digits s behind a number
+unfoldable pub spelling : ℕ → ℕ → Option ℕ → List ℕ → Option ℕ
+spelling base most None s = None
+spelling base most (Some n) [] = Some n
+spelling base most (Some n) (b ∷ s) = spelling base most (with_digit base most n (digit_of b)) s
 
--- a number is at most m
-abbrev pub Most : ℕ → Number → Type 0
-Most m (Value n) = n ≤ m
-Most m None = Unit {0}
+abbrev pub spelt : ℕ → ℕ → List ℕ → Option ℕ
+spelt base most s = cond (eqb (length s) 0) None (spelling base most (Some 0) s)

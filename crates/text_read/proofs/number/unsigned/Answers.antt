@@ -1,79 +1,65 @@
--- `text_read::number::unsigned` meets its contract. The invariant: what the whole spells is what the rest spells behind
--- the value. The measure
--- is what is left of the digits. Assumes nothing.
-use mathlib.Core.Path.{sym, ◌∙◌}
-use native.Mathlib.Omega.{arith}
-use borrow.Author.Rules.{rules}
-use Rattle.text_read.proofs.NumberLaws.{
-  above,
-  within,
-  spelling-end,
-  no_digit,
-  too_large,
-  one_digit,
-  spelt_empty,
-  spelt-all,
-}
+-- `text_read::number::unsigned` meets its contract: each digit by its law (NumberLaws.antt). Assumes nothing.
+use Rattle.std.proofs.Common.{◌≡◌, ◌+◌, ◌*◌, ◌∙◌, Some, drop, ap, sym, arith, rules}
+use Rattle.text_read.specs.Inner.Numbers.{spelling}
+use Rattle.text_read.proofs.NumberLaws.{spelling-end, no_digit, above, too_large, one_digit}
 use Rattle.text_read.proofs.number.unsigned.Goals as goal
 
-pub returns-then-s-eq0 : goal.returns-then-s-eq0
-returns-then-s-eq0 c = record { most = tt; value = sym (spelt_empty _ _ _ c.if-s-eq0.true) }
+pub returns-in_err-digit-clause-value : goal.returns-in_err-digit-clause-value
+returns-in_err-digit-clause-value c =
+    let l = c.loop-b in
+    c.from_residual.ensures
+    ∙ sym (no_digit c.args.base c.args.most l.value c.args.s.now l.b-index c.loop-b-test.true
+    (sym c.digit.ensures.value ∙ c.in_err-digit.was))
+    ∙ l.invariant.1
 
-pub loop-i-init : goal.loop-i-init
-loop-i-init c = (search rules, search rules, sym (spelt-all _ _ _ c.if-s-eq0.false))
+pub returns-then-base-d-clause-value : goal.returns-then-base-d-clause-value
+returns-then-base-d-clause-value c =
+    let l = c.loop-b in
+    sym (above c.args.base c.args.most l.value c.args.s.now l.b-index c.loop-b-test.true c.from-d.result
+    (sym c.digit.ensures.value ∙ c.in_ok-digit.was ∙ ap Some (sym c.from-d.ensures)) c.if-base-d.true)
+    ∙ l.invariant.1
 
-pub returns-then-base-d : goal.returns-then-base-d
-returns-then-base-d c =
-    let l = c.loop-i in record {
-      most = tt;
-      value = sym
-          (no_digit _ _ l.value _ l.i _ (search rules) c.digit-d.ensures c.if-base-d.true) ∙ l.invariant.2;
-    }
+pub returns-in_err-checked_mul-clause-value : goal.returns-in_err-checked_mul-clause-value
+returns-in_err-checked_mul-clause-value c =
+    let l = c.loop-b in
+    c.from_residual-in_err-checked_mul.ensures
+    ∙ sym (too_large c.args.base c.args.most l.value c.args.s.now l.b-index c.loop-b-test.true c.from-d.result
+    (sym c.digit.ensures.value ∙ c.in_ok-digit.was ∙ ap Some (sym c.from-d.ensures)) (omega arith)
+    (omega (arith, c.in_err-checked_mul.ensures)))
+    ∙ l.invariant.1
 
-pub returns-then-most-d : goal.returns-then-most-d
-returns-then-most-d c =
-    let l = c.loop-i in
-    let a = c.args in
-    let d = c.digit-d.result in record {
-      most = tt;
-      value = sym (too_large a.base a.most l.value _ l.i d (search rules) c.digit-d.ensures (search rules)
-          (above a.base a.most d l.value (search rules) (search rules) c.if-most-d.true))
-          ∙ l.invariant.2;
-    }
+pub returns-in_err-value-clause-value : goal.returns-in_err-value-clause-value
+returns-in_err-value-clause-value c =
+    let l = c.loop-b in
+    c.from_residual-in_err-value.ensures
+    ∙ sym (too_large c.args.base c.args.most l.value c.args.s.now l.b-index c.loop-b-test.true c.from-d.result
+    (sym c.digit.ensures.value ∙ c.in_ok-digit.was ∙ ap Some (sym c.from-d.ensures)) (omega arith)
+    (omega (arith, c.in_ok-checked_mul.ensures, c.in_err-value.ensures)))
+    ∙ l.invariant.1
 
-pub overflow_mul-value : goal.overflow_mul-value
-overflow_mul-value c =
-    record {
-      fits = omega (
-        arith,
-        within c.args.base c.args.most c.digit-d.result c.loop-i.value (search rules)
-            (search rules) c.if-most-d.false,
-      );
-    }
+pub returns-then-most-value-clause-value : goal.returns-then-most-value-clause-value
+returns-then-most-value-clause-value c =
+    let l = c.loop-b in
+    sym (too_large c.args.base c.args.most l.value c.args.s.now l.b-index c.loop-b-test.true c.from-d.result
+    (sym c.digit.ensures.value ∙ c.in_ok-digit.was ∙ ap Some (sym c.from-d.ensures)) (omega arith)
+    (omega (arith, c.in_ok-checked_mul.ensures, c.in_ok-value.ensures)))
+    ∙ l.invariant.1
 
-pub overflow_add-value : goal.overflow_add-value
-overflow_add-value c =
-    record {
-      fits = omega (
-        arith,
-        within c.args.base c.args.most c.digit-d.result c.loop-i.value (search rules)
-            (search rules) c.if-most-d.false,
-      );
-    }
-
-pub loop-i-preserved : goal.loop-i-preserved
-loop-i-preserved c =
-    let l = c.loop-i in (
+pub loop-b-preserved : goal.loop-b-preserved
+loop-b-preserved c =
+    let l = c.loop-b in
+    let d = c.from-d.result in
+    let e : c.in_ok-value.value ≡ l.value * c.args.base + d =
+    omega (arith, c.in_ok-checked_mul.ensures, c.in_ok-value.ensures) in (
       search rules,
-      within c.args.base c.args.most c.digit-d.result c.loop-i.value (search rules) (search rules) c.if-most-d.false,
-      sym (one_digit _ _ l.value _ l.i _ (search rules) c.digit-d.ensures (search rules)
-          (within c.args.base c.args.most c.digit-d.result c.loop-i.value (search rules)
-          (search rules) c.if-most-d.false)) ∙ l.invariant.2,
+      ap (λ n. spelling c.args.base c.args.most (Some n) (drop (l.b-index + 1) c.args.s.now)) e
+          ∙ sym (one_digit c.args.base c.args.most l.value c.args.s.now l.b-index c.loop-b-test.true d
+          (sym c.digit.ensures.value ∙ c.in_ok-digit.was ∙ ap Some (sym c.from-d.ensures)) (omega arith)
+          (omega (arith, e)))
+          ∙ l.invariant.1,
     )
 
-pub returns : goal.returns
-returns c = record {
-  most = search rules;
-  value = sym (spelling-end _ _ _ _ c.loop-i.i (search rules))
-      ∙ c.loop-i.invariant.2;
-}
+pub returns-clause-value : goal.returns-clause-value
+returns-clause-value c =
+    let l = c.loop-b in
+    sym (spelling-end c.args.base c.args.most l.value c.args.s.now l.b-index (omega arith)) ∙ l.invariant.1
