@@ -6,6 +6,8 @@
 -- (`decode` refuses no word; `string_bytes` shows bytes of any place.)
 -- Refused by these: a call that answers nothing but refusals, one that refuses what it could show, one that answers Ok of another function or entry, one that answers Ok and writes nothing.
 -- Assumes nothing.
+use Rattle.std.specs.Prelude.{Result, Ok, Err}
+use Rattle.format.specs.declared.refusal.Refusal.{Refusal}
 use mathlib.Core.Path.{◌≡◌, refl, sym, ◌∙◌, ap}
 use mathlib.Core.Bool.{Bool, true, false, cond}
 use mathlib.Core.List.{List, [], ◌∷◌, ◌++◌}
@@ -17,7 +19,9 @@ use lib.ListN.{length, drop, get_elem?}
 use mir.Syntax.{w8}
 use mir.Val.{to_z}
 use borrow.Author.Tests.{le-leb}
+use Rattle.std.specs.Prelude as prelude
 use Rattle.format.specs.declared.limits.ResourceLimits.{ResourceLimits}
+use Rattle.format.specs.declared.refusal.Refusal.{Refusal}
 use Rattle.format.specs.declared.refusal.Refusal.TheVariants as refusals
 use Rattle.format.specs.declared.refusal.Report.{Report}
 use Rattle.format.specs.Refusals.{bare}
@@ -30,38 +34,21 @@ use Rattle.format_spelling.specs.ReadSpelling.{spelling}
 use Rattle.read_field.specs.Shown.{option_string}
 use Rattle.read_entry.specs.Shown.{constant_value}
 use Rattle.show_row.specs.Asked.{Asked, found, or_refuse, function_of, entry_in, entry_of}
-use Rattle.index.specs.declared.IndexAnswer.TheVariants as index-answer
 use Rattle.index.specs.Index.{index, shown_index, index_written}
-use Rattle.line_lookup.specs.declared.line.LineAnswer.TheVariants as line-answer
 use Rattle.line_lookup.specs.Lines.{large, line_of, shown_line}
-use Rattle.copy.specs.declared.whole.CopyAnswer.TheVariants as copy-answer
 use Rattle.copy.specs.Copied.{shown_length, shown_copy, copy_written}
 use Rattle.copy_full.specs.InFull.{shown_full_length, shown_full, full_written}
-use Rattle.show_chunk.specs.declared.summary.SummaryAnswer.TheVariants as summary-answer
-use Rattle.show_chunk.specs.declared.fields.FieldsAnswer.TheVariants as fields-answer
 use Rattle.read_chunk.specs.Decoded.{summary_of}
 use Rattle.show_chunk.specs.Summaries.{shown_summary, trailing_of}
 use Rattle.show_chunk.specs.Fields.{fields_of, shown_fields}
-use Rattle.show_entry.specs.declared.WordAnswer.TheVariants as word-answer
-use Rattle.show_entry.specs.declared.ConstantAnswer.TheVariants as constant-answer
-use Rattle.show_entry.specs.declared.UpvalueAnswer.TheVariants as upvalue-answer
-use Rattle.show_entry.specs.declared.DeltaAnswer.TheVariants as delta-answer
-use Rattle.show_entry.specs.declared.AnchorAnswer.TheVariants as anchor-answer
-use Rattle.show_entry.specs.declared.NameAnswer.TheVariants as name-answer
 use Rattle.show_entry.specs.Entries.{shown_word, shown_constant, shown_upvalue, shown_delta, shown_anchor, shown_name}
-use Rattle.show_local.specs.declared.LocalAnswer.TheVariants as local-answer
 use Rattle.show_local.specs.Locals.{shown_local, name_written}
 use Rattle.validate_rules.specs.declared.finding.Finding.{Finding}
 use Rattle.validate_rules.specs.Findings.{chunk_findings, verdict}
-use Rattle.validate_verdict.specs.declared.verdict.VerdictAnswer.TheVariants as verdict-answer
-use Rattle.validate_verdict.specs.declared.verdict.CountAnswer.TheVariants as count-answer
 use Rattle.validate_verdict.specs.Answers.{shownVerdict, shownCount}
 use Rattle.validate_search.proofs.Few.{findings_few}
-use Rattle.validate_plan.specs.declared.FindingsAnswer.TheVariants as findings-answer
 use Rattle.validate_plan.specs.Validated.{shown_findings, findings_written}
 use Rattle.word_fields.specs.declared.instruction.RawInstruction54.{RawInstruction54}
-use Rattle.word_fields.specs.declared.instruction.Encoded.{Encoded}
-use Rattle.word_fields.specs.declared.instruction.Encoded.TheVariants as encoded-answer
 use Rattle.word_fields.specs.Word.{encoded}
 use Rattle.demands.proofs.Refused.{nothing_later, unless, missing, first, of_chunk, no_function, of_function_lem, no_entry, large_line, of_local, long_name, too_long_lem, in_encoded}
 use Rattle.demands.proofs.Refused.{for_chunk, for_reading, for_space, for_function, for_line, for_entry, for_local, for_word}
@@ -107,29 +94,29 @@ module _ (L : ResourceLimits) (s : Bytes) where
     whole : {B : Type 0} (answer : Outcome → B) → Accepted L s (λ r. answer (read L s) ≡ answer (shown r))
     whole answer = let a = chunk_read fine in record { reading = a.reading; is = a.is; shows = ap answer a.is }
 
-    pub summary : Accepted L s (λ r. shown_summary (spelling L s) (read L s) ≡ summary-answer.Ok (record { summary = summary_of r; padded_numbers = (spelling L s).padded }))
+    pub summary : Accepted L s (λ r. shown_summary (spelling L s) (read L s) ≡ Ok (record { summary = summary_of r; padded_numbers = (spelling L s).padded }))
     summary = whole (shown_summary (spelling L s))
 
     pub trailing : Accepted L s (λ r. trailing_of (read L s) ≡ r.trailing)
     trailing = whole trailing_of
 
-    pub verdict-of : Accepted L s (λ r. shownVerdict (read L s) ≡ verdict-answer.Ok (verdict (chunk_findings r)))
+    pub verdict-of : Accepted L s (λ r. shownVerdict (read L s) ≡ Ok (verdict (chunk_findings r)))
     verdict-of = whole shownVerdict
 
-    pub count : Accepted L s (λ r. shownCount (read L s) ≡ count-answer.Ok (length (chunk_findings r).findings))
+    pub count : Accepted L s (λ r. shownCount (read L s) ≡ Ok (length (chunk_findings r).findings))
     count = whole shownCount
 
-    pub copy_length : Accepted L s (λ r. shown_length (read L s) ≡ copy-answer.Ok (length (copy r)))
+    pub copy_length : Accepted L s (λ r. shown_length (read L s) ≡ Ok (length (copy r)))
     copy_length = whole shown_length
 
-    pub full_length : Accepted L s (λ r. shown_full_length (read L s) ≡ copy-answer.Ok (length (full_copy r)))
+    pub full_length : Accepted L s (λ r. shown_full_length (read L s) ≡ Ok (length (full_copy r)))
     full_length = whole shown_full_length
 
     -- `chunk_findings`, whose array has room for 10,001
-    pub all_fit : Accepted L s (λ r. shown_findings 10001 (read L s) ≡ findings-answer.Ok (verdict (chunk_findings r)) (length (chunk_findings r).findings))
+    pub all_fit : Accepted L s (λ r. shown_findings 10001 (read L s) ≡ Ok ((verdict (chunk_findings r)), (length (chunk_findings r).findings)))
     all_fit =
         let a = whole (shown_findings 10001) in
-        record { reading = a.reading; is = a.is; shows = a.shows ∙ ap (λ b. cond b (findings-answer.Ok (verdict (chunk_findings a.reading)) (length (chunk_findings a.reading).findings)) (findings-answer.Err refusals.LentSpace)) (le-leb _ 10001 (findings_few a.reading)) }
+        record { reading = a.reading; is = a.is; shows = a.shows ∙ ap (λ b. cond b (Ok ((verdict (chunk_findings a.reading)), (length (chunk_findings a.reading).findings))) (Err refusals.LentSpace)) (le-leb _ 10001 (findings_few a.reading)) }
 
   -- ## Calls that write a result into lent space, which held `old`
   module _ {A B : Type 0} (answer : ℕ → Outcome → B) (written : List A → Outcome → List A) (result : Reading → List A) (good bad : Reading → B) (old : List A)
@@ -147,21 +134,21 @@ module _ (L : ResourceLimits) (s : Bytes) where
         }
 
   pub index_rows : (old : List ℕ) → first (for_space L s (λ r. index r.functions) (length old)) ≡ none
-      → Accepted L s (λ r. (shown_index (length old) (read L s) ≡ index-answer.Ok (length r.functions)) × (index_written old (read L s) ≡ index r.functions ++ drop (length (index r.functions)) old))
-  index_rows old = into shown_index index_written (λ r. index r.functions) (λ r. index-answer.Ok (length r.functions)) (λ r. index-answer.Err refusals.LentSpace) old (λ r. refl) (λ r. refl)
+      → Accepted L s (λ r. (shown_index (length old) (read L s) ≡ Ok (length r.functions)) × (index_written old (read L s) ≡ index r.functions ++ drop (length (index r.functions)) old))
+  index_rows old = into shown_index index_written (λ r. index r.functions) (λ r. Ok (length r.functions)) (λ r. Err refusals.LentSpace) old (λ r. refl) (λ r. refl)
 
   pub copied : (old : Bytes) → first (for_space L s copy (length old)) ≡ none
-      → Accepted L s (λ r. (shown_copy (length old) (read L s) ≡ copy-answer.Ok (length (copy r))) × (copy_written old (read L s) ≡ copy r ++ drop (length (copy r)) old))
-  copied old = into shown_copy copy_written copy (λ r. copy-answer.Ok (length (copy r))) (λ r. copy-answer.Err refusals.LentSpace) old (λ r. refl) (λ r. refl)
+      → Accepted L s (λ r. (shown_copy (length old) (read L s) ≡ Ok (length (copy r))) × (copy_written old (read L s) ≡ copy r ++ drop (length (copy r)) old))
+  copied old = into shown_copy copy_written copy (λ r. Ok (length (copy r))) (λ r. Err refusals.LentSpace) old (λ r. refl) (λ r. refl)
 
   pub full_copied : (old : Bytes) → first (for_space L s full_copy (length old)) ≡ none
-      → Accepted L s (λ r. (shown_full (length old) (read L s) ≡ copy-answer.Ok (length (full_copy r))) × (full_written old (read L s) ≡ full_copy r ++ drop (length (full_copy r)) old))
-  full_copied old = into shown_full full_written full_copy (λ r. copy-answer.Ok (length (full_copy r))) (λ r. copy-answer.Err refusals.LentSpace) old (λ r. refl) (λ r. refl)
+      → Accepted L s (λ r. (shown_full (length old) (read L s) ≡ Ok (length (full_copy r))) × (full_written old (read L s) ≡ full_copy r ++ drop (length (full_copy r)) old))
+  full_copied old = into shown_full full_written full_copy (λ r. Ok (length (full_copy r))) (λ r. Err refusals.LentSpace) old (λ r. refl) (λ r. refl)
 
   pub findings : (old : List Finding) → first (for_space L s (λ r. (chunk_findings r).findings) (length old)) ≡ none
-      → Accepted L s (λ r. (shown_findings (length old) (read L s) ≡ findings-answer.Ok (verdict (chunk_findings r)) (length (chunk_findings r).findings))
+      → Accepted L s (λ r. (shown_findings (length old) (read L s) ≡ Ok ((verdict (chunk_findings r)), (length (chunk_findings r).findings)))
       × (findings_written old (read L s) ≡ (chunk_findings r).findings ++ drop (length (chunk_findings r).findings) old))
-  findings old = into shown_findings findings_written (λ r. (chunk_findings r).findings) (λ r. findings-answer.Ok (verdict (chunk_findings r)) (length (chunk_findings r).findings)) (λ r. findings-answer.Err refusals.LentSpace) old (λ r. refl) (λ r. refl)
+  findings old = into shown_findings findings_written (λ r. (chunk_findings r).findings) (λ r. Ok ((verdict (chunk_findings r)), (length (chunk_findings r).findings))) (λ r. Err refusals.LentSpace) old (λ r. refl) (λ r. refl)
 
   -- ## Calls on a function
   module _ (f : ℕ) where
@@ -175,14 +162,14 @@ module _ (L : ResourceLimits) (s : Bytes) where
     function-is : (r : Reading) (p : Prototype) → read L s ≡ shown r → get_elem? r.functions f ≡ some p → function_of f (read L s) ≡ found p
     function-is r p is there = ap (function_of f) is ∙ ap (or_refuse refusals.NoFunction) there
 
-    pub fields : first (for_function L s f) ≡ none → Accepted L s (λ r. Present (get_elem? r.functions f) (λ p. shown_fields (function_of f (read L s)) ≡ fields-answer.Ok (fields_of p)))
+    pub fields : first (for_function L s f) ≡ none → Accepted L s (λ r. Present (get_elem? r.functions f) (λ p. shown_fields (function_of f (read L s)) ≡ Ok (fields_of p)))
     fields e =
         let a = there (λ p. []) (λ r. []) (λ r p is. refl) e in
         let p = a.shows in
         record { reading = a.reading; is = a.is; shows = record { value = p.value; is = p.is; shows = ap shown_fields (function-is a.reading p.value a.is p.is) } }
 
     pub line : (pc : ℕ) → first (for_line L s f) ≡ none
-        → Accepted L s (λ r. Present (get_elem? r.functions f) (λ p. shown_line pc (function_of f (read L s)) ≡ line-answer.Ok (line_of (length p.instructions) p.line_defined p.line_info_lem p.abs_line_info pc)))
+        → Accepted L s (λ r. Present (get_elem? r.functions f) (λ p. shown_line pc (function_of f (read L s)) ≡ Ok (line_of (length p.instructions) p.line_defined p.line_info_lem p.abs_line_info pc)))
     line pc e =
         let a = there (λ p. cond (large p.line_defined p.abs_line_info) (some (bare 25)) none ∷ []) (λ r. large_line f r ∷ []) (λ r p is. ap (λ o. first (of_function_lem o (λ p. cond (large p.line_defined p.abs_line_info) (some (bare 25)) none) ∷ [])) is) e in
         let p = a.shows in
@@ -197,10 +184,10 @@ module _ (L : ResourceLimits) (s : Bytes) where
         }
       where
         fine : (p : Prototype) → first (cond (large p.line_defined p.abs_line_info) (some (bare 25)) none ∷ []) ≡ none
-            → shown_line pc (found p) ≡ line-answer.Ok (line_of (length p.instructions) p.line_defined p.line_info_lem p.abs_line_info pc)
+            → shown_line pc (found p) ≡ Ok (line_of (length p.instructions) p.line_defined p.line_info_lem p.abs_line_info pc)
         fine p = small (large p.line_defined p.abs_line_info) (line_of (length p.instructions) p.line_defined p.line_info_lem p.abs_line_info pc)
           where
-            small : (b : Bool) (n : ℕ) → first (cond b (some (bare 25)) none ∷ []) ≡ none → cond b (line-answer.Err refusals.LineTooLarge) (line-answer.Ok n) ≡ line-answer.Ok n
+            small : (b : Bool) (n : ℕ) → first (cond b (some (bare 25)) none ∷ []) ≡ none → cond b (Err refusals.LineTooLarge) (Ok n) ≡ Ok n
             small true n e = met e
             small false n e = refl
 
@@ -235,32 +222,32 @@ module _ (L : ResourceLimits) (s : Bytes) where
           record { reading = a.reading; is = a.is; shows = record { value = p.value; is = p.is; shows = record { value = x.value; is = x.is; shows = ap answer (entry_is list a.reading p.value x.value a.is p.is x.is) } } }
 
       pub instruction : first (for_entry L s (λ p. p.instructions) f i) ≡ none
-          → Accepted L s (λ r. Present (get_elem? r.functions f) (λ p. Present (get_elem? p.instructions i) (λ w. shown_word (entry_of (λ p. p.instructions) f i (read L s)) ≡ word-answer.Ok w)))
+          → Accepted L s (λ r. Present (get_elem? r.functions f) (λ p. Present (get_elem? p.instructions i) (λ w. shown_word (entry_of (λ p. p.instructions) f i (read L s)) ≡ Ok w)))
       instruction = entry (λ p. p.instructions) shown_word
 
       pub constant : first (for_entry L s (λ p. p.constants) f i) ≡ none
-          → Accepted L s (λ r. Present (get_elem? r.functions f) (λ p. Present (get_elem? p.constants i) (λ k. shown_constant (entry_of (λ p. p.constants) f i (read L s)) ≡ constant-answer.Ok (constant_value k))))
+          → Accepted L s (λ r. Present (get_elem? r.functions f) (λ p. Present (get_elem? p.constants i) (λ k. shown_constant (entry_of (λ p. p.constants) f i (read L s)) ≡ Ok (constant_value k))))
       constant = entry (λ p. p.constants) shown_constant
 
       pub upvalue : first (for_entry L s (λ p. p.upvalues) f i) ≡ none
-          → Accepted L s (λ r. Present (get_elem? r.functions f) (λ p. Present (get_elem? p.upvalues i) (λ u. shown_upvalue (entry_of (λ p. p.upvalues) f i (read L s)) ≡ upvalue-answer.Ok u)))
+          → Accepted L s (λ r. Present (get_elem? r.functions f) (λ p. Present (get_elem? p.upvalues i) (λ u. shown_upvalue (entry_of (λ p. p.upvalues) f i (read L s)) ≡ Ok u)))
       upvalue = entry (λ p. p.upvalues) shown_upvalue
 
       pub delta : first (for_entry L s (λ p. p.line_info_lem) f i) ≡ none
-          → Accepted L s (λ r. Present (get_elem? r.functions f) (λ p. Present (get_elem? p.line_info_lem i) (λ b. shown_delta (entry_of (λ p. p.line_info_lem) f i (read L s)) ≡ delta-answer.Ok (to_z w8 b))))
+          → Accepted L s (λ r. Present (get_elem? r.functions f) (λ p. Present (get_elem? p.line_info_lem i) (λ b. shown_delta (entry_of (λ p. p.line_info_lem) f i (read L s)) ≡ Ok (to_z w8 b))))
       delta = entry (λ p. p.line_info_lem) shown_delta
 
       pub anchor : first (for_entry L s (λ p. p.abs_line_info) f i) ≡ none
-          → Accepted L s (λ r. Present (get_elem? r.functions f) (λ p. Present (get_elem? p.abs_line_info i) (λ a. shown_anchor (entry_of (λ p. p.abs_line_info) f i (read L s)) ≡ anchor-answer.Ok a)))
+          → Accepted L s (λ r. Present (get_elem? r.functions f) (λ p. Present (get_elem? p.abs_line_info i) (λ a. shown_anchor (entry_of (λ p. p.abs_line_info) f i (read L s)) ≡ Ok a)))
       anchor = entry (λ p. p.abs_line_info) shown_anchor
 
       pub upvalue_name : first (for_entry L s (λ p. p.upvalue_names_lem) f i) ≡ none
-          → Accepted L s (λ r. Present (get_elem? r.functions f) (λ p. Present (get_elem? p.upvalue_names_lem i) (λ t. shown_name (entry_of (λ p. p.upvalue_names_lem) f i (read L s)) ≡ name-answer.Ok (option_string t))))
+          → Accepted L s (λ r. Present (get_elem? r.functions f) (λ p. Present (get_elem? p.upvalue_names_lem i) (λ t. shown_name (entry_of (λ p. p.upvalue_names_lem) f i (read L s)) ≡ Ok (option_string t))))
       upvalue_name = entry (λ p. p.upvalue_names_lem) shown_name
 
       pub local : (old : Bytes) → first (for_local L s f i (length old)) ≡ none
           → Accepted L s (λ r. Present (get_elem? r.functions f) (λ p. Present (get_elem? p.loc_vars i) (λ l.
-          (shown_local (length old) (entry_of (λ p. p.loc_vars) f i (read L s)) ≡ local-answer.Ok (length l.name.bytes) l.startpc l.endpc)
+          (shown_local (length old) (entry_of (λ p. p.loc_vars) f i (read L s)) ≡ Ok (record { name_len = (length l.name.bytes); startpc = l.startpc; endpc = l.endpc }))
           × (name_written old (entry_of (λ p. p.loc_vars) f i (read L s)) ≡ l.name.bytes ++ drop (length l.name.bytes) old))))
       local old e =
           let a = entry_there (λ p. p.loc_vars) (λ l. too_long_lem l.name.bytes (length old) ∷ []) (λ r. long_name (length old) f i r ∷ []) long e in
@@ -278,7 +265,7 @@ module _ (L : ResourceLimits) (s : Bytes) where
                 value = l.value;
                 is = l.is;
                 shows = (
-                  ap (shown_local (length old)) found_it ∙ ap (λ b. cond b (local-answer.Ok (length l.value.name.bytes) l.value.startpc l.value.endpc) (local-answer.Err refusals.LentSpace)) room,
+                  ap (shown_local (length old)) found_it ∙ ap (λ b. cond b (Ok (record { name_len = (length l.value.name.bytes); startpc = l.value.startpc; endpc = l.value.endpc })) (Err refusals.LentSpace)) room,
                   ap (name_written old) found_it ∙ ap (λ b. cond b (l.value.name.bytes ++ drop (length l.value.name.bytes) old) old) room,
                 );
               };
@@ -293,11 +280,11 @@ module _ (L : ResourceLimits) (s : Bytes) where
 -- ## Words
 pub record IsWord (r : RawInstruction54) : Type 0 where
   pub word : ℕ
-  pub is : encoded r ≡ encoded-answer.Word word
+  pub is : encoded r ≡ Ok word
 
 pub encoded_word : (r : RawInstruction54) → first (for_word r) ≡ none → IsWord r
 encoded_word r e = by (encoded r) refl (encode r ∙ e)
   where
-    by : (a : Encoded) → encoded r ≡ a → in_encoded a ≡ none → IsWord r
-    by (encoded-answer.Word w) is e = record { word = w; is = is }
-    by (encoded-answer.Refused q) is e = met e
+    by : (a : Result ℕ Refusal) → encoded r ≡ a → in_encoded a ≡ none → IsWord r
+    by (Ok w) is e = record { word = w; is = is }
+    by (Err q) is e = met e

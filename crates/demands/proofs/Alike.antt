@@ -5,6 +5,10 @@
 --     EqualAsShown r q         the readings are equal but for what none of these calls shows: of a function its start and its end and where its lists begin; of a local variable where its name stands
 --     IndexAlike, SamePlaces   the index is alike; start and end, and where words and constants begin, are equal
 -- Assumes nothing.
+use Rattle.std.specs.Prelude.{Option, Some, None, Result, Ok, Err}
+use Rattle.format.specs.declared.refusal.Refusal.{Refusal}
+use Rattle.show_chunk.specs.declared.fields.FunctionFields.{FunctionFields}
+use Rattle.show_chunk.specs.declared.summary.ChunkSummary.{ChunkSummary}
 use mathlib.Core.Path.{◌≡◌}
 use mathlib.Core.List.{List, []}
 use Prim.Native.Nat.{ℕ}
@@ -15,21 +19,11 @@ use Rattle.format.specs.Reading.{Reading, Prototype}
 use Rattle.format.specs.ReadChunk.{read}
 use Rattle.format_spelling.specs.ReadSpelling.{spelling}
 use Rattle.read_field.specs.declared.string.StringAt.{StringAt}
-use Rattle.read_field.specs.declared.string.OptionString.{OptionString}
-use Rattle.read_field.specs.declared.string.OptionString.TheVariants as option
 use Rattle.read_entry.specs.declared.constant.ConstantValue.{ConstantValue}
 use Rattle.read_entry.specs.declared.constant.ConstantValue.TheVariants as constant
 use Rattle.show_row.specs.Asked.{function_of, entry_of}
-use Rattle.show_chunk.specs.declared.summary.SummaryAnswer.{SummaryAnswer}
-use Rattle.show_chunk.specs.declared.summary.SummaryAnswer.TheVariants as summary-answer
-use Rattle.show_chunk.specs.declared.fields.FieldsAnswer.{FieldsAnswer}
-use Rattle.show_chunk.specs.declared.fields.FieldsAnswer.TheVariants as fields-answer
 use Rattle.show_chunk.specs.Summaries.{shown_summary, trailing_of}
 use Rattle.show_chunk.specs.Fields.{shown_fields}
-use Rattle.show_entry.specs.declared.ConstantAnswer.{ConstantAnswer}
-use Rattle.show_entry.specs.declared.ConstantAnswer.TheVariants as constant-answer
-use Rattle.show_entry.specs.declared.NameAnswer.{NameAnswer}
-use Rattle.show_entry.specs.declared.NameAnswer.TheVariants as name-answer
 use Rattle.show_entry.specs.Entries.{shown_word, shown_constant, shown_upvalue, shown_delta, shown_anchor, shown_name}
 use Rattle.show_local.specs.Locals.{shown_local, name_written}
 use Rattle.index.specs.Index.{shown_index, index_written}
@@ -39,9 +33,9 @@ use Rattle.demands.proofs.Same.{Pairwise, SameLocal}
 abbrev pub string_shown : Bytes → StringAt → Bytes
 string_shown s a = take a.len (drop a.place s)
 
-abbrev pub option_shown : Bytes → OptionString → Bytes
-option_shown s (option.Some a) = string_shown s a
-option_shown s option.None = []
+abbrev pub option_shown : Bytes → Option StringAt → Bytes
+option_shown s (Some a) = string_shown s a
+option_shown s None = []
 
 abbrev pub value_shown : Bytes → ConstantValue → Bytes
 value_shown s constant.Nil = []
@@ -51,22 +45,22 @@ value_shown s (constant.Float n) = []
 value_shown s (constant.ShortString a) = string_shown s a
 value_shown s (constant.LongString a) = string_shown s a
 
-abbrev pub source_shown : Bytes → FieldsAnswer → Bytes
-source_shown s (fields-answer.Ok f) = option_shown s f.source_name
-source_shown s (fields-answer.Err q) = []
+abbrev pub source_shown : Bytes → Result FunctionFields Refusal → Bytes
+source_shown s (Ok f) = option_shown s f.source_name
+source_shown s (Err q) = []
 
-abbrev pub constant_shown : Bytes → ConstantAnswer → Bytes
-constant_shown s (constant-answer.Ok v) = value_shown s v
-constant_shown s (constant-answer.Err q) = []
+abbrev pub constant_shown : Bytes → Result ConstantValue Refusal → Bytes
+constant_shown s (Ok v) = value_shown s v
+constant_shown s (Err q) = []
 
-abbrev pub name_shown : Bytes → NameAnswer → Bytes
-name_shown s (name-answer.Ok t) = option_shown s t
-name_shown s (name-answer.Err q) = []
+abbrev pub name_shown : Bytes → Result (Option StringAt) Refusal → Bytes
+name_shown s (Ok t) = option_shown s t
+name_shown s (Err q) = []
 
 -- ## A summary without the number of padded numbers: it is no part of the reading (02, item 1), and two chunks of one reading may differ in it (`Request01.antt`)
-abbrev pub without_count : SummaryAnswer → SummaryAnswer
-without_count (summary-answer.Ok y) = summary-answer.Ok (record { summary = y.summary; padded_numbers = 0 })
-without_count (summary-answer.Err q) = summary-answer.Err q
+abbrev pub without_count : Result ChunkSummary Refusal → Result ChunkSummary Refusal
+without_count (Ok y) = Ok (record { summary = y.summary; padded_numbers = 0 })
+without_count (Err q) = Err q
 
 -- ## The calls answer alike
 pub record AnswerAlike (L : ResourceLimits) (s : Bytes) (M : ResourceLimits) (t : Bytes) : Type 0 where

@@ -6,6 +6,15 @@
 --     coded_chunk          what stands for a refusal of a chunk is its number and 256 times the place and one, which below 2^32 is never left out (Demand1.antt, `places`)
 -- (crates/c_boundary/proofs/Numbers.antt: 0 is returned nowhere else, and number and place can be got back.)
 -- Assumes nothing.
+use Rattle.std.specs.Prelude.{Some, None, Result, Ok, Err, ℤ}
+use Rattle.format.specs.declared.entry.AbsLineInfo.{AbsLineInfo}
+use Rattle.format.specs.declared.entry.UpvalueDesc.{UpvalueDesc}
+use Rattle.read_entry.specs.declared.constant.ConstantValue.{ConstantValue}
+use Rattle.read_field.specs.declared.string.StringAt.{StringAt}
+use Rattle.show_chunk.specs.declared.fields.FunctionFields.{FunctionFields}
+use Rattle.show_chunk.specs.declared.summary.ChunkSummary.{ChunkSummary}
+use Rattle.show_local.specs.declared.LocalShown.{LocalShown}
+use Rattle.validate_rules.specs.declared.finding.Verdict.{Verdict}
 use mathlib.Core.Path.{◌≡◌, refl, sym, ◌∙◌, ap}
 use mathlib.Core.Bool.{Bool, true, false, cond}
 use mathlib.Core.List.{List, [], ◌++◌}
@@ -16,11 +25,10 @@ use lib.Dec.{leb}
 use lib.IntN.{ℤ}
 use lib.ListN.{length, drop}
 use borrow.Author.Tests.{lt-leb}
+use Rattle.std.specs.Prelude as prelude
 use Rattle.format.specs.declared.limits.ResourceLimits.{ResourceLimits}
 use Rattle.format.specs.declared.refusal.Refusal.{Refusal}
 use Rattle.format.specs.declared.refusal.Refusal.TheVariants.{LentSpace}
-use Rattle.format.specs.declared.refusal.Place.{Place}
-use Rattle.format.specs.declared.refusal.Place.TheVariants.{At, None}
 use Rattle.format.specs.declared.refusal.Report.{Report}
 use Rattle.format.specs.Refusals.{reported}
 use Rattle.format.specs.Form.{Bytes}
@@ -29,49 +37,17 @@ use Rattle.format.specs.Copy.{copy}
 use Rattle.format.specs.FullCopy.{full_copy}
 use Rattle.format_spelling.specs.ReadSpelling.{spelling}
 use Rattle.show_row.specs.Asked.{function_of, entry_of}
-use Rattle.index.specs.declared.IndexAnswer.{IndexAnswer}
-use Rattle.index.specs.declared.IndexAnswer.TheVariants as index-answer
 use Rattle.index.specs.Index.{index, shown_index}
-use Rattle.line_lookup.specs.declared.line.LineAnswer.{LineAnswer}
-use Rattle.line_lookup.specs.declared.line.LineAnswer.TheVariants as line-answer
 use Rattle.line_lookup.specs.Lines.{shown_line}
-use Rattle.copy.specs.declared.whole.CopyAnswer.{CopyAnswer}
-use Rattle.copy.specs.declared.whole.CopyAnswer.TheVariants as copy-answer
 use Rattle.copy.specs.Copied.{shown_length, shown_copy}
 use Rattle.copy_full.specs.InFull.{shown_full_length, shown_full}
-use Rattle.show_chunk.specs.declared.summary.SummaryAnswer.{SummaryAnswer}
-use Rattle.show_chunk.specs.declared.summary.SummaryAnswer.TheVariants as summary-answer
-use Rattle.show_chunk.specs.declared.fields.FieldsAnswer.{FieldsAnswer}
-use Rattle.show_chunk.specs.declared.fields.FieldsAnswer.TheVariants as fields-answer
 use Rattle.show_chunk.specs.Summaries.{shown_summary}
 use Rattle.show_chunk.specs.Fields.{shown_fields}
-use Rattle.show_entry.specs.declared.WordAnswer.{WordAnswer}
-use Rattle.show_entry.specs.declared.WordAnswer.TheVariants as word-answer
-use Rattle.show_entry.specs.declared.ConstantAnswer.{ConstantAnswer}
-use Rattle.show_entry.specs.declared.ConstantAnswer.TheVariants as constant-answer
-use Rattle.show_entry.specs.declared.UpvalueAnswer.{UpvalueAnswer}
-use Rattle.show_entry.specs.declared.UpvalueAnswer.TheVariants as upvalue-answer
-use Rattle.show_entry.specs.declared.DeltaAnswer.{DeltaAnswer}
-use Rattle.show_entry.specs.declared.DeltaAnswer.TheVariants as delta-answer
-use Rattle.show_entry.specs.declared.AnchorAnswer.{AnchorAnswer}
-use Rattle.show_entry.specs.declared.AnchorAnswer.TheVariants as anchor-answer
-use Rattle.show_entry.specs.declared.NameAnswer.{NameAnswer}
-use Rattle.show_entry.specs.declared.NameAnswer.TheVariants as name-answer
 use Rattle.show_entry.specs.Entries.{shown_word, shown_constant, shown_upvalue, shown_delta, shown_anchor, shown_name}
-use Rattle.show_local.specs.declared.LocalAnswer.{LocalAnswer}
-use Rattle.show_local.specs.declared.LocalAnswer.TheVariants as local-answer
 use Rattle.show_local.specs.Locals.{shown_local}
 use Rattle.validate_rules.specs.Findings.{chunk_findings, verdict}
-use Rattle.validate_verdict.specs.declared.verdict.VerdictAnswer.{VerdictAnswer}
-use Rattle.validate_verdict.specs.declared.verdict.VerdictAnswer.TheVariants as verdict-answer
-use Rattle.validate_verdict.specs.declared.verdict.CountAnswer.{CountAnswer}
-use Rattle.validate_verdict.specs.declared.verdict.CountAnswer.TheVariants as count-answer
 use Rattle.validate_verdict.specs.Answers.{shownVerdict, shownCount}
-use Rattle.validate_plan.specs.declared.FindingsAnswer.{FindingsAnswer}
-use Rattle.validate_plan.specs.declared.FindingsAnswer.TheVariants as findings-answer
 use Rattle.validate_plan.specs.Validated.{shown_findings}
-use Rattle.word_fields.specs.declared.instruction.Encoded.{Encoded}
-use Rattle.word_fields.specs.declared.instruction.Encoded.TheVariants as encoded-answer
 use Rattle.word_fields.specs.Word.{decoded, encoded}
 use Rattle.c_boundary.specs.Status.{limits_of, with_place, coded, Answer, done, refuses, status, written}
 use Rattle.lafzimdo.specs.Answers.{ofSummary, of_fields, ofLine, ofWord, ofConstant, ofUpvalue, ofDelta, ofAnchor, of_local, ofName, ofIndex, ofCopy, ofVerdict, ofCount}
@@ -103,69 +79,69 @@ law (done l) qs e = record { returns = ap code e; kept = λ q old h. absurd (let
 law (refuses q) qs e = record { returns = ap code e; kept = λ q old h. refl; answers = λ old h. absurd (let z : ◌≡◌ {A = ℕ} 0 1 = cc in omega arith) }
 
 -- ## The refusal in each answer is the one in its numbers
-pub of_summary : (a : SummaryAnswer) → in_answer (ofSummary a) ≡ in_summary a
-of_summary (summary-answer.Ok x) = refl
-of_summary (summary-answer.Err q) = refl
+pub of_summary : (a : Result ChunkSummary Refusal) → in_answer (ofSummary a) ≡ in_summary a
+of_summary (Ok x) = refl
+of_summary (Err q) = refl
 
-of_fields_lem : (a : FieldsAnswer) → in_answer (of_fields a) ≡ in_fields a
-of_fields_lem (fields-answer.Ok x) = refl
-of_fields_lem (fields-answer.Err q) = refl
+of_fields_lem : (a : Result FunctionFields Refusal) → in_answer (of_fields a) ≡ in_fields a
+of_fields_lem (Ok x) = refl
+of_fields_lem (Err q) = refl
 
-of-line : (a : LineAnswer) → in_answer (ofLine a) ≡ in_line a
-of-line (line-answer.Ok x) = refl
-of-line (line-answer.Err q) = refl
+of-line : (a : Result ℕ Refusal) → in_answer (ofLine a) ≡ in_line a
+of-line (Ok x) = refl
+of-line (Err q) = refl
 
-of_word : (a : WordAnswer) → in_answer (ofWord a) ≡ in_word a
-of_word (word-answer.Ok x) = refl
-of_word (word-answer.Err q) = refl
+of_word : (a : Result ℕ Refusal) → in_answer (ofWord a) ≡ in_word a
+of_word (Ok x) = refl
+of_word (Err q) = refl
 
-of-constant : (a : ConstantAnswer) → in_answer (ofConstant a) ≡ in_constant a
-of-constant (constant-answer.Ok x) = refl
-of-constant (constant-answer.Err q) = refl
+of-constant : (a : Result ConstantValue Refusal) → in_answer (ofConstant a) ≡ in_constant a
+of-constant (Ok x) = refl
+of-constant (Err q) = refl
 
-of-upvalue : (a : UpvalueAnswer) → in_answer (ofUpvalue a) ≡ in_upvalue a
-of-upvalue (upvalue-answer.Ok x) = refl
-of-upvalue (upvalue-answer.Err q) = refl
+of-upvalue : (a : Result UpvalueDesc Refusal) → in_answer (ofUpvalue a) ≡ in_upvalue a
+of-upvalue (Ok x) = refl
+of-upvalue (Err q) = refl
 
-of_delta : (a : DeltaAnswer) → in_answer (ofDelta a) ≡ in_delta a
-of_delta (delta-answer.Ok x) = refl
-of_delta (delta-answer.Err q) = refl
+of_delta : (a : Result ℤ Refusal) → in_answer (ofDelta a) ≡ in_delta a
+of_delta (Ok x) = refl
+of_delta (Err q) = refl
 
-of-anchor : (a : AnchorAnswer) → in_answer (ofAnchor a) ≡ in_anchor a
-of-anchor (anchor-answer.Ok x) = refl
-of-anchor (anchor-answer.Err q) = refl
+of-anchor : (a : Result AbsLineInfo Refusal) → in_answer (ofAnchor a) ≡ in_anchor a
+of-anchor (Ok x) = refl
+of-anchor (Err q) = refl
 
-of-name : (a : NameAnswer) → in_answer (ofName a) ≡ in_name a
-of-name (name-answer.Ok x) = refl
-of-name (name-answer.Err q) = refl
+of-name : (a : Result (prelude.Option StringAt) Refusal) → in_answer (ofName a) ≡ in_name a
+of-name (Ok x) = refl
+of-name (Err q) = refl
 
-of-local : (a : LocalAnswer) → in_answer (of_local a) ≡ in_local a
-of-local (local-answer.Ok x y z) = refl
-of-local (local-answer.Err q) = refl
+of-local : (a : Result LocalShown Refusal) → in_answer (of_local a) ≡ in_local a
+of-local (Ok x) = refl
+of-local (Err q) = refl
 
-of-index : (a : IndexAnswer) → in_answer (ofIndex a) ≡ in_index a
-of-index (index-answer.Ok x) = refl
-of-index (index-answer.Err q) = refl
+of-index : (a : Result ℕ Refusal) → in_answer (ofIndex a) ≡ in_index a
+of-index (Ok x) = refl
+of-index (Err q) = refl
 
-of-copy : (a : CopyAnswer) → in_answer (ofCopy a) ≡ in_copy a
-of-copy (copy-answer.Ok x) = refl
-of-copy (copy-answer.Err q) = refl
+of-copy : (a : Result ℕ Refusal) → in_answer (ofCopy a) ≡ in_copy a
+of-copy (Ok x) = refl
+of-copy (Err q) = refl
 
-of-verdict : (a : VerdictAnswer) → in_answer (ofVerdict a) ≡ in_verdict a
-of-verdict (verdict-answer.Ok x) = refl
-of-verdict (verdict-answer.Err q) = refl
+of-verdict : (a : Result Verdict Refusal) → in_answer (ofVerdict a) ≡ in_verdict a
+of-verdict (Ok x) = refl
+of-verdict (Err q) = refl
 
-of-count : (a : CountAnswer) → in_answer (ofCount a) ≡ in_count a
-of-count (count-answer.Ok x) = refl
-of-count (count-answer.Err q) = refl
+of-count : (a : Result ℕ Refusal) → in_answer (ofCount a) ≡ in_count a
+of-count (Ok x) = refl
+of-count (Err q) = refl
 
-of-findings : (a : FindingsAnswer) → in_answer (of_findings a) ≡ in_findings a
-of-findings (findings-answer.Ok x y) = refl
-of-findings (findings-answer.Err q) = refl
+of-findings : (a : Result (Verdict × ℕ) Refusal) → in_answer (of_findings a) ≡ in_findings a
+of-findings (Ok (x, y)) = refl
+of-findings (Err q) = refl
 
-of-encoded : (a : Encoded) → in_answer (of_encoded a) ≡ in_encoded a
-of-encoded (encoded-answer.Word w) = refl
-of-encoded (encoded-answer.Refused q) = refl
+of-encoded : (a : Result ℕ Refusal) → in_answer (of_encoded a) ≡ in_encoded a
+of-encoded (Ok w) = refl
+of-encoded (Err q) = refl
 
 -- ## The calls
 -- limits are an array of nine numbers
@@ -242,24 +218,24 @@ pub findings-kept : (old : List ℕ) (o : Outcome) (q : Report) → in_findings 
 unfolding list_numbers
 findings-kept old (shown r) q e = sym (all-or-none old (shown r)) ∙ by (leb (length (chunk_findings r).findings) (length old / 4)) e
   where
-    by : (b : Bool) → in_findings (cond b (findings-answer.Ok (verdict (chunk_findings r)) (length (chunk_findings r).findings)) (findings-answer.Err LentSpace)) ≡ some q
+    by : (b : Bool) → in_findings (cond b (Ok ((verdict (chunk_findings r)), (length (chunk_findings r).findings))) (Err LentSpace)) ≡ some q
         → list_numbers (cond b (chunk_findings r).findings []) ++ drop (length (list_numbers (cond b (chunk_findings r).findings []))) old ≡ old
     by true e = absurd (let z : ◌≡◌ {A = ℕ} 0 1 = cc in omega arith)
     by false e = refl
 findings-kept old (refusal p) q e = refl
 
 -- ## Number and place in one
-abbrev pub in_one : ℕ → Place → ℕ
+abbrev pub in_one : ℕ → prelude.Option ℕ → ℕ
 in_one n None = n
-in_one n (At place) = n + 256 * (place + 1)
+in_one n (Some place) = n + 256 * (place + 1)
 
 -- a place that lies in a file, or is its end, is below 2^32
 pub coded-inside : (q : Refusal) → Inside 16777216 (reported q).place → coded q ≡ in_one (reported q).number (reported q).place
 coded-inside q h = by (reported q).place h
   where
-    by : (p : Place) → Inside 16777216 p → with_place (reported q).number p ≡ in_one (reported q).number p
+    by : (p : prelude.Option ℕ) → Inside 16777216 p → with_place (reported q).number p ≡ in_one (reported q).number p
     by None h = refl
-    by (At place) h = ap (λ b. cond b (reported q).number ((reported q).number + 256 * (place + 1))) (lt-leb (2 ^ 32) place (omega arith))
+    by (Some place) h = ap (λ b. cond b (reported q).number ((reported q).number + 256 * (place + 1))) (lt-leb (2 ^ 32) place (omega arith))
 
 pub coded_chunk : (L : ResourceLimits) (s : Bytes) (q : Refusal) → read L s ≡ refusal q → coded q ≡ in_one (reported q).number (reported q).place
 coded_chunk L s q e = coded-inside q (calls.places L s q e).1

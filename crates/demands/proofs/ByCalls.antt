@@ -13,6 +13,9 @@
 --     written-copy         and it is the copy of the reading, of which Demand3.antt has the rest: copy-of-copy,
 --                          equal_copies
 -- Assumes nothing.
+use Rattle.std.specs.Prelude.{Result, Ok, Err}
+use Rattle.show_chunk.specs.declared.fields.FunctionFields.{FunctionFields}
+use Rattle.show_local.specs.declared.LocalShown as declared_local
 use mathlib.Core.Path.{◌≡◌, refl, sym, ◌∙◌, ap, subst}
 use mathlib.Core.Logic.{◌↔◌}
 use mathlib.Core.List.{List, [], ◌∷◌, ◌++◌}
@@ -34,25 +37,11 @@ use Rattle.format.proofs.ReadChunkLaws.{read_complete}
 use Rattle.format.proofs.Located.{Stands, StandsIf}
 use Rattle.show_row.specs.Asked.{Asked, found, refused, or_refuse, function_of, entry_in, entry_of}
 use Rattle.show_chunk.specs.declared.summary.ChunkSummary.{ChunkSummary}
-use Rattle.show_chunk.specs.declared.summary.SummaryAnswer.{SummaryAnswer}
-use Rattle.show_chunk.specs.declared.summary.SummaryAnswer.TheVariants as summary-answer
-use Rattle.show_chunk.specs.declared.fields.FieldsAnswer.{FieldsAnswer}
-use Rattle.show_chunk.specs.declared.fields.FieldsAnswer.TheVariants as fields-answer
-use Rattle.show_entry.specs.declared.WordAnswer.TheVariants as word-answer
-use Rattle.show_entry.specs.declared.ConstantAnswer.TheVariants as constant-answer
-use Rattle.show_entry.specs.declared.UpvalueAnswer.TheVariants as upvalue-answer
-use Rattle.show_entry.specs.declared.DeltaAnswer.TheVariants as delta-answer
-use Rattle.show_entry.specs.declared.AnchorAnswer.TheVariants as anchor-answer
-use Rattle.show_entry.specs.declared.NameAnswer.TheVariants as name-answer
-use Rattle.show_local.specs.declared.LocalAnswer.{LocalAnswer}
-use Rattle.show_local.specs.declared.LocalAnswer.TheVariants as local-answer
 use Rattle.show_entry.specs.Entries.{shown_word, shown_constant, shown_upvalue, shown_delta, shown_anchor, shown_name}
 use Rattle.read_field.specs.Shown.{option_string}
 use Rattle.read_entry.specs.Shown.{constant_value}
 use Rattle.read_chunk.specs.Decoded.{summary_of}
 use Rattle.show_chunk.specs.Fields.{fields_of}
-use Rattle.copy.specs.declared.whole.CopyAnswer.{CopyAnswer}
-use Rattle.copy.specs.declared.whole.CopyAnswer.TheVariants as copy-answer
 use Rattle.show_chunk.specs.contracts.summary.chunk_summary as summary-contract
 use Rattle.show_chunk.proofs.summary.chunk_summary as summary-call
 use Rattle.show_chunk.specs.contracts.fields.function_fields as fields-contract
@@ -86,24 +75,24 @@ use Rattle.demands.proofs.Demand3.{Belongs, read_exactly, summary_exactly, shown
 
 -- ## What an answer says, by cases
 -- it answers with a summary
-abbrev pub Answers : SummaryAnswer → Type 0
-Answers r = (x : ChunkSummary) × (r ≡ summary-answer.Ok x)
+abbrev pub Answers : Result ChunkSummary Refusal → Type 0
+Answers r = (x : ChunkSummary) × (r ≡ Ok x)
 
 -- whatever the count of padded numbers is, which is no part of the reading (02, item 1)
-pub record SummaryShown (L : ResourceLimits) (chunk : Bytes) (r : SummaryAnswer) : Type 0 where
-  pub given : (b : Belongs L chunk) → (n : ℕ) × (r ≡ summary-answer.Ok (record { summary = summary_of b.reading; padded_numbers = n }))
-  pub else : ¬ Belongs L chunk → (q : Refusal) × (r ≡ summary-answer.Err q)
+pub record SummaryShown (L : ResourceLimits) (chunk : Bytes) (r : Result ChunkSummary Refusal) : Type 0 where
+  pub given : (b : Belongs L chunk) → (n : ℕ) × (r ≡ Ok (record { summary = summary_of b.reading; padded_numbers = n }))
+  pub else : ¬ Belongs L chunk → (q : Refusal) × (r ≡ Err q)
 
 -- of a script that does not belong none are shown: the call has no refusal, `chunk_summary` has it
 pub record TrailingShown (L : ResourceLimits) (chunk bytes : Bytes) : Type 0 where
   pub given : (b : Belongs L chunk) → bytes ≡ b.reading.trailing
   pub else : ¬ Belongs L chunk → bytes ≡ []
 
-pub record FieldsShown (L : ResourceLimits) (chunk : Bytes) (f : ℕ) (r : FieldsAnswer) : Type 0 where
+pub record FieldsShown (L : ResourceLimits) (chunk : Bytes) (f : ℕ) (r : Result FunctionFields Refusal) : Type 0 where
   pub given : (b : Belongs L chunk) (p : Prototype) → get_elem? b.reading.functions f ≡ some p
-      → r ≡ fields-answer.Ok (fields_of p)
-  pub no_function_lem : (b : Belongs L chunk) → get_elem? b.reading.functions f ≡ none → r ≡ fields-answer.Err NoFunction
-  pub else : ¬ Belongs L chunk → (q : Refusal) × (r ≡ fields-answer.Err q)
+      → r ≡ Ok (fields_of p)
+  pub no_function_lem : (b : Belongs L chunk) → get_elem? b.reading.functions f ≡ none → r ≡ Err NoFunction
+  pub else : ¬ Belongs L chunk → (q : Refusal) × (r ≡ Err q)
 
 -- entry i of a list of function f: `ok` of it, or `err` of a refusal
 pub record EntryShown {E X : Type 0} (list : Prototype → List E) (ok : E → X) (err : Refusal → X) (L : ResourceLimits) (chunk : Bytes) (f i : ℕ) (r : X) : Type 0 where
@@ -115,18 +104,18 @@ pub record EntryShown {E X : Type 0} (list : Prototype → List E) (ok : E → X
   pub else : ¬ Belongs L chunk → (q : Refusal) × (r ≡ err q)
 
 -- a local variable: its name in lent memory that held `old` and then holds `new`
-pub record LocalShown (L : ResourceLimits) (chunk : Bytes) (f i : ℕ) (old new : Bytes) (r : LocalAnswer) : Type 0 where
+pub record LocalShown (L : ResourceLimits) (chunk : Bytes) (f i : ℕ) (old new : Bytes) (r : Result declared_local.LocalShown Refusal) : Type 0 where
   pub given : (b : Belongs L chunk) (p : Prototype) → get_elem? b.reading.functions f ≡ some p → (l : LocalVar)
       → get_elem? p.loc_vars i ≡ some l → length l.name.bytes ≤ length old
-      → (r ≡ local-answer.Ok (length l.name.bytes) l.startpc l.endpc) × (new ≡ l.name.bytes ++ drop (length l.name.bytes) old)
+      → (r ≡ Ok (record { name_len = (length l.name.bytes); startpc = l.startpc; endpc = l.endpc })) × (new ≡ l.name.bytes ++ drop (length l.name.bytes) old)
   pub too_long : (b : Belongs L chunk) (p : Prototype) → get_elem? b.reading.functions f ≡ some p → (l : LocalVar)
       → get_elem? p.loc_vars i ≡ some l → length old < length l.name.bytes
-      → (r ≡ local-answer.Err LentSpace) × (new ≡ old)
+      → (r ≡ Err LentSpace) × (new ≡ old)
   pub no_entry_lem : (b : Belongs L chunk) (p : Prototype) → get_elem? b.reading.functions f ≡ some p
-      → get_elem? p.loc_vars i ≡ none → (r ≡ local-answer.Err NoEntry) × (new ≡ old)
+      → get_elem? p.loc_vars i ≡ none → (r ≡ Err NoEntry) × (new ≡ old)
   pub no_function_lem : (b : Belongs L chunk) → get_elem? b.reading.functions f ≡ none
-      → (r ≡ local-answer.Err NoFunction) × (new ≡ old)
-  pub else : ¬ Belongs L chunk → (q : Refusal) × ((r ≡ local-answer.Err q) × (new ≡ old))
+      → (r ≡ Err NoFunction) × (new ≡ old)
+  pub else : ¬ Belongs L chunk → (q : Refusal) × ((r ≡ Err q) × (new ≡ old))
 
 -- a string of function f, asked for by its place and the length of its bytes
 pub record StringShown (chunk : Bytes) (place len : ℕ) (bytes : Bytes) : Type 0 where
@@ -147,12 +136,12 @@ pub record StringShown (chunk : Bytes) (place len : ℕ) (bytes : Bytes) : Type 
       → place ≡ t.place → len ≡ length t.bytes → bytes ≡ t.bytes
 
 -- the archive copy, in lent memory that held `old` and then holds `new`
-pub record CopyShown (L : ResourceLimits) (chunk old new : Bytes) (r : CopyAnswer) : Type 0 where
+pub record CopyShown (L : ResourceLimits) (chunk old new : Bytes) (r : Result ℕ Refusal) : Type 0 where
   pub given : (b : Belongs L chunk) → length (copy b.reading) ≤ length old
-      → (r ≡ copy-answer.Ok (length (copy b.reading))) × (new ≡ copy b.reading ++ drop (length (copy b.reading)) old)
+      → (r ≡ Ok (length (copy b.reading))) × (new ≡ copy b.reading ++ drop (length (copy b.reading)) old)
   pub too_long : (b : Belongs L chunk) → length old < length (copy b.reading)
-      → (r ≡ copy-answer.Err LentSpace) × (new ≡ old)
-  pub else : ¬ Belongs L chunk → (q : Refusal) × ((r ≡ copy-answer.Err q) × (new ≡ old))
+      → (r ≡ Err LentSpace) × (new ≡ old)
+  pub else : ¬ Belongs L chunk → (q : Refusal) × ((r ≡ Err q) × (new ≡ old))
 
 -- ## From the contracts, by the laws of demand 3
 module _ (L : ResourceLimits) (chunk : Bytes) where
@@ -260,53 +249,53 @@ fields_shown_lem M 𝓤 𝓛 𝓜 𝓡 wired =
     })) (fields-call.Met.met 𝓤 𝓛 𝓜 𝓡 wired)
 
 pub instruction-shown : Promise instruction-contract.ended instruction-call.Symbol.code instruction-call.Symbol.name (λ _ chunk limits function entry r.
-    EntryShown (λ p. p.instructions) word-answer.Ok word-answer.Err limits chunk.now function entry r
+    EntryShown (λ p. p.instructions) Ok Err limits chunk.now function entry r
     ∷ [])
 instruction-shown M 𝓤 𝓛 𝓜 𝓡 wired =
     bytes_known 𝓛 𝓜 𝓡 (𝓡.env instruction-call.Symbol.name) 0 [] _ _ (instruction-contract.ended).kept (instruction-contract.clauses 𝓛 𝓜.mem 𝓡.returns)
-    (λ κs a _ r _. fact 𝓤 (EntryShown (λ p. p.instructions) word-answer.Ok word-answer.Err a.1.0 a.0.now a.1.1.0 a.1.1.1.0 r))
-    (λ κs a _ r _ below. fact_mono 𝓤 _ _ (entry_shown a.1.0 a.0.now (λ p. p.instructions) word-answer.Ok word-answer.Err shown_word (λ x. refl) (λ q. refl) a.1.1.0 a.1.1.1.0 r)) (instruction-call.Met.met 𝓤 𝓛 𝓜 𝓡 wired)
+    (λ κs a _ r _. fact 𝓤 (EntryShown (λ p. p.instructions) Ok Err a.1.0 a.0.now a.1.1.0 a.1.1.1.0 r))
+    (λ κs a _ r _ below. fact_mono 𝓤 _ _ (entry_shown a.1.0 a.0.now (λ p. p.instructions) Ok Err shown_word (λ x. refl) (λ q. refl) a.1.1.0 a.1.1.1.0 r)) (instruction-call.Met.met 𝓤 𝓛 𝓜 𝓡 wired)
 
 pub constant-shown : Promise constant-contract.ended constant-call.Symbol.code constant-call.Symbol.name (λ _ chunk limits function entry r.
-    EntryShown (λ p. p.constants) (λ k. constant-answer.Ok (constant_value k)) constant-answer.Err limits chunk.now function entry r
+    EntryShown (λ p. p.constants) (λ k. Ok (constant_value k)) Err limits chunk.now function entry r
     ∷ [])
 constant-shown M 𝓤 𝓛 𝓜 𝓡 wired =
     bytes_known 𝓛 𝓜 𝓡 (𝓡.env constant-call.Symbol.name) 0 [] _ _ (constant-contract.ended).kept (constant-contract.clauses 𝓛 𝓜.mem 𝓡.returns)
-    (λ κs a _ r _. fact 𝓤 (EntryShown (λ p. p.constants) (λ k. constant-answer.Ok (constant_value k)) constant-answer.Err a.1.0 a.0.now a.1.1.0 a.1.1.1.0 r))
-    (λ κs a _ r _ below. fact_mono 𝓤 _ _ (entry_shown a.1.0 a.0.now (λ p. p.constants) (λ k. constant-answer.Ok (constant_value k)) constant-answer.Err shown_constant (λ x. refl) (λ q. refl) a.1.1.0 a.1.1.1.0 r)) (constant-call.Met.met 𝓤 𝓛 𝓜 𝓡 wired)
+    (λ κs a _ r _. fact 𝓤 (EntryShown (λ p. p.constants) (λ k. Ok (constant_value k)) Err a.1.0 a.0.now a.1.1.0 a.1.1.1.0 r))
+    (λ κs a _ r _ below. fact_mono 𝓤 _ _ (entry_shown a.1.0 a.0.now (λ p. p.constants) (λ k. Ok (constant_value k)) Err shown_constant (λ x. refl) (λ q. refl) a.1.1.0 a.1.1.1.0 r)) (constant-call.Met.met 𝓤 𝓛 𝓜 𝓡 wired)
 
 pub upvalue-shown : Promise upvalue-contract.ended upvalue-call.Symbol.code upvalue-call.Symbol.name (λ _ chunk limits function entry r.
-    EntryShown (λ p. p.upvalues) upvalue-answer.Ok upvalue-answer.Err limits chunk.now function entry r
+    EntryShown (λ p. p.upvalues) Ok Err limits chunk.now function entry r
     ∷ [])
 upvalue-shown M 𝓤 𝓛 𝓜 𝓡 wired =
     bytes_known 𝓛 𝓜 𝓡 (𝓡.env upvalue-call.Symbol.name) 0 [] _ _ (upvalue-contract.ended).kept (upvalue-contract.clauses 𝓛 𝓜.mem 𝓡.returns)
-    (λ κs a _ r _. fact 𝓤 (EntryShown (λ p. p.upvalues) upvalue-answer.Ok upvalue-answer.Err a.1.0 a.0.now a.1.1.0 a.1.1.1.0 r))
-    (λ κs a _ r _ below. fact_mono 𝓤 _ _ (entry_shown a.1.0 a.0.now (λ p. p.upvalues) upvalue-answer.Ok upvalue-answer.Err shown_upvalue (λ x. refl) (λ q. refl) a.1.1.0 a.1.1.1.0 r)) (upvalue-call.Met.met 𝓤 𝓛 𝓜 𝓡 wired)
+    (λ κs a _ r _. fact 𝓤 (EntryShown (λ p. p.upvalues) Ok Err a.1.0 a.0.now a.1.1.0 a.1.1.1.0 r))
+    (λ κs a _ r _ below. fact_mono 𝓤 _ _ (entry_shown a.1.0 a.0.now (λ p. p.upvalues) Ok Err shown_upvalue (λ x. refl) (λ q. refl) a.1.1.0 a.1.1.1.0 r)) (upvalue-call.Met.met 𝓤 𝓛 𝓜 𝓡 wired)
 
 -- a byte as a signed number
 pub delta_shown : Promise delta-contract.ended delta-call.Symbol.code delta-call.Symbol.name (λ _ chunk limits function entry r.
-    EntryShown (λ p. p.line_info_lem) (λ x. delta-answer.Ok (to_z w8 x)) delta-answer.Err limits chunk.now function entry r
+    EntryShown (λ p. p.line_info_lem) (λ x. Ok (to_z w8 x)) Err limits chunk.now function entry r
     ∷ [])
 delta_shown M 𝓤 𝓛 𝓜 𝓡 wired =
     bytes_known 𝓛 𝓜 𝓡 (𝓡.env delta-call.Symbol.name) 0 [] _ _ (delta-contract.ended).kept (delta-contract.clauses 𝓛 𝓜.mem 𝓡.returns)
-    (λ κs a _ r _. fact 𝓤 (EntryShown (λ p. p.line_info_lem) (λ x. delta-answer.Ok (to_z w8 x)) delta-answer.Err a.1.0 a.0.now a.1.1.0 a.1.1.1.0 r))
-    (λ κs a _ r _ below. fact_mono 𝓤 _ _ (entry_shown a.1.0 a.0.now (λ p. p.line_info_lem) (λ x. delta-answer.Ok (to_z w8 x)) delta-answer.Err shown_delta (λ x. refl) (λ q. refl) a.1.1.0 a.1.1.1.0 r)) (delta-call.Met.met 𝓤 𝓛 𝓜 𝓡 wired)
+    (λ κs a _ r _. fact 𝓤 (EntryShown (λ p. p.line_info_lem) (λ x. Ok (to_z w8 x)) Err a.1.0 a.0.now a.1.1.0 a.1.1.1.0 r))
+    (λ κs a _ r _ below. fact_mono 𝓤 _ _ (entry_shown a.1.0 a.0.now (λ p. p.line_info_lem) (λ x. Ok (to_z w8 x)) Err shown_delta (λ x. refl) (λ q. refl) a.1.1.0 a.1.1.1.0 r)) (delta-call.Met.met 𝓤 𝓛 𝓜 𝓡 wired)
 
 pub anchor-shown : Promise anchor-contract.ended anchor-call.Symbol.code anchor-call.Symbol.name (λ _ chunk limits function entry r.
-    EntryShown (λ p. p.abs_line_info) anchor-answer.Ok anchor-answer.Err limits chunk.now function entry r
+    EntryShown (λ p. p.abs_line_info) Ok Err limits chunk.now function entry r
     ∷ [])
 anchor-shown M 𝓤 𝓛 𝓜 𝓡 wired =
     bytes_known 𝓛 𝓜 𝓡 (𝓡.env anchor-call.Symbol.name) 0 [] _ _ (anchor-contract.ended).kept (anchor-contract.clauses 𝓛 𝓜.mem 𝓡.returns)
-    (λ κs a _ r _. fact 𝓤 (EntryShown (λ p. p.abs_line_info) anchor-answer.Ok anchor-answer.Err a.1.0 a.0.now a.1.1.0 a.1.1.1.0 r))
-    (λ κs a _ r _ below. fact_mono 𝓤 _ _ (entry_shown a.1.0 a.0.now (λ p. p.abs_line_info) anchor-answer.Ok anchor-answer.Err shown_anchor (λ x. refl) (λ q. refl) a.1.1.0 a.1.1.1.0 r)) (anchor-call.Met.met 𝓤 𝓛 𝓜 𝓡 wired)
+    (λ κs a _ r _. fact 𝓤 (EntryShown (λ p. p.abs_line_info) Ok Err a.1.0 a.0.now a.1.1.0 a.1.1.1.0 r))
+    (λ κs a _ r _ below. fact_mono 𝓤 _ _ (entry_shown a.1.0 a.0.now (λ p. p.abs_line_info) Ok Err shown_anchor (λ x. refl) (λ q. refl) a.1.1.0 a.1.1.1.0 r)) (anchor-call.Met.met 𝓤 𝓛 𝓜 𝓡 wired)
 
 pub upvalue-name-shown : Promise upvalue-name-contract.ended upvalue-name-call.Symbol.code upvalue-name-call.Symbol.name (λ _ chunk limits function entry r.
-    EntryShown (λ p. p.upvalue_names_lem) (λ t. name-answer.Ok (option_string t)) name-answer.Err limits chunk.now function entry r
+    EntryShown (λ p. p.upvalue_names_lem) (λ t. Ok (option_string t)) Err limits chunk.now function entry r
     ∷ [])
 upvalue-name-shown M 𝓤 𝓛 𝓜 𝓡 wired =
     bytes_known 𝓛 𝓜 𝓡 (𝓡.env upvalue-name-call.Symbol.name) 0 [] _ _ (upvalue-name-contract.ended).kept (upvalue-name-contract.clauses 𝓛 𝓜.mem 𝓡.returns)
-    (λ κs a _ r _. fact 𝓤 (EntryShown (λ p. p.upvalue_names_lem) (λ t. name-answer.Ok (option_string t)) name-answer.Err a.1.0 a.0.now a.1.1.0 a.1.1.1.0 r))
-    (λ κs a _ r _ below. fact_mono 𝓤 _ _ (entry_shown a.1.0 a.0.now (λ p. p.upvalue_names_lem) (λ t. name-answer.Ok (option_string t)) name-answer.Err shown_name (λ x. refl) (λ q. refl) a.1.1.0 a.1.1.1.0 r)) (upvalue-name-call.Met.met 𝓤 𝓛 𝓜 𝓡 wired)
+    (λ κs a _ r _. fact 𝓤 (EntryShown (λ p. p.upvalue_names_lem) (λ t. Ok (option_string t)) Err a.1.0 a.0.now a.1.1.0 a.1.1.1.0 r))
+    (λ κs a _ r _ below. fact_mono 𝓤 _ _ (entry_shown a.1.0 a.0.now (λ p. p.upvalue_names_lem) (λ t. Ok (option_string t)) Err shown_name (λ x. refl) (λ q. refl) a.1.1.0 a.1.1.1.0 r)) (upvalue-name-call.Met.met 𝓤 𝓛 𝓜 𝓡 wired)
 
 pub local-shown : Promise local-contract.ended local-call.Symbol.code local-call.Symbol.name (λ _ chunk limits function entry name name' r.
     LocalShown limits chunk.now function entry name.now name'.now r
@@ -335,11 +324,11 @@ pub record Again (L : ResourceLimits) (r : Reading) (bytes : Bytes) : Type 0 whe
 
 -- what stands at the front of the lent memory, as much as is answered; the premises are the demand's
 pub written_read : Promise copy-contract.ended copy-call.Symbol.code copy-call.Symbol.name (λ _ chunk limits out out' r.
-    ((b : Belongs limits chunk.now) (n : ℕ) → r ≡ copy-answer.Ok n → 1 ≤ limits.max_string_bytes → length (take n out'.now) ≤ limits.max_input_bytes → Again limits b.reading (take n out'.now))
+    ((b : Belongs limits chunk.now) (n : ℕ) → r ≡ Ok n → 1 ≤ limits.max_string_bytes → length (take n out'.now) ≤ limits.max_input_bytes → Again limits b.reading (take n out'.now))
     ∷ [])
 written_read M 𝓤 𝓛 𝓜 𝓡 wired =
     bytes_known 𝓛 𝓜 𝓡 (𝓡.env copy-call.Symbol.name) 1 [] _ _ (copy-contract.ended).kept (copy-contract.clauses 𝓛 𝓜.mem 𝓡.returns)
-    (λ κs a _ r end. fact 𝓤 ((b : Belongs a.1.0 a.0.now) (n : ℕ) → r ≡ copy-answer.Ok n → 1 ≤ a.1.0.max_string_bytes → length (take n end.1.1.0.now) ≤ a.1.0.max_input_bytes → Again a.1.0 b.reading (take n end.1.1.0.now)))
+    (λ κs a _ r end. fact 𝓤 ((b : Belongs a.1.0 a.0.now) (n : ℕ) → r ≡ Ok n → 1 ≤ a.1.0.max_string_bytes → length (take n end.1.1.0.now) ≤ a.1.0.max_input_bytes → Again a.1.0 b.reading (take n end.1.1.0.now)))
     (λ κs a _ r end below. both 𝓤 _ _ _ (λ answers leaves b n e string input.
     (let x = written-is-read a.1.0 a.0.now a.1.1.0.now (take n end.1.1.0.now) b (record { len = n; new = end.1.1.0.now; call = record { below = below; answers = sym e ∙ answers; leaves = leaves }; bytes = refl }) string input in record { belongs = x.belongs; same = x.same })))
     (copy-call.Met.met 𝓤 𝓛 𝓜 𝓡 wired)

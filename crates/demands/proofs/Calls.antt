@@ -18,6 +18,7 @@
 --     full_copy               answers    shown_full space (read L s), and leaves full_written old (read L s)
 -- and the theorems below say what these are: `shows` where the chunk is read, `refuses` where it is refused. They leave `strict_summary` out, which does not go by `read` (Request05.antt, `Strict-Above`, and Request07.antt).
 -- Assumes nothing.
+use Rattle.std.specs.Prelude.{Ok, Err}
 use mathlib.Core.Path.{◌≡◌, refl, ◌∙◌, ap}
 use mathlib.Core.Bool.{Bool, true, false, cond}
 use mathlib.Core.List.{List, [], ◌++◌}
@@ -43,42 +44,26 @@ use Rattle.read_nth.proofs.Strings.{ConstantStands, constant_stands, name_stands
 use Rattle.validate_rules.specs.declared.finding.Finding.{Finding}
 use Rattle.validate_rules.specs.declared.finding.Rule.TheVariants.{Register}
 use Rattle.validate_rules.specs.Findings.{chunk_findings, verdict}
-use Rattle.validate_verdict.specs.declared.verdict.VerdictAnswer.TheVariants as verdict-answer
-use Rattle.validate_verdict.specs.declared.verdict.CountAnswer.TheVariants as count-answer
 use Rattle.validate_verdict.specs.Answers.{shownVerdict, shownCount}
 use Rattle.validate_search.proofs.Few.{findings_few}
-use Rattle.validate_plan.specs.declared.FindingsAnswer.TheVariants as findings-answer
 use Rattle.validate_plan.specs.Validated.{shown_findings, findings_written}
 use Rattle.validate_findings.specs.Blank.{LONGEST, blank_list}
-use Rattle.line_lookup.specs.declared.line.LineAnswer.TheVariants as line-answer
 use Rattle.line_lookup.specs.Lines.{answer_of, shown_line}
-use Rattle.line_batch.specs.declared.list.LinesAnswer.TheVariants as lines-answer
 use Rattle.line_batch.specs.Batch.{shown_lines, lines_written}
 use Rattle.index.specs.Index.{index, shown_index, index_written}
-use Rattle.index.specs.declared.IndexAnswer.TheVariants as index-answer
 use Rattle.copy.specs.Copied.{shown_length, shown_copy, copy_written}
 use Rattle.copy_full.specs.InFull.{shown_full_length, shown_full, full_written}
-use Rattle.copy.specs.declared.whole.CopyAnswer.TheVariants as copy-answer
-use Rattle.show_chunk.specs.declared.summary.SummaryAnswer.TheVariants as summary-answer
-use Rattle.show_chunk.specs.declared.fields.FieldsAnswer.TheVariants as fields-answer
-use Rattle.show_local.specs.declared.LocalAnswer.TheVariants as local-answer
 use Rattle.show_row.specs.Asked.{found, refused, or_refuse, function_of, entry_of, entry_in}
 use Rattle.read_chunk.specs.Decoded.{summary_of}
 use Rattle.show_chunk.specs.Summaries.{shown_summary, trailing_of}
 use Rattle.show_chunk.specs.Fields.{fields_of, shown_fields}
-use Rattle.show_entry.specs.declared.WordAnswer.TheVariants as word-answer
-use Rattle.show_entry.specs.declared.ConstantAnswer.TheVariants as constant-answer
-use Rattle.show_entry.specs.declared.UpvalueAnswer.TheVariants as upvalue-answer
-use Rattle.show_entry.specs.declared.DeltaAnswer.TheVariants as delta-answer
-use Rattle.show_entry.specs.declared.AnchorAnswer.TheVariants as anchor-answer
-use Rattle.show_entry.specs.declared.NameAnswer.TheVariants as name-answer
 use Rattle.show_entry.specs.Entries.{shown_word, shown_constant, shown_upvalue, shown_delta, shown_anchor, shown_name}
 use Rattle.show_local.specs.Locals.{shown_local, name_written}
 use Rattle.show_row.proofs.Whole.{all_nth, whole}
 
 -- ## What is shown of a function
 pub record ShowsFunction (L : ResourceLimits) (s : Bytes) (f : ℕ) (p : Prototype) : Type 0 where
-  pub fields : shown_fields (function_of f (read L s)) ≡ fields-answer.Ok (fields_of p)
+  pub fields : shown_fields (function_of f (read L s)) ≡ Ok (fields_of p)
   -- an entry by its number, or refusal 24
   pub instruction : (i : ℕ) → shown_word (entry_of (λ p. p.instructions) f i (read L s)) ≡ shown_word (or_refuse NoEntry (get_elem? p.instructions i))
   pub constant : (i : ℕ) → shown_constant (entry_of (λ p. p.constants) f i (read L s)) ≡ shown_constant (or_refuse NoEntry (get_elem? p.constants i))
@@ -88,12 +73,12 @@ pub record ShowsFunction (L : ResourceLimits) (s : Bytes) (f : ℕ) (p : Prototy
   pub upvalue_name : (i : ℕ) → shown_name (entry_of (λ p. p.upvalue_names_lem) f i (read L s)) ≡ shown_name (or_refuse NoEntry (get_elem? p.upvalue_names_lem i))
   -- a local variable's name is written into lent space that has room for it, and what stood behind it stays; else 26, and all that stood there stays
   pub local : (i : ℕ) (l : LocalVar) → get_elem? p.loc_vars i ≡ some l → (old : Bytes) → length l.name.bytes ≤ length old
-      → (shown_local (length old) (entry_of (λ p. p.loc_vars) f i (read L s)) ≡ local-answer.Ok (length l.name.bytes) l.startpc l.endpc)
+      → (shown_local (length old) (entry_of (λ p. p.loc_vars) f i (read L s)) ≡ Ok (record { name_len = (length l.name.bytes); startpc = l.startpc; endpc = l.endpc }))
       × (name_written old (entry_of (λ p. p.loc_vars) f i (read L s)) ≡ l.name.bytes ++ drop (length l.name.bytes) old)
   pub local_too_long : (i : ℕ) (l : LocalVar) → get_elem? p.loc_vars i ≡ some l → (old : Bytes) → length old < length l.name.bytes
-      → (shown_local (length old) (entry_of (λ p. p.loc_vars) f i (read L s)) ≡ local-answer.Err LentSpace) × (name_written old (entry_of (λ p. p.loc_vars) f i (read L s)) ≡ old)
+      → (shown_local (length old) (entry_of (λ p. p.loc_vars) f i (read L s)) ≡ Err LentSpace) × (name_written old (entry_of (λ p. p.loc_vars) f i (read L s)) ≡ old)
   pub no_local : (i : ℕ) → get_elem? p.loc_vars i ≡ none → (old : Bytes)
-      → (shown_local (length old) (entry_of (λ p. p.loc_vars) f i (read L s)) ≡ local-answer.Err NoEntry) × (name_written old (entry_of (λ p. p.loc_vars) f i (read L s)) ≡ old)
+      → (shown_local (length old) (entry_of (λ p. p.loc_vars) f i (read L s)) ≡ Err NoEntry) × (name_written old (entry_of (λ p. p.loc_vars) f i (read L s)) ≡ old)
   -- strings: what `string_bytes` shows by the place and length that are shown are their bytes
   pub source_bytes : StandsIf s p.source_name
   pub constant_bytes : (i : ℕ) (k : ConstantValue) → get_elem? p.constants i ≡ some k → ConstantStands s k
@@ -105,16 +90,16 @@ pub record ShowsFunction (L : ResourceLimits) (s : Bytes) (f : ℕ) (p : Prototy
 
 -- ## A function that is not shown: every call on it answers with the same refusal, and lent memory stays as it was
 pub record RefusesFunction (L : ResourceLimits) (s : Bytes) (f : ℕ) (q : Refusal) : Type 0 where
-  pub fields : shown_fields (function_of f (read L s)) ≡ fields-answer.Err q
-  pub instruction : (i : ℕ) → shown_word (entry_of (λ p. p.instructions) f i (read L s)) ≡ word-answer.Err q
-  pub constant : (i : ℕ) → shown_constant (entry_of (λ p. p.constants) f i (read L s)) ≡ constant-answer.Err q
-  pub upvalue : (i : ℕ) → shown_upvalue (entry_of (λ p. p.upvalues) f i (read L s)) ≡ upvalue-answer.Err q
-  pub delta : (i : ℕ) → shown_delta (entry_of (λ p. p.line_info_lem) f i (read L s)) ≡ delta-answer.Err q
-  pub anchor : (i : ℕ) → shown_anchor (entry_of (λ p. p.abs_line_info) f i (read L s)) ≡ anchor-answer.Err q
-  pub upvalue_name : (i : ℕ) → shown_name (entry_of (λ p. p.upvalue_names_lem) f i (read L s)) ≡ name-answer.Err q
-  pub local : (i : ℕ) (old : Bytes) → (shown_local (length old) (entry_of (λ p. p.loc_vars) f i (read L s)) ≡ local-answer.Err q) × (name_written old (entry_of (λ p. p.loc_vars) f i (read L s)) ≡ old)
-  pub line : (pc : ℕ) → shown_line pc (function_of f (read L s)) ≡ line-answer.Err q
-  pub lines : (old pcs : List ℕ) → (shown_lines (length old) pcs (function_of f (read L s)) ≡ lines-answer.Err q) × (lines_written old pcs (function_of f (read L s)) ≡ old)
+  pub fields : shown_fields (function_of f (read L s)) ≡ Err q
+  pub instruction : (i : ℕ) → shown_word (entry_of (λ p. p.instructions) f i (read L s)) ≡ Err q
+  pub constant : (i : ℕ) → shown_constant (entry_of (λ p. p.constants) f i (read L s)) ≡ Err q
+  pub upvalue : (i : ℕ) → shown_upvalue (entry_of (λ p. p.upvalues) f i (read L s)) ≡ Err q
+  pub delta : (i : ℕ) → shown_delta (entry_of (λ p. p.line_info_lem) f i (read L s)) ≡ Err q
+  pub anchor : (i : ℕ) → shown_anchor (entry_of (λ p. p.abs_line_info) f i (read L s)) ≡ Err q
+  pub upvalue_name : (i : ℕ) → shown_name (entry_of (λ p. p.upvalue_names_lem) f i (read L s)) ≡ Err q
+  pub local : (i : ℕ) (old : Bytes) → (shown_local (length old) (entry_of (λ p. p.loc_vars) f i (read L s)) ≡ Err q) × (name_written old (entry_of (λ p. p.loc_vars) f i (read L s)) ≡ old)
+  pub line : (pc : ℕ) → shown_line pc (function_of f (read L s)) ≡ Err q
+  pub lines : (old pcs : List ℕ) → (shown_lines (length old) pcs (function_of f (read L s)) ≡ Err q) × (lines_written old pcs (function_of f (read L s)) ≡ old)
 
 refuses-function : (L : ResourceLimits) (s : Bytes) (f : ℕ) (q : Refusal) → function_of f (read L s) ≡ refused q → RefusesFunction L s f q
 refuses-function L s f q is = record {
@@ -132,33 +117,33 @@ refuses-function L s f q is = record {
 
 -- ## What is shown of a chunk
 pub record Shows (L : ResourceLimits) (s : Bytes) (r : Reading) : Type 0 where
-  pub summary : shown_summary (spelling L s) (read L s) ≡ summary-answer.Ok (record { summary = summary_of r; padded_numbers = (spelling L s).padded })
+  pub summary : shown_summary (spelling L s) (read L s) ≡ Ok (record { summary = summary_of r; padded_numbers = (spelling L s).padded })
   pub trailing : trailing_of (read L s) ≡ r.trailing
   pub function : (f : ℕ) (p : Prototype) → get_elem? r.functions f ≡ some p → ShowsFunction L s f p
   -- refusal 23
   pub no_function_lem : (f : ℕ) → get_elem? r.functions f ≡ none → RefusesFunction L s f NoFunction
   -- the index is written into lent space that has room for it, and what stood behind it stays; else 26, and all that stood there stays
   pub index_rows : (old : List ℕ) → length (index r.functions) ≤ length old
-      → (shown_index (length old) (read L s) ≡ index-answer.Ok (length r.functions)) × (index_written old (read L s) ≡ index r.functions ++ drop (length (index r.functions)) old)
-  pub index_too_long : (old : List ℕ) → length old < length (index r.functions) → (shown_index (length old) (read L s) ≡ index-answer.Err LentSpace) × (index_written old (read L s) ≡ old)
+      → (shown_index (length old) (read L s) ≡ Ok (length r.functions)) × (index_written old (read L s) ≡ index r.functions ++ drop (length (index r.functions)) old)
+  pub index_too_long : (old : List ℕ) → length old < length (index r.functions) → (shown_index (length old) (read L s) ≡ Err LentSpace) × (index_written old (read L s) ≡ old)
   -- validation: the verdict, the number of findings, and the findings in a list that has room for them
-  pub chunk_verdict : shownVerdict (read L s) ≡ verdict-answer.Ok (verdict (chunk_findings r))
-  pub finding_count : shownCount (read L s) ≡ count-answer.Ok (length (chunk_findings r).findings)
+  pub chunk_verdict : shownVerdict (read L s) ≡ Ok (verdict (chunk_findings r))
+  pub finding_count : shownCount (read L s) ≡ Ok (length (chunk_findings r).findings)
   pub findings : (old : List Finding) → length (chunk_findings r).findings ≤ length old
-      → (shown_findings (length old) (read L s) ≡ findings-answer.Ok (verdict (chunk_findings r)) (length (chunk_findings r).findings))
+      → (shown_findings (length old) (read L s) ≡ Ok ((verdict (chunk_findings r)), (length (chunk_findings r).findings)))
       × (findings_written old (read L s) ≡ (chunk_findings r).findings ++ drop (length (chunk_findings r).findings) old)
-  pub findings_too_many : (old : List Finding) → length old < length (chunk_findings r).findings → (shown_findings (length old) (read L s) ≡ findings-answer.Err LentSpace) × (findings_written old (read L s) ≡ old)
+  pub findings_too_many : (old : List Finding) → length old < length (chunk_findings r).findings → (shown_findings (length old) (read L s) ≡ Err LentSpace) × (findings_written old (read L s) ≡ old)
   -- the array by value always has room
-  pub finding_array : (shown_findings LONGEST (read L s) ≡ findings-answer.Ok (verdict (chunk_findings r)) (length (chunk_findings r).findings))
+  pub finding_array : (shown_findings LONGEST (read L s) ≡ Ok ((verdict (chunk_findings r)), (length (chunk_findings r).findings)))
       × (findings_written blank_list (read L s) ≡ (chunk_findings r).findings ++ drop (length (chunk_findings r).findings) blank_list)
-  pub copy_length : shown_length (read L s) ≡ copy-answer.Ok (length (copy r))
+  pub copy_length : shown_length (read L s) ≡ Ok (length (copy r))
   -- the copy is written into lent space that has room for it, and what stood behind it stays; else 26, and all that stood there stays
-  pub copied : (old : Bytes) → length (copy r) ≤ length old → (shown_copy (length old) (read L s) ≡ copy-answer.Ok (length (copy r))) × (copy_written old (read L s) ≡ copy r ++ drop (length (copy r)) old)
-  pub copy_too_long : (old : Bytes) → length old < length (copy r) → (shown_copy (length old) (read L s) ≡ copy-answer.Err LentSpace) × (copy_written old (read L s) ≡ old)
+  pub copied : (old : Bytes) → length (copy r) ≤ length old → (shown_copy (length old) (read L s) ≡ Ok (length (copy r))) × (copy_written old (read L s) ≡ copy r ++ drop (length (copy r)) old)
+  pub copy_too_long : (old : Bytes) → length old < length (copy r) → (shown_copy (length old) (read L s) ≡ Err LentSpace) × (copy_written old (read L s) ≡ old)
   -- so is the full copy
-  pub full_length : shown_full_length (read L s) ≡ copy-answer.Ok (length (full_copy r))
-  pub full_copied : (old : Bytes) → length (full_copy r) ≤ length old → (shown_full (length old) (read L s) ≡ copy-answer.Ok (length (full_copy r))) × (full_written old (read L s) ≡ full_copy r ++ drop (length (full_copy r)) old)
-  pub full_too_long : (old : Bytes) → length old < length (full_copy r) → (shown_full (length old) (read L s) ≡ copy-answer.Err LentSpace) × (full_written old (read L s) ≡ old)
+  pub full_length : shown_full_length (read L s) ≡ Ok (length (full_copy r))
+  pub full_copied : (old : Bytes) → length (full_copy r) ≤ length old → (shown_full (length old) (read L s) ≡ Ok (length (full_copy r))) × (full_written old (read L s) ≡ full_copy r ++ drop (length (full_copy r)) old)
+  pub full_too_long : (old : Bytes) → length old < length (full_copy r) → (shown_full (length old) (read L s) ≡ Err LentSpace) × (full_written old (read L s) ≡ old)
 
 -- the array of `chunk_findings` is as long as there can be findings
 array_length : length blank_list ≡ LONGEST
@@ -174,7 +159,7 @@ module _ (L : ResourceLimits) (s : Bytes) (r : Reading) (is : read L s ≡ shown
     entry_is list i = ap (entry_in list i) function-is
 
     name : (i : ℕ) (l : LocalVar) → get_elem? p.loc_vars i ≡ some l → (old : Bytes) (b : Bool) → leb (length l.name.bytes) (length old) ≡ b
-        → (shown_local (length old) (entry_of (λ p. p.loc_vars) f i (read L s)) ≡ cond b (local-answer.Ok (length l.name.bytes) l.startpc l.endpc) (local-answer.Err LentSpace))
+        → (shown_local (length old) (entry_of (λ p. p.loc_vars) f i (read L s)) ≡ cond b (Ok (record { name_len = (length l.name.bytes); startpc = l.startpc; endpc = l.endpc })) (Err LentSpace))
         × (name_written old (entry_of (λ p. p.loc_vars) f i (read L s)) ≡ cond b (l.name.bytes ++ drop (length l.name.bytes) old) old)
     name i l e old b test =
         let one = entry_is (λ p. p.loc_vars) i ∙ ap (or_refuse NoEntry) e in
@@ -204,7 +189,7 @@ module _ (L : ResourceLimits) (s : Bytes) (r : Reading) (is : read L s ≡ shown
 
   -- the findings in a list of that length
   listed : (space : ℕ) (old : List Finding) → length old ≡ space → (b : Bool) → leb (length (chunk_findings r).findings) space ≡ b
-      → (shown_findings space (read L s) ≡ cond b (findings-answer.Ok (verdict (chunk_findings r)) (length (chunk_findings r).findings)) (findings-answer.Err LentSpace))
+      → (shown_findings space (read L s) ≡ cond b (Ok ((verdict (chunk_findings r)), (length (chunk_findings r).findings))) (Err LentSpace))
       × (findings_written old (read L s) ≡ cond b ((chunk_findings r).findings ++ drop (length (chunk_findings r).findings) old) old)
   listed space old size b test = (ap (shown_findings space) is ∙ rw test, ap (findings_written old) is ∙ rw (size, test))
 
@@ -231,18 +216,18 @@ module _ (L : ResourceLimits) (s : Bytes) (r : Reading) (is : read L s ≡ shown
 
 -- ## A chunk that is refused: every call answers with the same refusal, and lent memory stays as it was
 pub record Refuses (L : ResourceLimits) (s : Bytes) (q : Refusal) : Type 0 where
-  pub summary : shown_summary (spelling L s) (read L s) ≡ summary-answer.Err q
+  pub summary : shown_summary (spelling L s) (read L s) ≡ Err q
   pub trailing : trailing_of (read L s) ≡ []
   pub function : (f : ℕ) → RefusesFunction L s f q
-  pub index_rows : (old : List ℕ) → (shown_index (length old) (read L s) ≡ index-answer.Err q) × (index_written old (read L s) ≡ old)
-  pub chunk_verdict : shownVerdict (read L s) ≡ verdict-answer.Err q
-  pub finding_count : shownCount (read L s) ≡ count-answer.Err q
-  pub findings : (old : List Finding) → (shown_findings (length old) (read L s) ≡ findings-answer.Err q) × (findings_written old (read L s) ≡ old)
-  pub finding_array : (shown_findings LONGEST (read L s) ≡ findings-answer.Err q) × (findings_written blank_list (read L s) ≡ blank_list)
-  pub copy_length : shown_length (read L s) ≡ copy-answer.Err q
-  pub copied : (old : Bytes) → (shown_copy (length old) (read L s) ≡ copy-answer.Err q) × (copy_written old (read L s) ≡ old)
-  pub full_length : shown_full_length (read L s) ≡ copy-answer.Err q
-  pub full_copied : (old : Bytes) → (shown_full (length old) (read L s) ≡ copy-answer.Err q) × (full_written old (read L s) ≡ old)
+  pub index_rows : (old : List ℕ) → (shown_index (length old) (read L s) ≡ Err q) × (index_written old (read L s) ≡ old)
+  pub chunk_verdict : shownVerdict (read L s) ≡ Err q
+  pub finding_count : shownCount (read L s) ≡ Err q
+  pub findings : (old : List Finding) → (shown_findings (length old) (read L s) ≡ Err q) × (findings_written old (read L s) ≡ old)
+  pub finding_array : (shown_findings LONGEST (read L s) ≡ Err q) × (findings_written blank_list (read L s) ≡ blank_list)
+  pub copy_length : shown_length (read L s) ≡ Err q
+  pub copied : (old : Bytes) → (shown_copy (length old) (read L s) ≡ Err q) × (copy_written old (read L s) ≡ old)
+  pub full_length : shown_full_length (read L s) ≡ Err q
+  pub full_copied : (old : Bytes) → (shown_full (length old) (read L s) ≡ Err q) × (full_written old (read L s) ≡ old)
 
 pub refuses : (L : ResourceLimits) (s : Bytes) (q : Refusal) → read L s ≡ refusal q → Refuses L s q
 refuses L s q is = record {

@@ -1,6 +1,7 @@
 -- What each refusal of a file is about, by 01's number: a part of the file's bytes, and what is wrong with it. There is no reader in this file.
 --     cause_by of L q   of a refusal under limits, in the ordinary or in the stricter reading (02, item 7); cause_of L q: in the ordinary one
 --     Ends c at front  that part ends where `front`, which begins at the place `at`, ends; and it is as the cause says
+use Rattle.std.specs.Prelude.{Option, Some, None}
 use mathlib.Core.Path.{◌≡◌}
 use mathlib.Core.Bool.{cond}
 use mathlib.Core.List.{List, [], ◌∷◌, ◌++◌}
@@ -9,8 +10,6 @@ use lib.Dec.{eqb}
 use lib.ListN.{length}
 use Rattle.format.specs.declared.limits.ResourceLimits.{ResourceLimits}
 use Rattle.format.specs.declared.refusal.Refusal.{Refusal}
-use Rattle.format.specs.declared.refusal.Place.{Place}
-use Rattle.format.specs.declared.refusal.Place.TheVariants.{At, None}
 use Rattle.format.specs.Refusals.{reported}
 use Rattle.format.specs.Form.{Bytes, Below}
 use Rattle.format.specs.GrammarFields.{base128, Number}
@@ -71,8 +70,8 @@ by_number_lem of L n at =
     (cond (eqb n 33) (up_to at 0)
     missing))))))))))))))))))))
 
-abbrev place_of : Place → ℕ
-place_of (At at) = at
+abbrev place_of : Option ℕ → ℕ
+place_of (Some at) = at
 place_of None = 0
 
 abbrev pub cause_by : Which → ResourceLimits → Refusal → Cause

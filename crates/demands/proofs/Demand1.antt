@@ -9,6 +9,8 @@
 -- Order.antt: 1 to 20 come in the order of the bytes, each for its cause (Causes.antt); AtOneByte.antt: at one byte. CutShort.antt: 1 lacks bytes. ByLimits.antt: what some limits read, others refuse by 13 to 20 alone. Blamed.antt: a number names what is to blame.
 -- crates/format/proofs/RefusalNumbers.antt: the numbers. Exactly.antt: 21 and 22. Accepted.antt: where no condition holds, the answer is Ok. ByC.antt, RefusedAt.antt (PartsInOrder.antt): the calls behind C. Printed.antt: what `chunklist` prints.
 -- Assumes nothing.
+use Rattle.std.specs.Prelude as prelude
+use Rattle.std.specs.Prelude.{Some, None, Result, Ok, Err}
 use mathlib.Core.Path.{◌≡◌, refl, sym, ◌∙◌, ap}
 use mathlib.Core.Bool.{Bool, true, false, cond}
 use mathlib.Core.List.{List, [], ◌∷◌, ◌++◌}
@@ -19,6 +21,7 @@ use lib.Dec.{leb, ltb}
 use lib.IntN.{ℤ, pos, negsuc, ◌+ℤ◌}
 use lib.ListN.{length, drop, get_elem?}
 use borrow.Author.Tests.{le-leb}
+use Rattle.std.specs.Prelude as prelude
 use Rattle.format.specs.declared.limits.ResourceLimits.{ResourceLimits}
 use Rattle.format.specs.declared.refusal.Refusal.{Refusal}
 use Rattle.format.specs.declared.refusal.Refusal.TheVariants as refusals
@@ -36,7 +39,6 @@ use Rattle.format_spelling.specs.ReadSpelling.{spelling}
 use Rattle.show_row.specs.Asked.{Asked, found, or_refuse, function_of, entry_in, entry_of}
 use Rattle.show_row.specs.Asked as asked
 use Rattle.index.specs.Index.{index, shown_index, index_written}
-use Rattle.line_lookup.specs.declared.line.LineAnswer.TheVariants as line-answer
 use Rattle.line_lookup.specs.Lines.{large, shown_line}
 use Rattle.copy.specs.Copied.{shown_by, written_by, shown_length, shown_copy, copy_written}
 use Rattle.copy_full.specs.InFull.{shown_full_length, shown_full, full_written}
@@ -52,12 +54,8 @@ use Rattle.validate_plan.specs.Validated.{shown_findings, findings_written}
 use Rattle.word_opcodes.specs.declared.opcode.OpMode54.{OpMode54}
 use Rattle.word_opcodes.specs.declared.opcode.OpMode54.TheVariants.{IABC, IABx, IAsBx, IAx, IsJ}
 use Rattle.word_opcodes.specs.declared.opcode.Opcode54.{Opcode54}
-use Rattle.word_opcodes.specs.declared.opcode.OptionOpcode54.{OptionOpcode54}
-use Rattle.word_opcodes.specs.declared.opcode.OptionOpcode54.TheVariants as option
 use Rattle.word_opcodes.specs.Table.{mode_of}
 use Rattle.word_fields.specs.declared.instruction.RawInstruction54.{RawInstruction54}
-use Rattle.word_fields.specs.declared.instruction.Encoded.{Encoded}
-use Rattle.word_fields.specs.declared.instruction.Encoded.TheVariants as word
 use Rattle.word_fields.specs.Word.{unbiased, with_unbiased, encodedIABx, encodedIAx, by_mode, by_opcode, encoded}
 use Rattle.word_fields.proofs.Ranges.{in_range, is_word, ranges}
 use Rattle.demands.proofs.InOrder.{Inside}
@@ -199,7 +197,7 @@ module _ (L : ResourceLimits) (s : Bytes) where
   pub line : (f pc : ℕ) → in_line (shown_line pc (function_of f (read L s))) ≡ first (for_line L s f)
   line f pc = go (read L s) ∙ order _
     where
-      of-lines : (b : Bool) (n : ℕ) → in_line (cond b (line-answer.Err refusals.LineTooLarge) (line-answer.Ok n)) ≡ first (cond b (some (bare 25)) none ∷ [])
+      of-lines : (b : Bool) (n : ℕ) → in_line (cond b (Err refusals.LineTooLarge) (Ok n)) ≡ first (cond b (some (bare 25)) none ∷ [])
       of-lines true n = refl
       of-lines false n = refl
 
@@ -276,11 +274,11 @@ findings-kept old (refusal p) q e = refl
 
 -- ## Words
 -- decoding refuses nothing; encoding: 28, then 27
-range_only : (b : Bool) (w : ℕ) → in_encoded (cond b (word.Word w) (word.Refused refusals.FieldRange)) ≡ unless (is_word (cond b (word.Word w) (word.Refused refusals.FieldRange))) (bare 27)
+range_only : (b : Bool) (w : ℕ) → in_encoded (cond b (Ok w) (Err refusals.FieldRange)) ≡ unless (is_word (cond b (Ok w) (Err refusals.FieldRange))) (bare 27)
 range_only true w = refl
 range_only false w = refl
 
-handed : (z : ℤ) (limit : ℕ) (f : ℕ → Encoded) → ((n : ℕ) → in_encoded (f n) ≡ unless (is_word (f n)) (bare 27))
+handed : (z : ℤ) (limit : ℕ) (f : ℕ → Result ℕ Refusal) → ((n : ℕ) → in_encoded (f n) ≡ unless (is_word (f n)) (bare 27))
     → in_encoded (with_unbiased (unbiased z limit) f) ≡ unless (is_word (with_unbiased (unbiased z limit) f)) (bare 27)
 handed (pos n) limit f h = go (ltb n limit) refl
   where
@@ -298,7 +296,7 @@ by_mode_lem IsJ o r = handed (r.sj +ℤ pos 16777215) (2 ^ 25) (encodedIAx o) (�
 
 module _ (r : RawInstruction54) where
   -- the word of an opcode's mode
-  module _ (o : Opcode54) (e : r.opcode ≡ option.Some o) where
+  module _ (o : Opcode54) (e : r.opcode ≡ Some o) where
     chosen : encoded r ≡ by_mode (mode_of o) o r
     unfolding encoded
     chosen = ap (λ k. by_opcode k r) e
@@ -307,10 +305,10 @@ module _ (r : RawInstruction54) where
     in_mode =
         ap in_encoded chosen ∙ by_mode_lem (mode_of o) o r ∙ ap (λ w. unless (is_word w) (bare 27)) (sym chosen) ∙ ap (λ b. unless b (bare 27)) (ranges r o e)
 
-  by_opcode_lem : (o : OptionOpcode54) → r.opcode ≡ o → in_encoded (encoded r) ≡ first (no_opcode o ∷ out_of_range o r ∷ [])
+  by_opcode_lem : (o : prelude.Option Opcode54) → r.opcode ≡ o → in_encoded (encoded r) ≡ first (no_opcode o ∷ out_of_range o r ∷ [])
   unfolding encoded
-  by_opcode_lem option.None e = rw e
-  by_opcode_lem (option.Some o) e = in_mode o e ∙ alone (unless (in_range (mode_of o) r) (bare 27))
+  by_opcode_lem None e = rw e
+  by_opcode_lem (Some o) e = in_mode o e ∙ alone (unless (in_range (mode_of o) r) (bare 27))
 
   pub encode : in_encoded (encoded r) ≡ first (for_word r)
   encode = by_opcode_lem r.opcode refl

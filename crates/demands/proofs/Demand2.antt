@@ -13,6 +13,7 @@
 --                      that Lua loads, or refusal 31, 32 or 33 of the stricter reading says why it is not
 --     as_lua_dumps     what the copying call writes is what Lua's own dumper writes; as_lua_strips: with strip
 -- Assumes nothing.
+use Rattle.std.specs.Prelude.{Ok, Err}
 use mathlib.Core.Path.{◌≡◌, refl, ap, sym, ◌∙◌}
 use Prim.Native.Nat.{ℕ, ◌<◌, ◌≤◌}
 use mathlib.Core.Bool.{true, false}
@@ -56,11 +57,8 @@ use Rattle.copy_full.specs.InFull.{shown_full_length, shown_full, full_written}
 use Rattle.validate_rules.specs.declared.finding.Finding.{Finding}
 use Rattle.validate_rules.specs.Findings.{Listing, chunk_findings, verdict}
 use Rattle.validate_rules.specs.Rust as rust
-use Rattle.validate_verdict.specs.declared.verdict.VerdictAnswer.TheVariants as verdicts
-use Rattle.validate_verdict.specs.declared.verdict.CountAnswer.TheVariants as counts
 use Rattle.validate_verdict.specs.Answers.{shownVerdict, shownCount}
 use Rattle.validate_verdict.proofs.Chunk.{findings_are}
-use Rattle.validate_plan.specs.declared.FindingsAnswer.TheVariants as answers
 use Rattle.validate_plan.specs.Validated.{listing_answer, shown_findings, findings_written}
 use Rattle.validate_findings.specs.Blank.{LONGEST, blank_list}
 use Rattle.word_fields.specs.Word.{decoded, encoded}
@@ -315,31 +313,31 @@ by_the_rust ok err ours on-readings on-refusals L s = from (read L s) refl where
   from (refusal q) e = on-refusals q
 
 -- what the calls show and write, by the Rust's list and flag
-pub verdict-shown : (L : ResourceLimits) (s : Bytes) → shownVerdict (read L s) ≡ validated (λ l. verdicts.Ok (verdict l)) verdicts.Err (read L s)
-verdict-shown = by_the_rust (λ l. verdicts.Ok (verdict l)) verdicts.Err shownVerdict (λ r. refl) (λ q. refl)
+pub verdict-shown : (L : ResourceLimits) (s : Bytes) → shownVerdict (read L s) ≡ validated (λ l. Ok (verdict l)) Err (read L s)
+verdict-shown = by_the_rust (λ l. Ok (verdict l)) Err shownVerdict (λ r. refl) (λ q. refl)
 
-pub count-shown : (L : ResourceLimits) (s : Bytes) → shownCount (read L s) ≡ validated (λ l. counts.Ok (length l.findings)) counts.Err (read L s)
-count-shown = by_the_rust (λ l. counts.Ok (length l.findings)) counts.Err shownCount (λ r. refl) (λ q. refl)
+pub count-shown : (L : ResourceLimits) (s : Bytes) → shownCount (read L s) ≡ validated (λ l. Ok (length l.findings)) Err (read L s)
+count-shown = by_the_rust (λ l. Ok (length l.findings)) Err shownCount (λ r. refl) (λ q. refl)
 
-pub findings-shown : (room : ℕ) (L : ResourceLimits) (s : Bytes) → shown_findings room (read L s) ≡ validated (listing_answer room) answers.Err (read L s)
-findings-shown room = by_the_rust (listing_answer room) answers.Err (shown_findings room) (λ r. refl) (λ q. refl)
+pub findings-shown : (room : ℕ) (L : ResourceLimits) (s : Bytes) → shown_findings room (read L s) ≡ validated (listing_answer room) Err (read L s)
+findings-shown room = by_the_rust (listing_answer room) Err (shown_findings room) (λ r. refl) (λ q. refl)
 
 pub findings-written : (old : List Finding) (L : ResourceLimits) (s : Bytes) → findings_written old (read L s) ≡ validated (λ l. over l.findings old) (λ q. old) (read L s)
 findings-written old = by_the_rust (λ l. over l.findings old) (λ q. old) (findings_written old) (λ r. refl) (λ q. refl)
 
 -- and so the calls' promises, said by the Rust's list and flag
 pub chunk_verdict_as_the_rust : Promise chunk-verdict-contract.ended chunk-verdict-call.Symbol.code chunk-verdict-call.Symbol.name (λ _ chunk limits r.
-    (r ≡ validated (λ l. verdicts.Ok (verdict l)) verdicts.Err (read limits chunk.now))
+    (r ≡ validated (λ l. Ok (verdict l)) Err (read limits chunk.now))
     ∷ [])
 chunk_verdict_as_the_rust = coe 0 1 (i. Promise chunk-verdict-contract.ended chunk-verdict-call.Symbol.code chunk-verdict-call.Symbol.name (λ _ chunk limits r. (r ≡ verdict-shown limits chunk.now i) ∷ [])) chunk_verdict
 
 pub finding_count_as_the_rust : Promise finding-count-contract.ended finding-count-call.Symbol.code finding-count-call.Symbol.name (λ _ chunk limits r.
-    (r ≡ validated (λ l. counts.Ok (length l.findings)) counts.Err (read limits chunk.now))
+    (r ≡ validated (λ l. Ok (length l.findings)) Err (read limits chunk.now))
     ∷ [])
 finding_count_as_the_rust = coe 0 1 (i. Promise finding-count-contract.ended finding-count-call.Symbol.code finding-count-call.Symbol.name (λ _ chunk limits r. (r ≡ count-shown limits chunk.now i) ∷ [])) finding_count
 
 pub validate_chunk_lua54_as_the_rust : Promise validate-chunk-lua54-contract.ended validate-chunk-lua54-call.Symbol.code validate-chunk-lua54-call.Symbol.name (λ _ chunk limits list list' r.
-    ((r ≡ validated (listing_answer (length list.now)) answers.Err (read limits chunk.now)) × (list'.now ≡ validated (λ l. over l.findings list.now) (λ q. list.now) (read limits chunk.now)))
+    ((r ≡ validated (listing_answer (length list.now)) Err (read limits chunk.now)) × (list'.now ≡ validated (λ l. over l.findings list.now) (λ q. list.now) (read limits chunk.now)))
     ∷ [])
 validate_chunk_lua54_as_the_rust = coe 0 1 (i. Promise validate-chunk-lua54-contract.ended validate-chunk-lua54-call.Symbol.code validate-chunk-lua54-call.Symbol.name (λ _ chunk limits list list' r. ((r ≡ findings-shown (length list.now) limits chunk.now i) × (list'.now ≡ findings-written list.now limits chunk.now i)) ∷ [])) validate_chunk_lua54
 

@@ -20,6 +20,7 @@
 -- The same of the definitions (the reader `read` of crates/format/specs/ReadChunk.antt, the copy `copy` of Copy.antt there): read_exactly, copy-is-read, copy-of-copy, equal_copies. There `Below 256` says of a list that its numbers are
 -- bytes, since lists of the definitions may hold any number. Of the calls it is not asked: a slice's are bytes (`Slices.antt`), and `Writes` has it from there.
 -- Assumes nothing.
+use Rattle.std.specs.Prelude.{Result, Ok, Err}
 use mathlib.Core.Path.{◌≡◌, refl, sym, ◌∙◌, ap, subst}
 use mathlib.Core.Logic.{◌↔◌}
 use mathlib.Core.Bool.{true}
@@ -46,11 +47,8 @@ use Rattle.format.proofs.ReadChunkLaws.{read_sound, read-within, read_complete, 
 use Rattle.format_spelling.specs.ReadSpelling.{spelling}
 use Rattle.c_boundary.specs.Status.{limits_of}
 use Rattle.show_chunk.specs.declared.summary.ChunkSummary.{ChunkSummary}
-use Rattle.show_chunk.specs.declared.summary.SummaryAnswer.{SummaryAnswer}
-use Rattle.show_chunk.specs.declared.summary.SummaryAnswer.TheVariants as summary-answer
 use Rattle.show_chunk.specs.Summaries.{shown_summary}
 use Rattle.demands.proofs.Calls.{Shows, shows, Refuses, refuses}
-use Rattle.copy.specs.declared.whole.CopyAnswer.{CopyAnswer}
 use Rattle.demands.proofs.Written.{Copying, Writes, by_reading, written-is-copy, writes}
 use Rattle.demands.proofs.Same.{SameButFor, same_exactly}
 use Rattle.demands.proofs.Alike.{without_count, AnswerAlike, EqualAsShown}
@@ -84,13 +82,13 @@ given {L} {chunk} b = read_complete L chunk b.reading b.ceilings b.input b.is
 -- `chunk_summary` answers with a summary, so meets no refusal
 pub record SummaryGiven (L : ResourceLimits) (chunk : Bytes) : Type 0 where
   pub summary : ChunkSummary
-  pub answers : shown_summary (spelling L chunk) (read L chunk) ≡ summary-answer.Ok summary
+  pub answers : shown_summary (spelling L chunk) (read L chunk) ≡ Ok summary
 
 -- And so does the call.
 pub summary_exactly : (L : ResourceLimits) (chunk : Bytes) → SummaryGiven L chunk ↔ Belongs L chunk
 summary_exactly L chunk = (λ g. (read_exactly L chunk).0 (from (read L chunk) refl g.summary g.answers), λ b. record { summary = _; answers = ap (shown_summary (spelling L chunk)) (given b) })
   where
-    from : (o : Outcome) → read L chunk ≡ o → (x : ChunkSummary) → shown_summary (spelling L chunk) o ≡ summary-answer.Ok x → IsRead L chunk
+    from : (o : Outcome) → read L chunk ≡ o → (x : ChunkSummary) → shown_summary (spelling L chunk) o ≡ Ok x → IsRead L chunk
     from (shown r) is x e = record { reading = r; is = is }
     from (refusal q) is x e = absurd (let z : ◌≡◌ {A = ℕ} 0 1 = cc in omega arith)
 
@@ -102,7 +100,7 @@ pub record RefusedByAll (L : ResourceLimits) (chunk : Bytes) : Type 0 where
 pub refused_exactly : (L : ResourceLimits) (chunk : Bytes) → RefusedByAll L chunk ↔ ¬ Belongs L chunk
 refused_exactly L chunk = (λ f b. never f.by_all.summary (ap (shown_summary (spelling L chunk)) (given b)), λ out. from (read L chunk) refl out)
   where
-    never : {q : Refusal} {x : ChunkSummary} → shown_summary (spelling L chunk) (read L chunk) ≡ summary-answer.Err q → shown_summary (spelling L chunk) (read L chunk) ≡ summary-answer.Ok x → ⊥
+    never : {q : Refusal} {x : ChunkSummary} → shown_summary (spelling L chunk) (read L chunk) ≡ Err q → shown_summary (spelling L chunk) (read L chunk) ≡ Ok x → ⊥
     never e f = let z : ◌≡◌ {A = ℕ} 0 1 = cc in omega arith
 
     from : (o : Outcome) → read L chunk ≡ o → ¬ Belongs L chunk → RefusedByAll L chunk
@@ -121,14 +119,14 @@ shown-at-places l chunk b k there = shown-at l chunk b.reading (given b) k there
 
 -- Together the summary, the fields and the entries show the reading: of two chunks, whatever limits each is read under, these calls answer alike exactly where the readings are equal, but for what none of them shows
 -- (`Alike.antt`; crates/format/specs/Reading.antt). `Summarised` is what holds after a call of `chunk_summary` (`Together.antt`): with its answer it has that the chunk is bytes.
-pub together : (L M : ResourceLimits) (s t : Bytes) (x y : SummaryAnswer) → Summarised L s x → Summarised M t y → (b : Belongs L s) (d : Belongs M t) → AnswerAlike L s M t ↔ EqualAsShown b.reading d.reading
+pub together : (L M : ResourceLimits) (s t : Bytes) (x y : Result ChunkSummary Refusal) → Summarised L s x → Summarised M t y → (b : Belongs L s) (d : Belongs M t) → AnswerAlike L s M t ↔ EqualAsShown b.reading d.reading
 together L M s t x y one two b d = alike_exactly L M s t one.below two.below b.reading d.reading (given b) (given d)
 
 -- and then both are read, or none
 pub together_read : (L M : ResourceLimits) (s t : Bytes) → AnswerAlike L s M t → Belongs L s → Belongs M t
 together_read L M s t alike b = from (read M t) refl (sym alike.summary ∙ ap (λ o. without_count (shown_summary (spelling L s) o)) (given b))
   where
-    from : (o : Outcome) → read M t ≡ o → {x : ChunkSummary} → without_count (shown_summary (spelling M t) o) ≡ summary-answer.Ok x → Belongs M t
+    from : (o : Outcome) → read M t ≡ o → {x : ChunkSummary} → without_count (shown_summary (spelling M t) o) ≡ Ok x → Belongs M t
     from (shown q) is e = (read_exactly M t).0 (record { reading = q; is = is })
     from (refusal q) is e = absurd (let z : ◌≡◌ {A = ℕ} 0 1 = cc in omega arith)
 
@@ -179,7 +177,7 @@ copy_written_lem : (L : ResourceLimits) (chunk old written : Bytes) (b : Belongs
 copy_written_lem L chunk old written b w = written-is-copy L chunk old written b.reading w (given b)
 
 -- after a call on a chunk that belongs, the copy is written wherever there is room
-pub copy-is-written : (L : ResourceLimits) (chunk old : Bytes) (r : CopyAnswer) (new : Bytes) → Copying L chunk old r new → (b : Belongs L chunk) → length (copy b.reading) ≤ length old → Writes L chunk old (copy b.reading)
+pub copy-is-written : (L : ResourceLimits) (chunk old : Bytes) (r : Result ℕ Refusal) (new : Bytes) → Copying L chunk old r new → (b : Belongs L chunk) → length (copy b.reading) ≤ length old → Writes L chunk old (copy b.reading)
 copy-is-written L chunk old r new k b room = writes L chunk old b.reading k.below (given b) room
 
 -- and it writes of no other

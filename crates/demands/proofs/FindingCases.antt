@@ -3,6 +3,9 @@
 --     findings_hold                    with room for four, for five and for three: the answer, and what stands in the list
 -- Told apart: the reading's warnings counted or listed, the operand's finding first, numbers of functions or instructions from 1, room for exactly as many not enough, the list touched on refusal 26.
 -- Assumes nothing.
+use Rattle.std.specs.Prelude.{Result, Ok, Err}
+use Rattle.format.specs.declared.refusal.Refusal.{Refusal}
+use Rattle.validate_rules.specs.declared.finding.Verdict.{Verdict}
 use mathlib.Core.Path.{◌≡◌, refl}
 use mathlib.Core.List.{List, [], ◌∷◌, ◌++◌, map}
 use Prim.Native.Nat.{ℕ}
@@ -19,11 +22,7 @@ use Rattle.validate_rules.specs.declared.finding.Rule.TheVariants.{Opcode, Regis
 use Rattle.validate_rules.specs.declared.finding.Verdict.TheVariants.{Invalid}
 use Rattle.validate_rules.specs.Rules.{instruction}
 use Rattle.validate_rules.specs.Findings.{code_groups, groups, limited, chunk_findings}
-use Rattle.validate_verdict.specs.declared.verdict.VerdictAnswer.TheVariants as verdict
-use Rattle.validate_verdict.specs.declared.verdict.CountAnswer.TheVariants as count
 use Rattle.validate_verdict.specs.Answers.{shownVerdict, shownCount}
-use Rattle.validate_plan.specs.declared.FindingsAnswer.{FindingsAnswer}
-use Rattle.validate_plan.specs.declared.FindingsAnswer.TheVariants.{Ok, Err}
 use Rattle.validate_plan.specs.Validated.{shown_findings, findings_written}
 
 -- stack 2; MOVE to register 2, GETUPVAL of upvalue 0 to register 2; in it 00000053; format 3 and a trailing byte
@@ -45,16 +44,16 @@ old n = replicate n (at 7 7 (Register 7))
 abbrev chunk : Outcome
 chunk = read ceilings bytes
 
-verdict_holds : shownVerdict chunk ≡ verdict.Ok Invalid
+verdict_holds : shownVerdict chunk ≡ Ok Invalid
 unfolding bytes read body function chunk_findings groups code_groups limited instruction decoded
 verdict_holds = refl
 
-count_holds : shownCount chunk ≡ count.Ok 4
+count_holds : shownCount chunk ≡ Ok 4
 unfolding bytes read body function chunk_findings groups code_groups limited instruction decoded
 count_holds = refl
 
-cases : List (ℕ × FindingsAnswer × List Finding)
-cases = (4, Ok Invalid 4, four) ∷ (5, Ok Invalid 4, four ++ old 1) ∷ (3, Err LentSpace, old 3) ∷ []
+cases : List (ℕ × (Result (Verdict × ℕ) Refusal) × List Finding)
+cases = (4, Ok (Invalid, 4), four) ∷ (5, Ok (Invalid, 4), four ++ old 1) ∷ (3, Err LentSpace, old 3) ∷ []
 
 answers_hold : map (λ c. shown_findings c.0 chunk) cases ≡ map (λ c. c.1) cases
 unfolding cases bytes read body function chunk_findings groups code_groups limited instruction decoded

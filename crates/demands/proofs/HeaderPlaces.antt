@@ -7,6 +7,7 @@
 -- By two laws for each way to make a reader: `Shuns r`, that it never refuses so, and `Placed start behind r`, that
 -- from the place `start` on it takes bytes up to the place `behind`, and refuses so rightly.
 -- Assumes nothing.
+use Rattle.std.specs.Prelude.{Some}
 use mathlib.Core.Path.{◌≡◌, refl, sym, ◌∙◌, ap, subst}
 use mathlib.Core.Bool.{Bool, true, false, cond, ◌&&◌, ◌||◌}
 use mathlib.Core.List.{List, [], ◌∷◌}
@@ -18,7 +19,6 @@ use lib.ListN.{length}
 use Rattle.format.specs.declared.limits.ResourceLimits.{ResourceLimits}
 use Rattle.format.specs.declared.refusal.Refusal.{Refusal}
 use Rattle.format.specs.declared.refusal.Refusal.TheVariants as q
-use Rattle.format.specs.declared.refusal.Place.TheVariants.{At}
 use Rattle.format.specs.Form.{Bytes}
 use Rattle.format.specs.Limits.{within_ceilings}
 use Rattle.format.specs.Refusals.{reported}
@@ -54,7 +54,7 @@ abbrev pub of_header : Refusal → Bool
 of_header p = (leb 4 (reported p).number && leb (reported p).number 11) || eqb (reported p).number 31
 
 abbrev pub Right : Refusal → Type 0
-Right p = (reported p).place ≡ At (field_place (reported p).number)
+Right p = (reported p).place ≡ Some (field_place (reported p).number)
 
 -- ## Readers that never refuse so
 record Shuns {A : Type 0} (r : Reader A) : Type 0 where

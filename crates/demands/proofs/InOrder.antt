@@ -4,6 +4,7 @@
 --     Lack r at s p    a file that is cut short (1) lacks bytes: so many are wanted at the refusal's place p, there are fewer; with more, but fewer than these, it is the same, and with as many it is not 1 at that place
 -- (And 2 is met behind byte 128 alone: a number is below 2^64 − 128, so place plus size is below 2^64 up to there.)
 -- Assumes nothing.
+use Rattle.std.specs.Prelude.{Option, Some, None}
 use mathlib.Core.Path.{◌≡◌, refl, ◌∙◌, ap}
 use mathlib.Core.Bool.{Bool, true, false, cond, ◌&&◌, ◌||◌}
 use mathlib.Core.List.{List, [], ◌∷◌, ◌++◌}
@@ -39,8 +40,6 @@ use Rattle.format.specs.declared.refusal.Refusal.TheVariants.{
 }
 use Rattle.format.specs.Form.{Bytes}
 use Rattle.format.specs.Refusals.{reported}
-use Rattle.format.specs.declared.refusal.Place.{Place}
-use Rattle.format.specs.declared.refusal.Place.TheVariants.{At, None}
 use Rattle.format.specs.Reading.{Prototype}
 use Rattle.format.specs.GrammarHeader.{signature, luac_data, luac_int, luac_num}
 use Rattle.format.specs.GrammarChunk.{inherit, Where, after, within}
@@ -52,12 +51,12 @@ use Rattle.format.proofs.ExactFields.{exact_number}
 use Rattle.demands.proofs.Causes.{Which, ordinary, stricter}
 
 -- a place, if there is one, is at most e
-abbrev pub Inside : ℕ → Place → Type 0
-Inside e (At place) = place ≤ e
+abbrev pub Inside : ℕ → Option ℕ → Type 0
+Inside e (Some place) = place ≤ e
 Inside e None = Unit {0}
 
-pub inside-more : {d e : ℕ} → d ≤ e → (p : Place) → Inside d p → Inside e p
-inside-more le (At place) h = omega arith
+pub inside-more : {d e : ℕ} → d ≤ e → (p : Option ℕ) → Inside d p → Inside e p
+inside-more le (Some place) h = omega arith
 inside-more le None h = tt
 
 -- those that the stricter reading adds (02, item 7)

@@ -9,6 +9,7 @@
 --                      with the right ones in their place it is mild (Fault.antt)
 --     mends            the reader of a chunk
 -- Assumes nothing.
+use Rattle.std.specs.Prelude.{Option, Some, None}
 use mathlib.Core.Path.{◌≡◌, refl, sym, ◌∙◌, ap, subst}
 use mathlib.Core.Bool.{Bool, true, false, cond, ◌||◌}
 use mathlib.Core.List.{List, [], ◌∷◌, ◌++◌, append_assoc, append-nil}
@@ -21,8 +22,6 @@ use lib.ListN.{length, length-append}
 use Rattle.format.specs.declared.limits.ResourceLimits.{ResourceLimits}
 use Rattle.format.specs.declared.refusal.Refusal.{Refusal}
 use Rattle.format.specs.declared.refusal.Refusal.TheVariants as q
-use Rattle.format.specs.declared.refusal.Place.{Place}
-use Rattle.format.specs.declared.refusal.Place.TheVariants.{At, None}
 use Rattle.format.specs.Form.{Bytes, Form}
 use Rattle.format.specs.Refusals.{reported}
 use Rattle.format.specs.Reading.{Prototype}
@@ -56,8 +55,8 @@ right n =
     (0 ∷ [])))))))))
 
 -- the place, if there is one
-abbrev pub Begins : Place → ℕ → Type 0
-Begins (At place) n = place ≡ n
+abbrev pub Begins : Option ℕ → ℕ → Type 0
+Begins (Some place) n = place ≡ n
 Begins None n = Unit {0}
 
 pub record Mend {A : Type 0} (r : Reader A) (at : ℕ) (s : Bytes) (p : Refusal) : Type 0 where
@@ -72,8 +71,8 @@ pub record Mend {A : Type 0} (r : Reader A) (at : ℕ) (s : Bytes) (p : Refusal)
 pub record Mends {A : Type 0} (r : Reader A) : Type 0 where
   pub mended : (at : ℕ) (s : Bytes) (p : Refusal) → r at s ≡ refused p → faulty p ≡ true → Mend r at s p
 
-pub begins_on : (place : Place) {m n : ℕ} → m ≡ n → Begins place m → Begins place n
-begins_on (At place) e h = h ∙ e
+pub begins_on : (place : Option ℕ) {m n : ℕ} → m ≡ n → Begins place m → Begins place n
+begins_on (Some place) e h = h ∙ e
 begins_on None e h = tt
 
 -- ## Readers that never refuse by 3 to 12

@@ -4,6 +4,8 @@
 use mathlib.Core.Path.{◌≡◌}
 use mathlib.Core.List.{[], ◌∷◌}
 use lib.ListN.{drop}
+use Rattle.std.specs.Prelude.{ok_or}
+use Rattle.format.specs.declared.refusal.Refusal.TheVariants.{NoOpcode}
 use Rattle.format.specs.ReadFields.{number}
 use Rattle.format_spelling.specs.ReadSpelling.{is_padded}
 use Rattle.read_field.specs.Shown.{number_result}
@@ -16,6 +18,8 @@ use Rattle.validate_verdict.specs.contracts.tally.severity as severity-contract
 use Rattle.validate_verdict.proofs.tally.severity as severity-call
 use Rattle.word_opcodes.specs.contracts.opcode.Opcode54.from_u8 as from-u8-contract
 use Rattle.word_opcodes.proofs.opcode.Opcode54.from_u8 as from-u8-call
+use Rattle.word_opcodes.specs.contracts.opcode.Opcode54TryFromU8.try_from as try-from-contract
+use Rattle.word_opcodes.proofs.opcode.Opcode54TryFromU8.try_from as try-from-call
 use Rattle.word_opcodes.specs.contracts.opcode.Opcode54.number as number-contract
 use Rattle.word_opcodes.proofs.opcode.Opcode54.number as number-call
 use Rattle.word_opcodes.specs.contracts.opcode.Opcode54.mode as mode-contract
@@ -40,6 +44,10 @@ severity-of _ = severity-call.Met.met
 
 pub from_u8 : Promise from-u8-contract.ended from-u8-call.Symbol.code from-u8-call.Symbol.name (λ _ op r. (r ≡ opcode_at op) ∷ [])
 from_u8 _ = from-u8-call.Met.met
+
+pub try_from : Promise try-from-contract.ended try-from-call.Symbol.code try-from-call.Symbol.name
+    (λ _ op r. (r ≡ ok_or (opcode_at op) NoOpcode) ∷ [])
+try_from _ = try-from-call.Met.met
 
 pub opcode_number : Promise number-contract.ended number-call.Symbol.code number-call.Symbol.name (λ _ o r. (r ≡ number_of o) ∷ [])
 opcode_number _ = number-call.Met.met

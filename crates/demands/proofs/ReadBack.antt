@@ -4,6 +4,10 @@
 --     locals_same                  a local variable, from its answer and the name in lent space
 --     warnings-same                warnings, of which a reading has at most two (`few_warnings`)
 -- Assumes nothing.
+use Rattle.show_local.specs.declared.LocalShown.{LocalShown}
+use Rattle.std.specs.Prelude as prelude
+use Rattle.std.specs.Prelude.{Some, None, Ok}
+use Rattle.read_field.specs.declared.string.StringAt.{StringAt}
 use mathlib.Core.Path.{◌≡◌, refl, sym, ◌∙◌, ap, ap₂}
 use mathlib.Core.Bool.{Bool, true, false, cond}
 use mathlib.Core.List.{List, [], ◌∷◌, ◌++◌}
@@ -30,8 +34,6 @@ use Rattle.format.specs.Reading as reading
 use Rattle.format.specs.Reading.{Reading, LocalVar}
 use Rattle.format.proofs.Every.{Every, any, every_then, every_is}
 use Rattle.format.proofs.Located.{StandsIf}
-use Rattle.read_field.specs.declared.string.OptionString.{OptionString}
-use Rattle.read_field.specs.declared.string.OptionString.TheVariants as option
 use Rattle.read_field.specs.Shown.{option_string}
 use Rattle.read_entry.specs.declared.constant.ConstantValue.{ConstantValue}
 use Rattle.read_entry.specs.declared.constant.ConstantValue.TheVariants as constant
@@ -41,7 +43,6 @@ use Rattle.read_chunk.specs.Decoded.{shown_warnings}
 use Rattle.read_chunk.specs.Inner.Decoded.{list_of}
 use Rattle.read_nth.proofs.Strings.{ConstantStands}
 use Rattle.show_row.specs.Asked.{Asked, found, refused, or_refuse}
-use Rattle.show_local.specs.declared.LocalAnswer.TheVariants as local-answer
 use Rattle.show_local.specs.Locals.{shown_local, name_written}
 use Rattle.demands.proofs.Same.{Pairwise, SameLocal}
 use Rattle.demands.proofs.Fits.{IntegerFits}
@@ -88,9 +89,9 @@ module _ {A B : Type 0} (show : Asked A → B) (apart : (x : A) (q : Refusal) �
   shown_list xs ys back e = all_equal xs ys (by_entries (λ x y. x ≡ y) xs ys (λ i. related show apart (λ x y. x ≡ y) NoEntry (get_elem? xs i) (get_elem? ys i) (back i) (e i)))
 
 -- ## Read back: what is shown of a string, of a constant and of warnings gives them again
-back_option : Bytes → OptionString → Option LuaString
-back_option b (option.Some a) = some (record { place = a.place; bytes = b })
-back_option b option.None = none
+back_option : Bytes → prelude.Option StringAt → Option LuaString
+back_option b (Some a) = some (record { place = a.place; bytes = b })
+back_option b None = none
 
 option_back : (s : Bytes) (t : Option LuaString) → StandsIf s t → back_option (option_shown s (option_string t)) (option_string t) ≡ t
 unfolding back_option
@@ -137,10 +138,10 @@ local_same l m e f = go (le-leb (length x) (length (x ++ y)) (omega (arith, leng
 
     go : leb (length x) (length (x ++ y)) ≡ true → leb (length y) (length (x ++ y)) ≡ true → shown_local (length (x ++ y)) (found l) ≡ shown_local (length (x ++ y)) (found m) → name_written (x ++ y) (found l) ≡ name_written (x ++ y) (found m) → SameLocal l m
     go one two e f =
-        let said : local-answer.Ok (length x) l.startpc l.endpc ≡ local-answer.Ok (length y) m.startpc m.endpc = rw (one, two) at e in
+        let said : Ok (record { name_len = (length x); startpc = l.startpc; endpc = l.endpc }) ≡ Ok (record { name_len = (length y); startpc = m.startpc; endpc = m.endpc }) = rw (one, two) at e in
         let wrote : x ++ drop (length x) (x ++ y) ≡ y ++ drop (length y) (x ++ y) = rw (one, two) at f in
-        let size : length x ≡ length y = cc in
-        record { name = front_same x y (x ++ y) size wrote; startpc = cc; endpc = cc }
+        let both : ◌≡◌ {A = LocalShown} (record { name_len = length x; startpc = l.startpc; endpc = l.endpc }) (record { name_len = length y; startpc = m.startpc; endpc = m.endpc }) = cc in
+        record { name = front_same x y (x ++ y) (ap (λ k. k.name_len) both) wrote; startpc = ap (λ k. k.startpc) both; endpc = ap (λ k. k.endpc) both }
 
 pub locals_same : (a b : Option LocalVar) → ((old : Bytes) → shown_local (length old) (or_refuse NoEntry a) ≡ shown_local (length old) (or_refuse NoEntry b)) → ((old : Bytes) → name_written old (or_refuse NoEntry a) ≡ name_written old (or_refuse NoEntry b))
     → Related SameLocal a b

@@ -4,6 +4,18 @@
 --     no_function ..    23, 24, 25, 26, 29 and 30, of a chunk that is read
 --     for_chunk ..      all conditions of a call, in their order
 --     in_summary ..     the refusal in an answer
+use Rattle.std.specs.Prelude as prelude
+use Rattle.std.specs.Prelude.{Some, None, Result, Ok, Err, ℤ}
+use Rattle.format.specs.declared.entry.AbsLineInfo.{AbsLineInfo}
+use Rattle.format.specs.declared.entry.UpvalueDesc.{UpvalueDesc}
+use Rattle.format.specs.declared.refusal.Refusal.{Refusal}
+use Rattle.read_entry.specs.declared.constant.ConstantValue.{ConstantValue}
+use Rattle.read_field.specs.declared.string.StringAt.{StringAt}
+use Rattle.show_chunk.specs.declared.fields.FunctionFields.{FunctionFields}
+use Rattle.show_chunk.specs.declared.summary.ChunkSummary.{ChunkSummary}
+use Rattle.show_local.specs.declared.LocalShown.{LocalShown}
+use Rattle.validate_rules.specs.declared.finding.Verdict.{Verdict}
+use Rattle.word_opcodes.specs.declared.opcode.Opcode54.{Opcode54}
 use mathlib.Core.Path.{◌≡◌, refl}
 use mathlib.Core.Bool.{Bool, cond}
 use mathlib.Core.List.{List, [], ◌∷◌}
@@ -12,6 +24,7 @@ use Prim.Native.Nat.{ℕ}
 use lib.Dec.{leb}
 use lib.ListN.{length, get_elem?}
 use Rattle.format.specs.declared.limits.ResourceLimits.{ResourceLimits}
+use Rattle.format.specs.declared.refusal.Refusal.{Refusal}
 use Rattle.format.specs.declared.refusal.Report.{Report}
 use Rattle.format.specs.Refusals.{bare, reported}
 use Rattle.format.specs.Form.{Bytes}
@@ -21,45 +34,9 @@ use Rattle.format.specs.Read.{Read, ok, refused}
 use Rattle.format.specs.ReadChunk.{Outcome, shown, refusal, main, read}
 use Rattle.line_lookup.specs.Lines.{large}
 use Rattle.line_batch.specs.Batch.{rises, never_falls}
-use Rattle.word_opcodes.specs.declared.opcode.OptionOpcode54.{OptionOpcode54}
-use Rattle.word_opcodes.specs.declared.opcode.OptionOpcode54.TheVariants as option
 use Rattle.word_opcodes.specs.Table.{mode_of}
 use Rattle.word_fields.specs.declared.instruction.RawInstruction54.{RawInstruction54}
 use Rattle.word_fields.proofs.Ranges.{in_range}
-use Rattle.word_fields.specs.declared.instruction.Encoded.{Encoded}
-use Rattle.word_fields.specs.declared.instruction.Encoded.TheVariants as encoded
-use Rattle.index.specs.declared.IndexAnswer.{IndexAnswer}
-use Rattle.index.specs.declared.IndexAnswer.TheVariants as index
-use Rattle.line_lookup.specs.declared.line.LineAnswer.{LineAnswer}
-use Rattle.line_lookup.specs.declared.line.LineAnswer.TheVariants as line
-use Rattle.line_batch.specs.declared.list.LinesAnswer.{LinesAnswer}
-use Rattle.line_batch.specs.declared.list.LinesAnswer.TheVariants as lines
-use Rattle.copy.specs.declared.whole.CopyAnswer.{CopyAnswer}
-use Rattle.copy.specs.declared.whole.CopyAnswer.TheVariants as copy
-use Rattle.show_chunk.specs.declared.summary.SummaryAnswer.{SummaryAnswer}
-use Rattle.show_chunk.specs.declared.summary.SummaryAnswer.TheVariants as summary
-use Rattle.show_chunk.specs.declared.fields.FieldsAnswer.{FieldsAnswer}
-use Rattle.show_chunk.specs.declared.fields.FieldsAnswer.TheVariants as fields
-use Rattle.show_entry.specs.declared.WordAnswer.{WordAnswer}
-use Rattle.show_entry.specs.declared.WordAnswer.TheVariants as word
-use Rattle.show_entry.specs.declared.ConstantAnswer.{ConstantAnswer}
-use Rattle.show_entry.specs.declared.ConstantAnswer.TheVariants as constant
-use Rattle.show_entry.specs.declared.UpvalueAnswer.{UpvalueAnswer}
-use Rattle.show_entry.specs.declared.UpvalueAnswer.TheVariants as upvalue
-use Rattle.show_entry.specs.declared.DeltaAnswer.{DeltaAnswer}
-use Rattle.show_entry.specs.declared.DeltaAnswer.TheVariants as delta
-use Rattle.show_entry.specs.declared.AnchorAnswer.{AnchorAnswer}
-use Rattle.show_entry.specs.declared.AnchorAnswer.TheVariants as anchor
-use Rattle.show_entry.specs.declared.NameAnswer.{NameAnswer}
-use Rattle.show_entry.specs.declared.NameAnswer.TheVariants as name
-use Rattle.show_local.specs.declared.LocalAnswer.{LocalAnswer}
-use Rattle.show_local.specs.declared.LocalAnswer.TheVariants as local
-use Rattle.validate_verdict.specs.declared.verdict.VerdictAnswer.{VerdictAnswer}
-use Rattle.validate_verdict.specs.declared.verdict.VerdictAnswer.TheVariants as verdict
-use Rattle.validate_verdict.specs.declared.verdict.CountAnswer.{CountAnswer}
-use Rattle.validate_verdict.specs.declared.verdict.CountAnswer.TheVariants as count
-use Rattle.validate_plan.specs.declared.FindingsAnswer.{FindingsAnswer}
-use Rattle.validate_plan.specs.declared.FindingsAnswer.TheVariants as findings
 
 -- ## Conditions, in an order
 -- a refusal where a test fails, and where something is not there
@@ -122,14 +99,14 @@ abbrev pub long_name : ℕ → ℕ → ℕ → Reading → Option Report
 long_name space f i r = of_function_lem (get_elem? r.functions f) (λ p. of_local (get_elem? p.loc_vars i) (λ l. too_long_lem l.name.bytes space))
 
 -- ## 28, 27
-abbrev pub no_opcode : OptionOpcode54 → Option Report
-no_opcode option.None = some (bare 28)
-no_opcode (option.Some o) = none
+abbrev pub no_opcode : prelude.Option Opcode54 → Option Report
+no_opcode None = some (bare 28)
+no_opcode (Some o) = none
 
 -- a field that the opcode's mode uses is out of its range
-abbrev pub out_of_range : OptionOpcode54 → RawInstruction54 → Option Report
-out_of_range option.None r = none
-out_of_range (option.Some o) r = unless (in_range (mode_of o) r) (bare 27)
+abbrev pub out_of_range : prelude.Option Opcode54 → RawInstruction54 → Option Report
+out_of_range None r = none
+out_of_range (Some o) r = unless (in_range (mode_of o) r) (bare 27)
 
 -- ## Two laws
 -- one condition alone
@@ -181,70 +158,70 @@ abbrev pub for_word : RawInstruction54 → List (Option Report)
 for_word r = no_opcode r.opcode ∷ out_of_range r.opcode r ∷ []
 
 -- ## The refusal in an answer
-abbrev pub in_summary : SummaryAnswer → Option Report
-in_summary (summary.Ok x) = none
-in_summary (summary.Err q) = some (reported q)
+abbrev pub in_summary : Result ChunkSummary Refusal → Option Report
+in_summary (Ok x) = none
+in_summary (Err q) = some (reported q)
 
-abbrev pub in_fields : FieldsAnswer → Option Report
-in_fields (fields.Ok x) = none
-in_fields (fields.Err q) = some (reported q)
+abbrev pub in_fields : Result FunctionFields Refusal → Option Report
+in_fields (Ok x) = none
+in_fields (Err q) = some (reported q)
 
-abbrev pub in_word : WordAnswer → Option Report
-in_word (word.Ok x) = none
-in_word (word.Err q) = some (reported q)
+abbrev pub in_word : Result ℕ Refusal → Option Report
+in_word (Ok x) = none
+in_word (Err q) = some (reported q)
 
-abbrev pub in_constant : ConstantAnswer → Option Report
-in_constant (constant.Ok x) = none
-in_constant (constant.Err q) = some (reported q)
+abbrev pub in_constant : Result ConstantValue Refusal → Option Report
+in_constant (Ok x) = none
+in_constant (Err q) = some (reported q)
 
-abbrev pub in_upvalue : UpvalueAnswer → Option Report
-in_upvalue (upvalue.Ok x) = none
-in_upvalue (upvalue.Err q) = some (reported q)
+abbrev pub in_upvalue : Result UpvalueDesc Refusal → Option Report
+in_upvalue (Ok x) = none
+in_upvalue (Err q) = some (reported q)
 
-abbrev pub in_delta : DeltaAnswer → Option Report
-in_delta (delta.Ok x) = none
-in_delta (delta.Err q) = some (reported q)
+abbrev pub in_delta : Result ℤ Refusal → Option Report
+in_delta (Ok x) = none
+in_delta (Err q) = some (reported q)
 
-abbrev pub in_anchor : AnchorAnswer → Option Report
-in_anchor (anchor.Ok x) = none
-in_anchor (anchor.Err q) = some (reported q)
+abbrev pub in_anchor : Result AbsLineInfo Refusal → Option Report
+in_anchor (Ok x) = none
+in_anchor (Err q) = some (reported q)
 
-abbrev pub in_name : NameAnswer → Option Report
-in_name (name.Ok x) = none
-in_name (name.Err q) = some (reported q)
+abbrev pub in_name : Result (prelude.Option StringAt) Refusal → Option Report
+in_name (Ok x) = none
+in_name (Err q) = some (reported q)
 
-abbrev pub in_local : LocalAnswer → Option Report
-in_local (local.Ok x y z) = none
-in_local (local.Err q) = some (reported q)
+abbrev pub in_local : Result LocalShown Refusal → Option Report
+in_local (Ok x) = none
+in_local (Err q) = some (reported q)
 
-abbrev pub in_line : LineAnswer → Option Report
-in_line (line.Ok x) = none
-in_line (line.Err q) = some (reported q)
+abbrev pub in_line : Result ℕ Refusal → Option Report
+in_line (Ok x) = none
+in_line (Err q) = some (reported q)
 
-abbrev pub in_lines : LinesAnswer → Option Report
-in_lines (lines.Ok x) = none
-in_lines (lines.Err q) = some (reported q)
+abbrev pub in_lines : Result ℕ Refusal → Option Report
+in_lines (Ok x) = none
+in_lines (Err q) = some (reported q)
 
-abbrev pub in_index : IndexAnswer → Option Report
-in_index (index.Ok x) = none
-in_index (index.Err q) = some (reported q)
+abbrev pub in_index : Result ℕ Refusal → Option Report
+in_index (Ok x) = none
+in_index (Err q) = some (reported q)
 
-abbrev pub in_copy : CopyAnswer → Option Report
-in_copy (copy.Ok x) = none
-in_copy (copy.Err q) = some (reported q)
+abbrev pub in_copy : Result ℕ Refusal → Option Report
+in_copy (Ok x) = none
+in_copy (Err q) = some (reported q)
 
-abbrev pub in_verdict : VerdictAnswer → Option Report
-in_verdict (verdict.Ok x) = none
-in_verdict (verdict.Err q) = some (reported q)
+abbrev pub in_verdict : Result Verdict Refusal → Option Report
+in_verdict (Ok x) = none
+in_verdict (Err q) = some (reported q)
 
-abbrev pub in_count : CountAnswer → Option Report
-in_count (count.Ok x) = none
-in_count (count.Err q) = some (reported q)
+abbrev pub in_count : Result ℕ Refusal → Option Report
+in_count (Ok x) = none
+in_count (Err q) = some (reported q)
 
-abbrev pub in_findings : FindingsAnswer → Option Report
-in_findings (findings.Ok x y) = none
-in_findings (findings.Err q) = some (reported q)
+abbrev pub in_findings : Result (Verdict × ℕ) Refusal → Option Report
+in_findings (Ok (x, y)) = none
+in_findings (Err q) = some (reported q)
 
-abbrev pub in_encoded : Encoded → Option Report
-in_encoded (encoded.Word x) = none
-in_encoded (encoded.Refused q) = some (reported q)
+abbrev pub in_encoded : Result ℕ Refusal → Option Report
+in_encoded (Ok x) = none
+in_encoded (Err q) = some (reported q)

@@ -21,7 +21,7 @@ use Rattle.format.specs.Reading.{ConstantValue}
 use Rattle.format.specs.Read.{Read, ok, refused, Reader}
 use Rattle.format.specs.ReadFields as fields
 use Rattle.format.specs.ReadChunk as chunk
-use Rattle.read_field.specs.Shown.{u8_result, u32_result, string_result}
+use Rattle.read_field.specs.Shown.{shown, string_result}
 use Rattle.read_entry.specs.Readers.{RawLocal, raw_local}
 use Rattle.read_entry.specs.Shown.{constant_result, anchor_result, local_result}
 use Rattle.read_nth.specs.Shown.{upvalue_result}
@@ -71,9 +71,9 @@ module _ (limits : List ℕ) (place : ℕ) (s : Bytes) where
       of-tail (refused q) = refl
 
   pub lafzimdo_word_at : InC (word_at limits place s) (for_part limits place s (fields.field 4))
-  lafzimdo_word_at = part (fields.field 4) (λ o. of_word_at (u32_result o)) of_word
+  lafzimdo_word_at = part (fields.field 4) (λ o. of_word_at (shown o)) of_word
     where
-      of_word : (o : Read ℕ) → in_answer (of_word_at (u32_result o)) ≡ by_reader o
+      of_word : (o : Read ℕ) → in_answer (of_word_at (shown o)) ≡ by_reader o
       of_word (ok x to rest) = refl
       of_word (refused q) = refl
 
@@ -92,9 +92,9 @@ module _ (limits : List ℕ) (place : ℕ) (s : Bytes) where
       of-upvalue (refused q) = refl
 
   pub lafzimdo_delta_at : InC (delta_at limits place s) (for_part limits place s (fields.field 1))
-  lafzimdo_delta_at = part (fields.field 1) (λ o. of_delta_at (u8_result o)) of_delta
+  lafzimdo_delta_at = part (fields.field 1) (λ o. of_delta_at (shown o)) of_delta
     where
-      of_delta : (o : Read ℕ) → in_answer (of_delta_at (u8_result o)) ≡ by_reader o
+      of_delta : (o : Read ℕ) → in_answer (of_delta_at (shown o)) ≡ by_reader o
       of_delta (ok x to rest) = refl
       of_delta (refused q) = refl
 

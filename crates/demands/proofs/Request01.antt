@@ -11,6 +11,10 @@
 --     written_unpadded     and so does what the copying call writes
 -- What holds after a call of `chunk_summary` is `Summarised` (Together.antt); the promises of the calls are Demand2.antt and Demand2C.antt.
 -- Assumes nothing.
+use Rattle.slice.specs.declared.cursor.Cursor.{Cursor}
+use Rattle.std.specs.Prelude.{Result, Ok}
+use Rattle.format.specs.declared.refusal.Refusal.{Refusal}
+use Rattle.show_chunk.specs.declared.summary.ChunkSummary.{ChunkSummary}
 use mathlib.Core.Path.{◌≡◌, refl, sym, ◌∙◌, ap}
 use mathlib.Core.Logic.{◌↔◌}
 use mathlib.Core.Bool.{Bool, true, false, cond}
@@ -43,11 +47,8 @@ use Rattle.format_spelling.proofs.SpellingLaws.{spelling-is, spelling_unique}
 use Rattle.format_spelling.proofs.Few.{spelling_few}
 use Rattle.format_copy.proofs.CopyChunk.{copy_tidy}
 use Rattle.slice.specs.Shown.{cursor_at}
-use Rattle.read_field.specs.declared.varint.NumberResult.TheVariants as number-answer
 use Rattle.read_field.specs.Shown.{number_result}
 use Rattle.read_chunk.specs.Decoded.{summary_of}
-use Rattle.show_chunk.specs.declared.summary.SummaryAnswer.{SummaryAnswer}
-use Rattle.show_chunk.specs.declared.summary.SummaryAnswer.TheVariants as summary-answer
 use Rattle.show_chunk.specs.Summaries.{shown_summary}
 use Rattle.c_boundary.specs.Status.{limits_of, written}
 use Rattle.lafzimdo.specs.Answers.{ofSummary}
@@ -83,20 +84,23 @@ module _ (at v : ℕ) (bytes : Bytes) (below : Below 256 bytes) (d : Number at b
     told : is_padded (bytes ++ rest) ≡ ltb (length (shortest v)) (length bytes)
     told = same_test (is_padded (bytes ++ rest)) (ltb (length (shortest v)) (length bytes)) (padded_first at bytes v rest d)
 
-    reads : number_result (is_padded (bytes ++ rest)) (field.number at (bytes ++ rest)) ≡ number-answer.Ok v (cursor_at (at + length bytes)) (ltb (length (shortest v)) (length bytes))
-    reads = ap (number_result (is_padded (bytes ++ rest))) (exact_number.complete rest d) ∙ ap (number-answer.Ok v (cursor_at (at + length bytes))) told
+    reads : number_result (is_padded (bytes ++ rest)) (field.number at (bytes ++ rest)) ≡ Ok (v, (cursor_at (at + length bytes)), (ltb (length (shortest v)) (length bytes)))
+    reads = ap (number_result (is_padded (bytes ++ rest))) (exact_number.complete rest d) ∙ ap (λ p. Ok (v, cursor_at (at + length bytes), p)) told
 
-    pub number_told : number_result (is_padded (bytes ++ rest)) (field.number at (bytes ++ rest)) ≡ number-answer.Ok v (cursor_at (at + length bytes)) false ↔ bytes ≡ shortest v
+    pub number_told : number_result (is_padded (bytes ++ rest)) (field.number at (bytes ++ rest)) ≡ Ok (v, (cursor_at (at + length bytes)), false) ↔ bytes ≡ shortest v
     number_told = (
-      λ e. let both = sym reads ∙ e in not_longer.0 (cc),
-      λ e. reads ∙ ap (number-answer.Ok v (cursor_at (at + length bytes))) (not_longer.1 e),
+      λ e.
+          let both = sym reads ∙ e in
+          let all : ◌≡◌ {A = ℕ × Cursor × Bool} (v, cursor_at (at + length bytes), ltb (length (shortest v)) (length bytes)) (v, cursor_at (at + length bytes), false) = cc in
+          not_longer.0 (ap (λ t. t.2) all),
+      λ e. reads ∙ ap (λ p. Ok (v, cursor_at (at + length bytes), p)) (not_longer.1 e),
     )
 
 -- ## Chunks
-shown-padded : (L : ResourceLimits) (chunk : Bytes) (b : Belongs L chunk) → shown_summary (spelling L chunk) (read L chunk) ≡ summary-answer.Ok (record { summary = summary_of b.reading; padded_numbers = padded_in b.is })
-shown-padded L chunk b = (shown-is_the_reading L chunk b).summary ∙ ap (λ k. summary-answer.Ok (record { summary = summary_of b.reading; padded_numbers = k.padded })) (spelling-is b.is)
+shown-padded : (L : ResourceLimits) (chunk : Bytes) (b : Belongs L chunk) → shown_summary (spelling L chunk) (read L chunk) ≡ Ok (record { summary = summary_of b.reading; padded_numbers = padded_in b.is })
+shown-padded L chunk b = (shown-is_the_reading L chunk b).summary ∙ ap (λ k. Ok (record { summary = summary_of b.reading; padded_numbers = k.padded })) (spelling-is b.is)
 
-pub padded-shown : (L : ResourceLimits) (chunk : Bytes) (x : SummaryAnswer) → Summarised L chunk x → (b : Belongs L chunk) → x ≡ summary-answer.Ok (record { summary = summary_of b.reading; padded_numbers = padded_in b.is })
+pub padded-shown : (L : ResourceLimits) (chunk : Bytes) (x : Result ChunkSummary Refusal) → Summarised L chunk x → (b : Belongs L chunk) → x ≡ Ok (record { summary = summary_of b.reading; padded_numbers = padded_in b.is })
 padded-shown L chunk x call b = call.answers ∙ shown-padded L chunk b
 
 -- limits are an array of nine numbers
@@ -129,14 +133,14 @@ apart = (refl, refl, refl)
 -- what the summary shows of bytes that are read, none of whose numbers is padded
 pub record ShowsNone (L : ResourceLimits) (bytes : Bytes) : Type 0 where
   pub reading : Reading
-  pub shows : shown_summary (spelling L bytes) (read L bytes) ≡ summary-answer.Ok (record { summary = summary_of reading; padded_numbers = 0 })
+  pub shows : shown_summary (spelling L bytes) (read L bytes) ≡ Ok (record { summary = summary_of reading; padded_numbers = 0 })
 
 -- the premises are demand 3's: a string limit of at least 1, and the copy within the input limit
 pub copy_unpadded : (L : ResourceLimits) (chunk : Bytes) (b : Belongs L chunk) → Below 256 chunk → 1 ≤ L.max_string_bytes → length (copy b.reading) ≤ L.max_input_bytes → ShowsNone L (copy b.reading)
 copy_unpadded L chunk b below string input =
     let again = (copy-is-read L chunk b below string input).belongs in
     let none : padded_in again.is ≡ 0 = ap (λ k. k.padded) (copy_tidy L chunk b.reading b.is below string again.reading again.is) in
-    record { reading = again.reading; shows = shown-padded L (copy b.reading) again ∙ ap (λ n. summary-answer.Ok (record { summary = summary_of again.reading; padded_numbers = n })) none }
+    record { reading = again.reading; shows = shown-padded L (copy b.reading) again ∙ ap (λ n. Ok (record { summary = summary_of again.reading; padded_numbers = n })) none }
 
 pub written_unpadded : (L : ResourceLimits) (chunk old written : Bytes) → Writes L chunk old written → 1 ≤ L.max_string_bytes → length written ≤ L.max_input_bytes → ShowsNone L written
 written_unpadded L chunk old written w string input =

@@ -11,6 +11,7 @@
 --     too_short           "and refusal 26 is judged by that": where fewer are lent the answer is 26, and they are as they were
 --     judged_last         after every other refusal: a chunk that is refused is refused so, however few are lent, and they are as they were
 -- Assumes nothing.
+use Rattle.std.specs.Prelude.{Ok, Err}
 use mathlib.Core.Path.{◌≡◌, refl, ◌∙◌, ap}
 use mathlib.Core.List.{List, [], ◌∷◌, ◌++◌}
 use mathlib.Core.Option.{Option, some}
@@ -28,7 +29,6 @@ use Rattle.format.specs.Read.{many}
 use Rattle.format.specs.ReadFields.{field}
 use Rattle.format.specs.ReadChunk.{constant, shown, refusal, read}
 use Rattle.format.proofs.Located.{Found}
-use Rattle.index.specs.declared.IndexAnswer.TheVariants as answer
 use Rattle.index.specs.Index.{index, shown_index, index_written}
 use Rattle.index.proofs.Whole.{index-length}
 use Rattle.c_boundary.specs.Status.{limits_of}
@@ -88,7 +88,7 @@ module _ (l : List ℕ) (s : Bytes) (r : Reading) (is : read (limits_of l) s ≡
 -- ## What is lent
 module _ (L : ResourceLimits) (s : Bytes) (r : Reading) (is : read L s ≡ shown r) (old : List ℕ) where
   module _ (room : 14 * length r.functions ≤ length old) where
-    pub written : (shown_index (length old) (read L s) ≡ answer.Ok (length r.functions)) × (index_written old (read L s) ≡ index r.functions ++ drop (14 * length r.functions) old)
+    pub written : (shown_index (length old) (read L s) ≡ Ok (length r.functions)) × (index_written old (read L s) ≡ index r.functions ++ drop (14 * length r.functions) old)
     written =
         let size = index_size r.functions in
         let both = (shows L s r is).index_rows old (omega arith) in
@@ -107,8 +107,8 @@ module _ (L : ResourceLimits) (s : Bytes) (r : Reading) (is : read L s ≡ shown
           ap (λ l. get_elem? l (14 * f + 13)) written.1 ∙ nth_front (index r.functions) _ (14 * f + 13) own.1,
         )
 
-  pub too_short : length old < 14 * length r.functions → (shown_index (length old) (read L s) ≡ answer.Err LentSpace) × (index_written old (read L s) ≡ old)
+  pub too_short : length old < 14 * length r.functions → (shown_index (length old) (read L s) ≡ Err LentSpace) × (index_written old (read L s) ≡ old)
   too_short short = let size = index_size r.functions in (shows L s r is).index_too_long old (omega arith)
 
-pub judged_last : (L : ResourceLimits) (s : Bytes) (q : Refusal) → read L s ≡ refusal q → (old : List ℕ) → (shown_index (length old) (read L s) ≡ answer.Err q) × (index_written old (read L s) ≡ old)
+pub judged_last : (L : ResourceLimits) (s : Bytes) (q : Refusal) → read L s ≡ refusal q → (old : List ℕ) → (shown_index (length old) (read L s) ≡ Err q) × (index_written old (read L s) ≡ old)
 judged_last L s q is old = (refuses L s q is).index_rows old

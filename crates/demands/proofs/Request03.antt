@@ -10,6 +10,7 @@
 --     lines-kept           a call that refuses leaves lent memory as it was
 -- Worked cases: crates/line_batch/proofs/Cases.antt. That two chunks with one reading answer alike: Complete.antt.
 -- Assumes nothing.
+use Rattle.std.specs.Prelude.{Result, Ok, Err}
 use mathlib.Core.Path.{◌≡◌, refl, sym, ◌∙◌, ap}
 use mathlib.Core.Bool.{Bool, true, false, cond}
 use mathlib.Core.List.{List, [], ◌∷◌, ◌++◌, map}
@@ -29,10 +30,7 @@ use Rattle.format.specs.Form.{Bytes}
 use Rattle.format.specs.Reading.{Prototype}
 use Rattle.format.specs.ReadChunk.{Outcome, shown, refusal, read}
 use Rattle.show_row.specs.Asked.{Asked, found, refused, or_refuse, function_of}
-use Rattle.line_lookup.specs.declared.line.LineAnswer.TheVariants as line
 use Rattle.line_lookup.specs.Lines.{line_of, large, shown_line}
-use Rattle.line_batch.specs.declared.list.LinesAnswer.{LinesAnswer}
-use Rattle.line_batch.specs.declared.list.LinesAnswer.TheVariants as lines
 use Rattle.line_batch.specs.Batch.{walked_by, has, walked_by_any, deltas_read, rises, never_falls, refusal_of, answered, over_if, shown_lines, lines_written}
 use Rattle.line_batch.proofs.Laws.{distinct, joined}
 use Rattle.line_batch.proofs.Laws as laws
@@ -82,10 +80,10 @@ record Answers (old pcs : List ℕ) (a : Asked Prototype) (n : ℕ) : Type 0 whe
   goes : refusal_of function.line_defined function.abs_line_info (length old) pcs ≡ none
   reads : n ≡ the_read function pcs
 
-answers : (old pcs : List ℕ) (a : Asked Prototype) (n : ℕ) → shown_lines (length old) pcs a ≡ lines.Ok n → Answers old pcs a n
+answers : (old pcs : List ℕ) (a : Asked Prototype) (n : ℕ) → shown_lines (length old) pcs a ≡ Ok n → Answers old pcs a n
 answers old pcs (found p) n e = by (refusal_of p.line_defined p.abs_line_info (length old) pcs) refl e
   where
-    by : (o : Option Refusal) → refusal_of p.line_defined p.abs_line_info (length old) pcs ≡ o → answered o (the_read p pcs) ≡ lines.Ok n → Answers old pcs (found p) n
+    by : (o : Option Refusal) → refusal_of p.line_defined p.abs_line_info (length old) pcs ≡ o → answered o (the_read p pcs) ≡ Ok n → Answers old pcs (found p) n
     by none o e = record { function = p; is = refl; goes = o; reads = cc }
     by (some q) o e = absurd (let z : ◌≡◌ {A = ℕ} 0 1 = cc in omega arith)
 answers old pcs (refused q) n e = absurd (let z : ◌≡◌ {A = ℕ} 0 1 = cc in omega arith)
@@ -103,19 +101,19 @@ nth_front f [] rest i h = absurd (omega arith)
 nth_front f (pc ∷ pcs) rest zero h = refl
 nth_front f (pc ∷ pcs) rest (suc i) h = nth_front f pcs rest i (omega arith)
 
-module _ (old pcs : List ℕ) (a : Asked Prototype) (n : ℕ) (e : shown_lines (length old) pcs a ≡ lines.Ok n) where
+module _ (old pcs : List ℕ) (a : Asked Prototype) (n : ℕ) (e : shown_lines (length old) pcs a ≡ Ok n) where
   w : Answers old pcs a n
   w = answers old pcs a n e
 
   holds : lines_written old pcs a ≡ map (the_line w.function) pcs ++ drop (length (map (the_line w.function) pcs)) old
   holds = ap (lines_written old pcs) w.is ∙ ap (λ o. over_if o (map (the_line w.function) pcs) old) w.goes
 
-  pub each_line : (i : ℕ) → i < length pcs → shown_line (get_or pcs i 0) a ≡ line.Ok (get_or (lines_written old pcs a) i 0)
+  pub each_line : (i : ℕ) → i < length pcs → shown_line (get_or pcs i 0) a ≡ Ok (get_or (lines_written old pcs a) i 0)
   each_line i h =
       let p = w.function in
       ap (shown_line (get_or pcs i 0)) w.is
-      ∙ ap (λ t. cond t (line.Err refusals.LineTooLarge) (line.Ok (the_line p (get_or pcs i 0)))) (not-large p.line_defined p.abs_line_info (length old) pcs w.goes)
-      ∙ sym (ap line.Ok (ap (λ l. get_or l i 0) holds ∙ nth_front (the_line p) pcs (drop (length (map (the_line p) pcs)) old) i h))
+      ∙ ap (λ t. cond t (Err refusals.LineTooLarge) (Ok (the_line p (get_or pcs i 0)))) (not-large p.line_defined p.abs_line_info (length old) pcs w.goes)
+      ∙ sym (ap Ok (ap (λ l. get_or l i 0) holds ∙ nth_front (the_line p) pcs (drop (length (map (the_line p) pcs)) old) i h))
 
   pub read_most : (p : Prototype) → a ≡ found p → n ≤ length p.line_info_lem
   read_most p is =
@@ -169,20 +167,20 @@ module _ (L : ResourceLimits) (s : Bytes) (f : ℕ) (pcs : List ℕ) where
       go (shown r) = there (get_elem? r.functions f)
       go (refusal q) = refl
 
-  in_c : (a : LinesAnswer) → in_answer (ofLines a) ≡ in_lines a
-  in_c (lines.Ok n) = refl
-  in_c (lines.Err q) = refl
+  in_c : (a : Result ℕ Refusal) → in_answer (ofLines a) ≡ in_lines a
+  in_c (Ok n) = refl
+  in_c (Err q) = refl
 
   pub checks_in_c : (space : ℕ) → InC (ofLines (shown_lines space pcs (function_of f (read L s)))) (for_lines L s f pcs space)
   checks_in_c space = law _ _ (in_c (shown_lines space pcs (function_of f (read L s))) ∙ checks space)
 
   pub accepted : (old : List ℕ) → first (for_lines L s f pcs (length old)) ≡ none
-      → Accepted L s (λ r. Present (get_elem? r.functions f) (λ p. (shown_lines (length old) pcs (function_of f (read L s)) ≡ lines.Ok (the_read p pcs))
+      → Accepted L s (λ r. Present (get_elem? r.functions f) (λ p. (shown_lines (length old) pcs (function_of f (read L s)) ≡ Ok (the_read p pcs))
       × (lines_written old pcs (function_of f (read L s)) ≡ map (the_line p) pcs ++ drop (length pcs) old)))
   accepted old e = go (read L s) refl (checks (length old) ∙ e)
     where
       by_refusal : (p : Prototype) → function_of f (read L s) ≡ found p → (o : Option Refusal) → refusal_of p.line_defined p.abs_line_info (length old) pcs ≡ o → in_lines (answered o (the_read p pcs)) ≡ none
-          → (shown_lines (length old) pcs (function_of f (read L s)) ≡ lines.Ok (the_read p pcs)) × (lines_written old pcs (function_of f (read L s)) ≡ map (the_line p) pcs ++ drop (length pcs) old)
+          → (shown_lines (length old) pcs (function_of f (read L s)) ≡ Ok (the_read p pcs)) × (lines_written old pcs (function_of f (read L s)) ≡ map (the_line p) pcs ++ drop (length pcs) old)
       by_refusal p is none o e = (
         ap (shown_lines (length old) pcs) is ∙ ap (λ o. answered o (the_read p pcs)) o,
         ap (lines_written old pcs) is ∙ ap (λ o. over_if o (map (the_line p) pcs) old) o ∙ ap (λ n. map (the_line p) pcs ++ drop n old) (length-map pcs (the_line p)),
@@ -190,13 +188,13 @@ module _ (L : ResourceLimits) (s : Bytes) (f : ℕ) (pcs : List ℕ) where
       by_refusal p is (some q) o e = never e
 
       go : (o : Outcome) → read L s ≡ o → in_lines (shown_lines (length old) pcs (function_of f o)) ≡ none
-          → Accepted L s (λ r. Present (get_elem? r.functions f) (λ p. (shown_lines (length old) pcs (function_of f (read L s)) ≡ lines.Ok (the_read p pcs))
+          → Accepted L s (λ r. Present (get_elem? r.functions f) (λ p. (shown_lines (length old) pcs (function_of f (read L s)) ≡ Ok (the_read p pcs))
           × (lines_written old pcs (function_of f (read L s)) ≡ map (the_line p) pcs ++ drop (length pcs) old)))
       go (refusal q) is e = never e
       go (shown r) is e = record { reading = r; is = is; shows = there (get_elem? r.functions f) refl e }
         where
           there : (p : Option Prototype) → get_elem? r.functions f ≡ p → in_lines (shown_lines (length old) pcs (or_refuse refusals.NoFunction p)) ≡ none
-              → Present (get_elem? r.functions f) (λ p. (shown_lines (length old) pcs (function_of f (read L s)) ≡ lines.Ok (the_read p pcs))
+              → Present (get_elem? r.functions f) (λ p. (shown_lines (length old) pcs (function_of f (read L s)) ≡ Ok (the_read p pcs))
               × (lines_written old pcs (function_of f (read L s)) ≡ map (the_line p) pcs ++ drop (length pcs) old))
           there none e h = never h
           there (some p) e h =
@@ -211,10 +209,10 @@ lines-kept old pcs (found p) q e = by (refusal_of p.line_defined p.abs_line_info
     by (some r) e = refl
 lines-kept old pcs (refused r) q e = refl
 
-pub empty_list : (old : List ℕ) (a : Asked Prototype) → in_lines (shown_lines (length old) [] a) ≡ none → (shown_lines (length old) [] a ≡ lines.Ok 0) × (lines_written old [] a ≡ old)
+pub empty_list : (old : List ℕ) (a : Asked Prototype) → in_lines (shown_lines (length old) [] a) ≡ none → (shown_lines (length old) [] a ≡ Ok 0) × (lines_written old [] a ≡ old)
 empty_list old (found p) e = by (refusal_of p.line_defined p.abs_line_info (length old) []) e
   where
-    by : (o : Option Refusal) → in_lines (answered o (the_read p [])) ≡ none → (answered o (the_read p []) ≡ lines.Ok 0) × (over_if o [] old ≡ old)
-    by none e = (ap lines.Ok (laws.read_none (length p.instructions) p.line_defined p.line_info_lem p.abs_line_info), refl)
+    by : (o : Option Refusal) → in_lines (answered o (the_read p [])) ≡ none → (answered o (the_read p []) ≡ Ok 0) × (over_if o [] old ≡ old)
+    by none e = (ap Ok (laws.read_none (length p.instructions) p.line_defined p.line_info_lem p.abs_line_info), refl)
     by (some q) e = never e
 empty_list old (refused q) e = never e

@@ -17,6 +17,8 @@
 -- Refused by full_sources: a copy that writes every source (crates/format_spelling/proofs/SpellingCases.antt has such chunks, with a count of 1 and more), one that leaves out a source that differs.
 -- Of what `full_copy` writes (`FullWrites`, Written.antt): full_is-written, full_written-is-read, full_written_again, full_written_once_more, equal_full_written, archive_of_full_written.
 -- Assumes nothing.
+use Rattle.std.specs.Prelude.{Result, Ok}
+use Rattle.format.specs.declared.refusal.Refusal.{Refusal}
 use mathlib.Core.Path.{◌≡◌, refl, sym, ◌∙◌, subst}
 use mathlib.Core.Logic.{◌↔◌}
 use mathlib.Core.Bool.{Bool, true, false, cond}
@@ -41,8 +43,6 @@ use Rattle.format_copy.proofs.FullChunk as full
 use Rattle.format_lua.specs.LdumpFunctions.{lua_u_dump}
 use Rattle.format_lua.proofs.LdumpWhole.{source_of}
 use Rattle.format_lua.proofs.LdumpFull.{AsLuaInFull, full_as_dumped}
-use Rattle.copy.specs.declared.whole.CopyAnswer.{CopyAnswer}
-use Rattle.copy.specs.declared.whole.CopyAnswer.TheVariants as copy-answer
 use Rattle.copy_full.specs.contracts.full_copy as full-copy-contract
 use Rattle.copy_full.proofs.full_copy as full-copy-call
 use Rattle.demands.proofs.Promise.{Promise}
@@ -129,7 +129,7 @@ full_written_lem : (L : ResourceLimits) (chunk old written : Bytes) (b : Belongs
 full_written_lem L chunk old written b w = written-is_by L chunk old written w b.reading (given b)
 
 -- after a call on a chunk that belongs, the full copy is written wherever there is room
-pub full_is-written : (L : ResourceLimits) (chunk old : Bytes) (r : CopyAnswer) (new : Bytes) → FullCopying L chunk old r new → (b : Belongs L chunk) → length (full_copy b.reading) ≤ length old → FullWrites L chunk old (full_copy b.reading)
+pub full_is-written : (L : ResourceLimits) (chunk old : Bytes) (r : Result ℕ Refusal) (new : Bytes) → FullCopying L chunk old r new → (b : Belongs L chunk) → length (full_copy b.reading) ≤ length old → FullWrites L chunk old (full_copy b.reading)
 full_is-written L chunk old r new k b room = writes_by full_copy L chunk old b.reading k.below (given b) room
 
 -- and it writes of no other
@@ -155,11 +155,11 @@ written_in_full L chunk old written b w string input =
     rw is whole
 
 pub full_sources : Promise full-copy-contract.ended full-copy-call.Symbol.code full-copy-call.Symbol.name (λ _ chunk limits out out' r.
-    ((b : Belongs limits chunk.now) (n : ℕ) → r ≡ copy-answer.Ok n → 1 ≤ limits.max_string_bytes → length (take n out'.now) ≤ limits.max_input_bytes → WrittenInFull limits b.reading (take n out'.now))
+    ((b : Belongs limits chunk.now) (n : ℕ) → r ≡ Ok n → 1 ≤ limits.max_string_bytes → length (take n out'.now) ≤ limits.max_input_bytes → WrittenInFull limits b.reading (take n out'.now))
     ∷ [])
 full_sources M 𝓤 𝓛 𝓜 𝓡 wired =
     bytes_known 𝓛 𝓜 𝓡 (𝓡.env full-copy-call.Symbol.name) 1 [] _ _ (full-copy-contract.ended).kept (full-copy-contract.clauses 𝓛 𝓜.mem 𝓡.returns)
-    (λ κs a _ r end. fact 𝓤 ((b : Belongs a.1.0 a.0.now) (n : ℕ) → r ≡ copy-answer.Ok n → 1 ≤ a.1.0.max_string_bytes → length (take n end.1.1.0.now) ≤ a.1.0.max_input_bytes → WrittenInFull a.1.0 b.reading (take n end.1.1.0.now)))
+    (λ κs a _ r end. fact 𝓤 ((b : Belongs a.1.0 a.0.now) (n : ℕ) → r ≡ Ok n → 1 ≤ a.1.0.max_string_bytes → length (take n end.1.1.0.now) ≤ a.1.0.max_input_bytes → WrittenInFull a.1.0 b.reading (take n end.1.1.0.now)))
     (λ κs a _ r end below. both 𝓤 _ _ _ (λ answers leaves b n e string input.
     written_in_full a.1.0 a.0.now a.1.1.0.now (take n end.1.1.0.now) b (record { len = n; new = end.1.1.0.now; call = record { below = below; answers = sym e ∙ answers; leaves = leaves }; bytes = refl }) string input))
     (full-copy-call.Met.met 𝓤 𝓛 𝓜 𝓡 wired)

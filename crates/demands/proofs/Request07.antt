@@ -16,6 +16,7 @@
 --                                  "The place is the first byte of the format, number or size refused": `begins` in each of the three causes. strict_places: it lies in the file
 -- Worked cases: crates/format_strict/proofs/StrictCases.antt.
 -- Assumes nothing.
+use Rattle.std.specs.Prelude.{Ok}
 use mathlib.Core.Path.{◌≡◌, refl, sym, ◌∙◌, ap}
 use mathlib.Core.Logic.{◌↔◌}
 use mathlib.Core.Bool.{Bool, true, false, ◌&&◌, ◌||◌}
@@ -42,7 +43,6 @@ use Rattle.format_spelling.specs.ReadSpelling.{spelling}
 use Rattle.format_lua.specs.LundumpWithin.{LoadedWithin}
 use Rattle.format_lua.proofs.StrictLoaded.{strict_as_loaded}
 use Rattle.show_chunk.specs.declared.summary.ChunkSummary.{ChunkSummary}
-use Rattle.show_chunk.specs.declared.summary.SummaryAnswer.TheVariants as summary-answer
 use Rattle.show_chunk.specs.Summaries.{shown_summary}
 use Rattle.c_boundary.specs.Status.{limits_of, coded}
 use Rattle.lafzimdo.specs.Answers.{ofSummary}
@@ -100,16 +100,16 @@ module _ (L : ResourceLimits) (s : Bytes) where
   -- ## Of the call
   -- it answers with a summary
   pub record StrictlyGiven (x : ChunkSummary) : Type 0 where
-    pub answers : shown_summary (spelling L s) (strict_read L s) ≡ summary-answer.Ok x
+    pub answers : shown_summary (spelling L s) (strict_read L s) ≡ Ok x
 
   accepted : {x : ChunkSummary} → StrictlyGiven x → (r : Reading) × (strict_read L s ≡ shown r)
   accepted {x} g = by (strict_read L s) refl g.answers
     where
-      by : (o : Outcome) → strict_read L s ≡ o → shown_summary (spelling L s) o ≡ summary-answer.Ok x → (r : Reading) × (strict_read L s ≡ shown r)
+      by : (o : Outcome) → strict_read L s ≡ o → shown_summary (spelling L s) o ≡ Ok x → (r : Reading) × (strict_read L s ≡ shown r)
       by (shown r) is e = (r, is)
       by (refusal q) is e = absurd (let z : ◌≡◌ {A = ℕ} 0 1 = cc in omega arith)
 
-  pub same_answer : {x : ChunkSummary} → StrictlyGiven x → shown_summary (spelling L s) (read L s) ≡ summary-answer.Ok x
+  pub same_answer : {x : ChunkSummary} → StrictlyGiven x → shown_summary (spelling L s) (read L s) ≡ Ok x
   same_answer g = let a = accepted g in ap (shown_summary (spelling L s)) (strict_then_read a.0 a.1 ∙ sym a.1) ∙ g.answers
 
   pub call_exactly : ((x : ChunkSummary) × StrictlyGiven x) ↔ ((r : Reading) × Within (StrictChunk L s) r)

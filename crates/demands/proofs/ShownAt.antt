@@ -33,7 +33,7 @@ use Rattle.format.proofs.ExactFields.{exact_field, exact_string}
 use Rattle.format.proofs.ExactChunk.{exact_constant, exact_upvalue, exact_anchor, exact_local}
 use Rattle.format.proofs.Located.{Located}
 use Rattle.format_lua.proofs.LdumpWhole.{source_of}
-use Rattle.read_field.specs.Shown.{option_string, u8_result, u32_result, string_result}
+use Rattle.read_field.specs.Shown.{option_string, shown as shown_read, string_result}
 use Rattle.read_entry.specs.Readers.{RawLocal, raw_local}
 use Rattle.read_entry.specs.Inner.Counts.{named}
 use Rattle.read_entry.specs.Shown.{constant_value, constant_result, anchor_result, local_result}
@@ -224,10 +224,10 @@ module _ (l : List ℕ) (s : Bytes) (r : Reading) (is : read (limits_of l) s ≡
       own = (head-behind (limits_of l) 0).holds parted.at_start.is;
       head = head-is;
       tail = tail-is;
-      words = λ i x e. entries_shown s (field 4) (exact_field 4) (λ at. word_at l at s) (Numbered (λ w. w ∷ [])) (λ at x to rest e. numbered (x ∷ []) to _ (ap (λ o. of_word_at (u32_result o)) e)) (length p.instructions) located.instructions i e;
+      words = λ i x e. entries_shown s (field 4) (exact_field 4) (λ at. word_at l at s) (Numbered (λ w. w ∷ [])) (λ at x to rest e. numbered (x ∷ []) to _ (ap (λ o. of_word_at (shown_read o)) e)) (length p.instructions) located.instructions i e;
       constants = λ i x e. entries_shown s (constant (limits_of l).max_string_bytes) (exact_constant _) (λ at. constant_at l at s) (Numbered constant_in_numbers) (λ at x to rest e. numbered (constant_in_numbers x) to _ (ap (λ o. of_constant_at (constant_result o)) e ∙ ap (λ n. done (up_to n to)) (constant_numbers_lem x))) (length p.constants) located.constants i e;
       upvalues = λ i x e. entries_shown s upvalue exact_upvalue (λ at. upvalue_at l at s) (Numbered (λ u. u.instack ∷ u.idx ∷ u.kind ∷ [])) (λ at x to rest e. numbered (x.instack ∷ x.idx ∷ x.kind ∷ []) to _ (ap (λ o. of_upvalue_at (upvalue_result o)) e)) (length p.upvalues) located.upvalues i e;
-      deltas = λ i x e. entries_shown s byte (exact_field 1) (λ at. delta_at l at s) (Numbered (λ d. complement (to_z w8 d) ∷ [])) (λ at x to rest e. numbered (complement (to_z w8 x) ∷ []) to _ (ap (λ o. of_delta_at (u8_result o)) e)) (length p.line_info_lem) (run-bytes (length p.line_info_lem) located.line_info_lem) i e;
+      deltas = λ i x e. entries_shown s byte (exact_field 1) (λ at. delta_at l at s) (Numbered (λ d. complement (to_z w8 d) ∷ [])) (λ at x to rest e. numbered (complement (to_z w8 x) ∷ []) to _ (ap (λ o. of_delta_at (shown_read o)) e)) (length p.line_info_lem) (run-bytes (length p.line_info_lem) located.line_info_lem) i e;
       anchors = λ i x e. entries_shown s anchor exact_anchor (λ at. anchor_at l at s) (Numbered (λ a. a.pc ∷ a.line ∷ [])) (λ at x to rest e. numbered (x.pc ∷ x.line ∷ []) to _ (ap (λ o. of_anchor_at (anchor_result o)) e)) (length p.abs_line_info) located.abs_line_info i e;
       locals = λ i x e. entries_shown s (local (limits_of l).max_string_bytes) (exact_local _) (λ at. local_at l at s) LocalNumbered a_local (length p.loc_vars) located.loc_vars i e;
       names = λ i x e. entries_shown s (string (limits_of l).max_string_bytes) (exact_string _) (λ at. string_at l at s) (Numbered string_in_numbers) (λ at x to rest e. numbered (string_in_numbers x) to _ (ap (λ o. of_string_at (string_result o)) e ∙ ap done (name_numbers x to))) (length p.upvalue_names_lem) located.upvalue_names_lem i e;

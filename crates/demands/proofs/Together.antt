@@ -4,6 +4,8 @@
 --     Summarised, summary_met  what holds after a call of `chunk_summary`: its answer, and that the chunk is bytes, which `alike_exactly` asks. So it is after every call on a chunk (`Slices.antt`)
 -- Refused, left to right: a call that shows main's fields for every function, or leaves a field out; a reading that has a part which no call shows. Refused, right to left: an `EqualAsShown` that drops a field.
 -- Assumes nothing.
+use Rattle.std.specs.Prelude.{Result, Ok}
+use Rattle.format.specs.declared.refusal.Refusal.{Refusal}
 use mathlib.Core.Path.{◌≡◌, refl, sym, ◌∙◌, ap}
 use mathlib.Core.Logic.{◌↔◌}
 use mathlib.Core.Bool.{true}
@@ -33,19 +35,15 @@ use Rattle.format.proofs.ReadChunkLaws.{read_sound}
 use Rattle.format_spelling.specs.ReadSpelling.{spelling}
 use Rattle.show_row.specs.Asked.{Asked, found, refused, or_refuse, function_of, entry_of, entry_in}
 use Rattle.show_chunk.specs.declared.summary.ChunkSummary.{ChunkSummary}
-use Rattle.show_chunk.specs.declared.summary.SummaryAnswer.{SummaryAnswer}
-use Rattle.show_chunk.specs.declared.summary.SummaryAnswer.TheVariants as summary-answer
 use Rattle.show_chunk.specs.contracts.summary.chunk_summary as call
 use Rattle.show_chunk.proofs.summary.chunk_summary.Symbol as symbol
 use Rattle.show_chunk.proofs.summary.chunk_summary.Met as theorem
-use Rattle.show_chunk.specs.declared.fields.FieldsAnswer.TheVariants as fields-answer
 use Rattle.read_chunk.specs.declared.summary.Summary.{Summary}
 use Rattle.read_chunk.specs.Decoded.{summary_of}
 use Rattle.show_chunk.specs.Summaries.{shown_summary, trailing_of}
 use Rattle.show_chunk.specs.Fields.{fields_of, shown_fields}
 use Rattle.show_entry.specs.Entries.{shown_word, shown_constant, shown_upvalue, shown_delta, shown_anchor, shown_name}
 use Rattle.show_local.specs.Locals.{shown_local, name_written}
-use Rattle.index.specs.declared.IndexAnswer.TheVariants as index-answer
 use Rattle.index.specs.Index.{index, shown_index, index_written}
 use Rattle.index.proofs.Whole.{index-length}
 use Rattle.demands.proofs.Slices.{bytes_known}
@@ -143,9 +141,9 @@ module _ (L M : ResourceLimits) (s t : Bytes) (below : Below 256 s) (below' : Be
 
     equal_alike : AnswerAlike L s M t
     equal_alike = record {
-      summary = ap (λ o. without_count (shown_summary (spelling L s) o)) is ∙ ap (λ y. summary-answer.Ok (uncounted y)) (same_summaries r q equal) ∙ sym (ap (λ o. without_count (shown_summary (spelling M t) o)) is');
+      summary = ap (λ o. without_count (shown_summary (spelling L s) o)) is ∙ ap (λ y. Ok (uncounted y)) (same_summaries r q equal) ∙ sym (ap (λ o. without_count (shown_summary (spelling M t) o)) is');
       trailing = ap trailing_of is ∙ equal.trailing ∙ sym (ap trailing_of is');
-      fields = by_function shown_fields shown_fields refl (λ f p p' _ _ k. ap fields-answer.Ok (fields_equal p p' k));
+      fields = by_function shown_fields shown_fields refl (λ f p p' _ _ k. ap Ok (fields_equal p p' k));
       source_bytes = by_function (λ a. source_shown s (shown_fields a)) (λ a. source_shown t (shown_fields a)) refl
           (λ f p p' e e' k. option_shown_lem s p.source_name ((shows L s r is).function f p e).source_bytes ∙ ap option_of k.source_name ∙ sym (option_shown_lem t p'.source_name ((shows M t q is').function f p' e').source_bytes));
       instruction = λ f i. by_function (λ a. shown_word (entry_in (λ p. p.instructions) i a)) (λ a. shown_word (entry_in (λ p. p.instructions) i a)) refl (λ f p p' _ _ k. ap (λ l. shown_word (or_refuse NoEntry (get_elem? l i))) k.instructions) f;
@@ -189,12 +187,12 @@ index_alike L M s t r q is is' alike = index_back r.functions q.functions (go (l
 
     go : leb (length x) (length old) ≡ true → leb (length y) (length old) ≡ true → shown_index (length old) (shown r) ≡ shown_index (length old) (shown q) → index_written old (shown r) ≡ index_written old (shown q) → x ≡ y
     go one two e f =
-        let said : index-answer.Ok (length r.functions) ≡ index-answer.Ok (length q.functions) = rw (one, two) at e in
+        let said : Ok (length r.functions) ≡ Ok (length q.functions) = rw (one, two) at e in
         let wrote : x ++ drop (length x) old ≡ y ++ drop (length y) old = rw (one, two) at f in
         front_same x y old (let many : length r.functions ≡ length q.functions = cc in omega (arith, index-length r.functions, index-length q.functions)) wrote
 
 -- ## The chunk is bytes
-pub record Summarised (L : ResourceLimits) (chunk : Bytes) (r : SummaryAnswer) : Type 0 where
+pub record Summarised (L : ResourceLimits) (chunk : Bytes) (r : Result ChunkSummary Refusal) : Type 0 where
   pub below : Below 256 chunk
   pub answers : r ≡ shown_summary (spelling L chunk) (read L chunk)
 

@@ -8,6 +8,8 @@
 --     by_reading, written-is_by    these bytes are the copy of the chunk's reading
 --     writes_by                    a chunk that is read has its copy written wherever there is room
 -- Assumes nothing.
+use Rattle.std.specs.Prelude.{Result, Ok, Err}
+use Rattle.format.specs.declared.refusal.Refusal.{Refusal}
 use mathlib.Core.Path.{◌≡◌, refl, sym, ◌∙◌, ap}
 use mathlib.Core.Bool.{Bool, true, false, cond}
 use mathlib.Core.List.{[], ◌++◌}
@@ -33,8 +35,6 @@ use Rattle.format.specs.ReadChunk.{Outcome, shown, refusal, read}
 use Rattle.format.specs.Copy.{copy}
 use Rattle.format.specs.FullCopy.{full_copy}
 use Rattle.copy.specs.Copied.{shown_by, written_by}
-use Rattle.copy.specs.declared.whole.CopyAnswer.{CopyAnswer}
-use Rattle.copy.specs.declared.whole.CopyAnswer.TheVariants as copy-answer
 use Rattle.copy.specs.contracts.encode_chunk_lua54 as call
 use Rattle.copy.proofs.encode_chunk_lua54.Symbol as symbol
 use Rattle.copy.proofs.encode_chunk_lua54.Met as theorem
@@ -44,15 +44,15 @@ use Rattle.copy_full.proofs.full_copy.Met as full-theorem
 use Rattle.demands.proofs.Slices.{bytes_known}
 
 -- ## A call
-pub record CopyingBy (copied : Reading → Bytes) (L : ResourceLimits) (chunk old : Bytes) (r : CopyAnswer) (new : Bytes) : Type 0 where
+pub record CopyingBy (copied : Reading → Bytes) (L : ResourceLimits) (chunk old : Bytes) (r : Result ℕ Refusal) (new : Bytes) : Type 0 where
   pub below : Below 256 chunk
   pub answers : r ≡ shown_by copied (length old) (read L chunk)
   pub leaves : new ≡ written_by copied old (read L chunk)
 
-abbrev pub Copying : ResourceLimits → Bytes → Bytes → CopyAnswer → Bytes → Type 0
+abbrev pub Copying : ResourceLimits → Bytes → Bytes → Result ℕ Refusal → Bytes → Type 0
 Copying = CopyingBy copy
 
-abbrev pub FullCopying : ResourceLimits → Bytes → Bytes → CopyAnswer → Bytes → Type 0
+abbrev pub FullCopying : ResourceLimits → Bytes → Bytes → Result ℕ Refusal → Bytes → Type 0
 FullCopying = CopyingBy full_copy
 
 -- two facts that hold of a piece of memory, as one
@@ -87,7 +87,7 @@ full_copying_met {𝓤 = 𝓤} 𝓛 𝓜 𝓡 wired =
 pub record WritesBy (copied : Reading → Bytes) (L : ResourceLimits) (chunk old written : Bytes) : Type 0 where
   pub len : ℕ
   pub new : Bytes
-  pub call : CopyingBy copied L chunk old (copy-answer.Ok len) new
+  pub call : CopyingBy copied L chunk old (Ok len) new
   pub bytes : take len new ≡ written
 
 abbrev pub Writes : ResourceLimits → Bytes → Bytes → Bytes → Type 0
@@ -105,14 +105,14 @@ module _ {copied : Reading → Bytes} (L : ResourceLimits) (chunk old written : 
   pub by_reading : ByReading copied L chunk written
   by_reading = from (read L chunk) refl (sym w.call.answers) (ap (take w.len) (sym w.call.leaves) ∙ w.bytes)
     where
-      room : (r : Reading) → read L chunk ≡ shown r → (t : Bool) → cond t (copy-answer.Ok (length (copied r))) (copy-answer.Err LentSpace) ≡ copy-answer.Ok w.len
+      room : (r : Reading) → read L chunk ≡ shown r → (t : Bool) → cond t (Ok (length (copied r))) (Err LentSpace) ≡ Ok w.len
           → take w.len (cond t (copied r ++ drop (length (copied r)) old) old) ≡ written → ByReading copied L chunk written
       room r is true a b =
           let size : length (copied r) ≡ w.len = cc in
           record { reading = r; is = is; bytes = sym b ∙ ap (λ n. take n (copied r ++ drop (length (copied r)) old)) (sym size) ∙ take-append_seam (copied r) (drop (length (copied r)) old) }
       room r is false a b = absurd (let z : ◌≡◌ {A = ℕ} 0 1 = cc in omega arith)
 
-      from : (o : Outcome) → read L chunk ≡ o → shown_by copied (length old) o ≡ copy-answer.Ok w.len → take w.len (written_by copied old o) ≡ written → ByReading copied L chunk written
+      from : (o : Outcome) → read L chunk ≡ o → shown_by copied (length old) o ≡ Ok w.len → take w.len (written_by copied old o) ≡ written → ByReading copied L chunk written
       from (shown r) is a b = room r is (leb (length (copied r)) (length old)) a b
       from (refusal q) is a b = absurd (let z : ◌≡◌ {A = ℕ} 0 1 = cc in omega arith)
 
