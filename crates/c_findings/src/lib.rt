@@ -29,14 +29,12 @@ fn write_findings(
     ensures { list.new ≡ splice 0 (list_numbers (take count (out_of limits chunk.now MAX-DIAGNOSTICS start).findings)) list.old }
 {
     let mut p = start;
-    let mut k = 0;
-    while k < count {
+    for k in 0..count {
         let Step::Found(finding, next) = forward(chunk, limits, p) else {
-            break;
+            unreachable!();
         };
         put_finding(list, 4 * k, finding);
         p = next;
-        k += 1;
     }
 }
 

@@ -26,14 +26,12 @@ pub fn validate_chunk_lua54(
 {
     let plan = prepare(chunk, limits, findings.len())?;
     let mut p = plan.start;
-    let mut k = 0;
-    while k < plan.count {
+    for k in 0..plan.count {
         let Step::Found(finding, next) = forward(chunk, limits, p) else {
-            break;
+            unreachable!();
         };
         findings[k] = finding;
         p = next;
-        k += 1;
     }
     Ok((plan.verdict, plan.count))
 }

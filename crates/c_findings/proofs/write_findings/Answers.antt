@@ -18,8 +18,8 @@ loop-k-preserved c =
     let found = step_found all c.loop-k.k _ c.loop-k.invariant.2 a.limits a.chunk.now MAX-DIAGNOSTICS _ _ c.in-Found.ensures in
     (omega arith, c.put_finding.ensures ∙ next-put all.findings a.list.now c.loop-k.k _ _ (omega (arith, c.requires.1)) (omega (arith, c.requires.0)) found.0 c.loop-k.invariant.1, found.1)
 
-pub returns-in_default : goal.returns-in_default
-returns-in_default c =
+pub unreachable-requires : goal.unreachable-requires
+unreachable-requires c =
     let a = c.args in
     let all = out_of a.limits a.chunk.now MAX-DIAGNOSTICS a.start in
-    absurd (omega (arith, step_done all c.loop-k.k _ c.loop-k.invariant.2 _ c.in_default.ensures, c.requires.1))
+    omega (arith, step_done all c.loop-k.k _ c.loop-k.invariant.2 _ c.in_default.ensures, c.requires.1)
