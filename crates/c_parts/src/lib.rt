@@ -43,7 +43,7 @@ fn head_numbers(h: Head) -> [u64; 16]
     ]
 }
 
-// The function that begins there, up to the functions that nest in it. Ruled out: a list's place before its count, an array that is touched where the answer is a refusal.
+// The function that begins there, up to the functions that nest in it. Ruled out: a list's place before its count.
 pub fn head_at(chunk: &[u8], limits: &[u64; 9], place: usize) -> Result<[u64; 16], Refusal>
     ensures { in_numbers result ≡ head_at limits.now place chunk.now }
 {
