@@ -7,7 +7,7 @@
  * A negative number stands in `out` as its two's complement: cast it to int64_t.
  * The library has no state, takes no memory but its stack and what it is lent, and calls nothing but memcpy and memset: calls may run in many threads at once, on one chunk too, each with lent memory of its own.
  * Cost, in the first words of each comment: a pass goes over the whole chunk once, and reads each function's numbers, counts and entries, but no words and no bytes of strings (of nested functions that spell a source, that source).
- * Stack: a call takes at most 480 bytes for each level of nesting (464 where it copies), of which there are at most 14, and 11 kB in all. Measured by compare/stack.py, not proved.
+ * Stack: a call takes at most 496 bytes for each level of nesting (480 where it copies), of which there are at most 14, and 10 kB in all. Measured by compare/stack.py, not proved.
  */
 #ifndef LAFZIMDO_H
 #define LAFZIMDO_H
