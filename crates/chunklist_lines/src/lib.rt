@@ -51,10 +51,8 @@ fn numbers<W: Write>(
         (take used out.old ++ (decimal first ++ spaced more.now)) out.new result }
 {
     let mut at = text_print::decimal(to, out, used, first)?;
-    let mut i = 0;
-    while i < 9 {
-        at = labelled(to, out, at, b" ", more[i])?;
-        i += 1;
+    for x in more {
+        at = labelled(to, out, at, b" ", *x)?;
     }
     text_print::text(to, out, at, b"\n")
 }

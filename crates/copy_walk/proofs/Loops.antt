@@ -2,9 +2,10 @@
 --     Copied           the copy of functions one after the other stands at a place, whatever is nested behind them
 --     Copies           in the loop: those passed are read (read_walk's `SoFar.antt`), and copied if what is asked of the function holds
 --     copies_none, copies_one, copies_all      before the first; behind one more; where none is left
+--     as_many          where what is left is the same number in another form
 -- Assumes nothing.
 use Rattle.std.specs.Prelude.{Ok}
-use mathlib.Core.Path.{◌≡◌, refl, sym, ◌∙◌, ap}
+use mathlib.Core.Path.{◌≡◌, refl, sym, subst, ◌∙◌, ap}
 use mathlib.Core.List.{List, [], ◌∷◌, ◌++◌, append_assoc, append-nil, foldr, foldr-append}
 use mathlib.Core.Option.{Option}
 use Prim.Native.Nat.{ℕ, ◌-◌, ◌<◌, ◌≤◌}
@@ -54,6 +55,13 @@ pub record Copies (way : Way) (If : Type 0) (s : Bytes) (L : ResourceLimits) (le
 
 pub copies_none : (way : Way) (If : Type 0) (s : Bytes) (L : ResourceLimits) (left : ℕ) (w : Where) (n : ℕ) (k : Skimmed) (at : ℕ) (l : Bytes) → k.number ≡ w.number → k.instructions ≡ w.instructions → Copies way If s L left w n k.next.at at l k n at l
 copies_none way If s L left w n k at l e i = record { passed = []; so_far = starts (entered L left) s w n k e i; copied = λ _. none_copied }
+
+-- a number of functions left in another form
+pub as_many : {way : Way} {If : Type 0} {s : Bytes} {L : ResourceLimits} {left : ℕ} {w : Where} {n from at₀ : ℕ}
+    {l₀ : Bytes} {k : Skimmed} {more same at : ℕ} {l : Bytes} → more ≡ same
+    → Copies way If s L left w n from at₀ l₀ k more at l → Copies way If s L left w n from at₀ l₀ k same at l
+as_many {way} {If} {s} {L} {left} {w} {n} {from} {at₀} {l₀} {k} {at = at} {l = l} e c =
+    subst (λ more. Copies way If s L left w n from at₀ l₀ k more at l) e c
 
 module _ {way : Way} {If : Type 0} {s : Bytes} (L : ResourceLimits) (left : ℕ) {w : Where} {n from at₀ : ℕ} {l₀ : Bytes} {k : Skimmed} {more at : ℕ} {l : Bytes} (a : Copies way If s L left w n from at₀ l₀ k more at l) where
   pub copies_all : If → Put (way.all w.source (foldr way.nest [] a.passed)) at₀ l₀ at l

@@ -45,8 +45,7 @@ pub fn copy_function(
         number: from.number + 1,
         instructions: from.instructions + begun.counts.instructions,
     };
-    let mut more = begun.counts.protos;
-    while more > 0 {
+    for _ in 0..begun.counts.protos {
         let at = nested.next.at;
         if left == 0 {
             return Err(Refusal::NestingDepth(at));
@@ -58,7 +57,6 @@ pub fn copy_function(
         let one = copy_function(s, limits, false, left - 1, nested, &mut out[start..])?;
         nested = one.walk;
         len = plus(len, one.len);
-        more -= 1;
     }
     copy_end(s, limits, begun.counts.upvalues, nested, out, len)
 }

@@ -2,9 +2,10 @@
 --     refuses          a walk that refuses may have written anything
 --     function-wrote   a function's row: its front before the rows of those that nest in it, the rest behind them
 --     Behind           in the loop: the rows of the functions passed stand there, and those left are read from here on
+--     as_many          where what is left is the same number in another form
 -- Assumes nothing.
 use Rattle.std.specs.Prelude.{Ok, Err}
-use mathlib.Core.Path.{◌≡◌, refl, sym, ◌∙◌, ap}
+use mathlib.Core.Path.{◌≡◌, refl, sym, subst, ◌∙◌, ap}
 use mathlib.Core.List.{List, [], ◌∷◌, ◌++◌, append_assoc}
 use Prim.Native.Nat.{ℕ, ◌+◌, ◌*◌, ◌-◌, ◌<◌, ◌≤◌}
 use native.Mathlib.Omega.{arith}
@@ -132,6 +133,13 @@ Behind s L n left depth parent from l₀ k more l = (w : Where) → from.number 
 
 pub starts-behind : (s : Bytes) (L : ResourceLimits) (n left depth parent : ℕ) (from : Skimmed) (l : List ℕ) → Behind s L n left depth parent from l from n l
 starts-behind s L n left depth parent from l w e i = record { passed = []; so_far = starts (entered L left) s w n from e i; wrote = λ _ _ _. sym (splice-none (COLUMNS * w.number) l) }
+
+-- a number of functions left in another form
+pub as_many : {s : Bytes} {L : ResourceLimits} {n left depth parent : ℕ} {from : Skimmed} {l₀ : List ℕ} {k : Skimmed}
+    {more same : ℕ} {l : List ℕ} → more ≡ same
+    → Behind s L n left depth parent from l₀ k more l → Behind s L n left depth parent from l₀ k same l
+as_many {s} {L} {n} {left} {depth} {parent} {from} {l₀} {k} {l = l} e b =
+    subst (λ more. Behind s L n left depth parent from l₀ k more l) e b
 
 module _ (s : Bytes) (L : ResourceLimits) (n left depth parent : ℕ) (from : Skimmed) (l₀ : List ℕ) (k : Skimmed) (more : ℕ) (l : List ℕ) (b : Behind s L n left depth parent from l₀ k more l) where
   abbrev all : Where → Read (List Prototype)

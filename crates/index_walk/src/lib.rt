@@ -39,8 +39,7 @@ pub fn write_function(
         number: from.number + 1,
         instructions: from.instructions + head.instructions,
     };
-    let mut more = head.protos;
-    while more > 0 {
+    for _ in 0..head.protos {
         let at = nested.next.at;
         if left == 0 {
             return Err(Refusal::NestingDepth(at));
@@ -58,7 +57,6 @@ pub fn write_function(
             rows,
             unused,
         )?;
-        more -= 1;
     }
     *unused = [0usize; 4];
     let (tail, next) = pass_tail(s, limits.max_string_bytes, nested.next, unused)?;

@@ -48,8 +48,7 @@ pub fn scan(s: &[u8], c: Code) -> Option<(Finding, Option<Finding>, Code)>
     let masks = glance.masks;
     let limits = glance.limits;
     let mut at = c.place.at;
-    let mut pc = c.pc;
-    while pc < end {
+    for pc in c.pc..end {
         let word = u32_at(s, at);
         if !fine_at_a_glance(word, &registers, &masks, &limits) {
             if let Some((first, second)) = judge(function, bounds, pc, word) {
@@ -63,7 +62,6 @@ pub fn scan(s: &[u8], c: Code) -> Option<(Finding, Option<Finding>, Code)>
             }
         }
         at += 4;
-        pc += 1;
     }
     None
 }

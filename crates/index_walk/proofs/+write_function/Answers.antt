@@ -2,7 +2,7 @@
 -- Assumes nothing.
 use Rattle.std.proofs.lemmas.Result.{err_from_is_err_and}
 use Rattle.std.specs.Prelude.{Ok, Err}
-use Prim.Native.Nat.{ℕ, ◌+◌}
+use Prim.Native.Nat.{ℕ, ◌+◌, ◌-◌}
 use mathlib.Core.Path.{◌≡◌, refl, sym, ◌∙◌}
 use lib.ListN.{length, drop}
 use native.Mathlib.Omega.{arith}
@@ -18,7 +18,7 @@ use Rattle.read_walk.proofs.HeadTail.{counts_total}
 use Rattle.read_walk.proofs.Passes as passes
 use Rattle.read_walk.proofs.SoFar as so_far
 use Rattle.read_walk.proofs.SoFar.{level}
-use Rattle.index_walk.proofs.Rows.{refuses, function-wrote, starts-behind, ends_behind, on-behind}
+use Rattle.index_walk.proofs.Rows.{refuses, function-wrote, starts-behind, as_many, ends_behind, on-behind}
 use Rattle.index_walk.proofs.+write_function.Goals as goal
 use Rattle.index_walk.proofs.+write_function.Goals.{In_ok-head}
 
@@ -48,17 +48,17 @@ overflow_add-nested-2 t c =
     let limit = c.requires.0.1 in
     omega (arith, e, limit)
 
-pub loop-more-init : goal.loop-more-init
-loop-more-init t c =
+pub loop-init : goal.loop-init
+loop-init t c =
     let a = c.args in
-    (refl, starts-behind a.s.now a.limits c.in_ok-head.head.protos a.left (a.depth + 1) a.from.number (stand t (goal.at.loop-more-init t c).In_ok-head) c.put_head.new.rows)
+    (refl, as_many (omega arith) (starts-behind a.s.now a.limits c.in_ok-head.head.protos a.left (a.depth + 1) a.from.number (stand t (goal.at.loop-init t c).In_ok-head) c.put_head.new.rows))
 
 pub returns-then-left-eq0 : goal.returns-then-left-eq0
 returns-then-left-eq0 t c =
     let a = c.args in
     let h = (goal.at.returns-then-left-eq0 t c).In_ok-head in
     let both = refuses a.from a.depth a.parent _ _ _ _ λ w n i.
-    refused_inside t h w i _ (so_far.deep a.limits a.left (c.loop-more.invariant.1 (place t h w i) (λ j. n j + 1) (so_many t h w i)).so_far c.loop-more-test.true c.if-left-eq0.true) in
+    refused_inside t h w i _ (so_far.deep a.limits a.left (c.loop.invariant.1 (place t h w i) (λ j. n j + 1) (so_many t h w i)).so_far (omega arith) c.if-left-eq0.true) in
     record { value = both.0; wrote = both.1 }
 
 pub returns-then-limits-nested : goal.returns-then-limits-nested
@@ -66,7 +66,7 @@ returns-then-limits-nested t c =
     let a = c.args in
     let h = (goal.at.returns-then-limits-nested t c).In_ok-head in
     let both = refuses a.from a.depth a.parent _ _ _ _ λ w n i.
-    refused_inside t h w i _ (so_far.many a.limits a.left (c.loop-more.invariant.1 (place t h w i) (λ j. n j + 1) (so_many t h w i)).so_far c.loop-more-test.true (level a.left c.if-left-eq0.false) c.if-limits-nested.true) in
+    refused_inside t h w i _ (so_far.many a.limits a.left (c.loop.invariant.1 (place t h w i) (λ j. n j + 1) (so_many t h w i)).so_far (omega arith) (level a.left c.if-left-eq0.false) c.if-limits-nested.true) in
     record { value = both.0; wrote = both.1 }
 
 pub write_function-requires : goal.write_function-requires
@@ -82,19 +82,19 @@ returns-in_err-nested t c =
     let a = c.args in
     let h = (goal.at.returns-in_err-nested t c).In_ok-head in
     let both = refuses a.from a.depth a.parent _ _ _ _ λ w n i.
-    refused_inside t h w i _ (so_far.stops a.limits a.left (c.loop-more.invariant.1 (place t h w i) (λ j. n j + 1) (so_many t h w i)).so_far c.loop-more-test.true (level a.left c.if-left-eq0.false) c.if-limits-nested.false
-    _ (sym c.in_err-nested.was ∙ c.write_function.ensures.value (on (place t h w i) c.loop-more.nested) refl refl)) in
+    refused_inside t h w i _ (so_far.stops a.limits a.left (c.loop.invariant.1 (place t h w i) (λ j. n j + 1) (so_many t h w i)).so_far (omega arith) (level a.left c.if-left-eq0.false) c.if-limits-nested.false
+    _ (sym c.in_err-nested.was ∙ c.write_function.ensures.value (on (place t h w i) c.loop.nested) refl refl)) in
     let p = err_from_is_err_and c.from_residual-in_err-nested.result c.from_residual-in_err-nested.ensures.1 in
     rw (p.1, p.2) (record { value = both.0; wrote = both.1 })
 
-pub loop-more-preserved : goal.loop-more-preserved
-loop-more-preserved t c =
+pub loop-preserved : goal.loop-preserved
+loop-preserved t c =
     let a = c.args in
-    let h = (goal.at.loop-more-preserved t c).In_ok-head in
-    let long : length c.write_function.new.rows ≡ length c.loop-more.rows = search rules in (
-      long ∙ c.loop-more.invariant.0,
-      on-behind a.s.now a.limits c.in_ok-head.head.protos a.left (a.depth + 1) a.from.number (stand t h) c.put_head.new.rows c.loop-more.nested c.loop-more.more c.loop-more.rows c.loop-more.invariant.1
-          c.loop-more.invariant.0 c.loop-more-test.true (level a.left c.if-left-eq0.false) c.if-limits-nested.false _ c.in_ok-nested.nested (λ w n i. sym c.in_ok-nested.was ∙ c.write_function.ensures.value w n i) c.write_function.ensures.wrote,
+    let h = (goal.at.loop-preserved t c).In_ok-head in
+    let long : length c.write_function.new.rows ≡ length c.loop.rows = search rules in (
+      long ∙ c.loop.invariant.0,
+      as_many {more = c.in_ok-head.head.protos - c.loop.counter - 1} (omega arith) (on-behind a.s.now a.limits c.in_ok-head.head.protos a.left (a.depth + 1) a.from.number (stand t h) c.put_head.new.rows c.loop.nested (c.in_ok-head.head.protos - c.loop.counter) c.loop.rows c.loop.invariant.1
+          c.loop.invariant.0 (omega arith) (level a.left c.if-left-eq0.false) c.if-limits-nested.false _ c.in_ok-nested.nested (λ w n i. sym c.in_ok-nested.was ∙ c.write_function.ensures.value w n i) c.write_function.ensures.wrote),
     )
 
 pub returns-in_err-head : goal.returns-in_err-head
@@ -109,7 +109,7 @@ returns-in_err-tail t c =
     let a = c.args in
     let h = (goal.at.returns-in_err-tail t c).In_ok-head in
     let both = refuses a.from a.depth a.parent _ _ _ _ λ w n i.
-    passes.tail-refused a.s.now a.limits a.left w a.from.next.at i c.in_ok-head.head c.in_ok-head.behind (begun t h) c.loop-more.nested (so_far.ends (c.loop-more.invariant.1 (place t h w i) (λ j. n j + 1) (so_many t h w i)).so_far c.loop-more-test.false)
+    passes.tail-refused a.s.now a.limits a.left w a.from.next.at i c.in_ok-head.head c.in_ok-head.behind (begun t h) c.loop.nested (so_far.ends (c.loop.invariant.1 (place t h w i) (λ j. n j + 1) (so_many t h w i)).so_far (omega arith))
     _ (sym c.in_err-tail.was ∙ c.pass_tail.ensures.value) in
     let p = err_from_is_err_and c.from_residual-in_err-tail.result c.from_residual-in_err-tail.ensures.1 in
     rw (p.1, p.2) (record { value = both.0; wrote = both.1 })
@@ -121,9 +121,9 @@ returns t c =
     let long : length c.put_head.new.rows ≡ length a.rows.now = search rules in
     let ended = sym c.in_ok-tail.was ∙ c.pass_tail.ensures.value in
     record {
-      value = λ w n i. passes.function-shown a.s.now a.limits a.left w a.from.next.at i c.in_ok-head.head c.in_ok-head.behind (begun t h) c.loop-more.nested (so_far.ends (c.loop-more.invariant.1 (place t h w i) (λ j. n j + 1) (so_many t h w i)).so_far c.loop-more-test.false) c.in_ok-tail.tail c.in_ok-tail.next ended;
-      wrote = λ w n i d p. function-wrote a.s.now a.limits a.left w a.from.next.at i c.in_ok-head.head c.in_ok-head.behind (begun t h) c.loop-more.nested (so_far.ends (c.loop-more.invariant.1 (place t h w i) (λ j. n j + 1) (so_many t h w i)).so_far c.loop-more-test.false) c.in_ok-tail.tail c.in_ok-tail.next ended
-          a.from.number a.depth a.parent n d p a.rows.now c.put_head.new.rows c.loop-more.rows _ c.put_head.ensures long
-          (ends_behind a.s.now a.limits c.in_ok-head.head.protos a.left (a.depth + 1) a.from.number (stand t h) c.put_head.new.rows c.loop-more.nested c.loop-more.more c.loop-more.rows c.loop-more.invariant.1 c.loop-more-test.false (place t h w i) (λ j. n j + 1) (so_many t h w i) (λ j. d j + 1) n)
-          c.loop-more.invariant.0 c.put_tail.ensures;
+      value = λ w n i. passes.function-shown a.s.now a.limits a.left w a.from.next.at i c.in_ok-head.head c.in_ok-head.behind (begun t h) c.loop.nested (so_far.ends (c.loop.invariant.1 (place t h w i) (λ j. n j + 1) (so_many t h w i)).so_far (omega arith)) c.in_ok-tail.tail c.in_ok-tail.next ended;
+      wrote = λ w n i d p. function-wrote a.s.now a.limits a.left w a.from.next.at i c.in_ok-head.head c.in_ok-head.behind (begun t h) c.loop.nested (so_far.ends (c.loop.invariant.1 (place t h w i) (λ j. n j + 1) (so_many t h w i)).so_far (omega arith)) c.in_ok-tail.tail c.in_ok-tail.next ended
+          a.from.number a.depth a.parent n d p a.rows.now c.put_head.new.rows c.loop.rows _ c.put_head.ensures long
+          (ends_behind a.s.now a.limits c.in_ok-head.head.protos a.left (a.depth + 1) a.from.number (stand t h) c.put_head.new.rows c.loop.nested (c.in_ok-head.head.protos - c.loop.counter) c.loop.rows c.loop.invariant.1 (omega arith) (place t h w i) (λ j. n j + 1) (so_many t h w i) (λ j. d j + 1) n)
+          c.loop.invariant.0 c.put_tail.ensures;
     }

@@ -14,29 +14,29 @@ returns-then-end-c c =
 pub u32_at-word-requires : goal.u32_at-word-requires
 u32_at-word-requires c =
     let a = c.args in
-    word_there a.s.now a.c _ c.loop-pc.at c.loop-pc.pc c.loop-pc.invariant c.loop-pc-test.true
+    word_there a.s.now a.c _ c.loop-pc.at c.loop-pc.pc c.loop-pc.invariant (omega arith)
 
 pub overflow_add-behind : goal.overflow_add-behind
 overflow_add-behind c =
-    let there = word_there c.args.s.now c.args.c _ c.loop-pc.at c.loop-pc.pc c.loop-pc.invariant c.loop-pc-test.true in
+    let there = word_there c.args.s.now c.args.c _ c.loop-pc.at c.loop-pc.pc c.loop-pc.invariant (omega arith) in
     omega (arith, c.well_formed.0.0)
 
 pub returns-in-Some : goal.returns-in-Some
 returns-in-Some c =
     let a = c.args in
-    finds a.s.now a.c _ c.loop-pc.at c.loop-pc.pc c.loop-pc.invariant c.loop-pc-test.true _ c.u32_at-word.ensures _ _ (sym c.judge.ensures ∙ ap group_of c.in-Some.is)
+    finds a.s.now a.c _ c.loop-pc.at c.loop-pc.pc c.loop-pc.invariant (omega arith) _ c.u32_at-word.ensures _ _ (sym c.judge.ensures ∙ ap group_of c.in-Some.is)
 
 pub overflow_add-at : goal.overflow_add-at
 overflow_add-at c =
-    let there = word_there c.args.s.now c.args.c _ c.loop-pc.at c.loop-pc.pc c.loop-pc.invariant c.loop-pc-test.true in
+    let there = word_there c.args.s.now c.args.c _ c.loop-pc.at c.loop-pc.pc c.loop-pc.invariant (omega arith) in
     omega (arith, c.well_formed.0.0)
 
 pub loop-pc-preserved : goal.loop-pc-preserved
 loop-pc-preserved c =
     let a = c.args in
-    passes a.s.now a.c _ c.loop-pc.at c.loop-pc.pc c.loop-pc.invariant c.loop-pc-test.true _ c.u32_at-word.ensures
+    passes a.s.now a.c _ c.loop-pc.at c.loop-pc.pc c.loop-pc.invariant (omega arith) _ c.u32_at-word.ensures
     (search rules)
 
 pub returns : goal.returns
 returns c = let a = c.args in
-    ends a.s.now a.c _ c.loop-pc.at c.loop-pc.pc c.loop-pc.invariant c.loop-pc-test.false
+    ends a.s.now a.c _ c.loop-pc.at c.loop-pc.pc c.loop-pc.invariant (omega arith)
