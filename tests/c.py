@@ -16,12 +16,9 @@ include, library = top / "include", top / "target/lib/liblafzimdo.a"
 header, texts = (include / "lafzimdo.h").read_text(), (include / "lafzimdo_text.h").read_text()
 plain = re.sub(r"/\*.*?\*/", "", header, flags=re.S)
 sys.path.insert(0, str(top / "tests"))
-from json_reader import as_bytes, objects, source
+from json_reader import as_bytes, objects
 from luac import chunks
 
-# A sanitizer that finds something ends the program with a status of its own: the usual one, 1, is also that of a file
-# that is refused.
-SANITIZED = {**os.environ, "ASAN_OPTIONS": "detect_leaks=1:exitcode=99", "UBSAN_OPTIONS": "halt_on_error=1:exitcode=99"}
 STRICT = ["-Wall", "-Wextra", "-Wpedantic", "-Wconversion", "-Werror"]
 
 
@@ -210,7 +207,6 @@ def expected_item(kind, f, e, item, shown, dump, check, chunk):
     """What an item is by its name alone, from the program's JSON; RIGHT where a place is right, None where the name says nothing that JSON has."""
     name = item.removeprefix(f"LAFZIMDO_{kind.upper()}_")
     function = dump["functions"][f]
-    its_source = source(function, dump["functions"])
     at = lambda what: shown[f"LAFZIMDO_{kind.upper()}_{what}"]
     text = lambda place, length, data: chunk[place:place + length] == (as_bytes(data) or b"")
     if name in LISTS and kind in ("function", "row", "head", "tail"):
@@ -218,7 +214,7 @@ def expected_item(kind, f, e, item, shown, dump, check, chunk):
     if name.endswith("_LINE") and kind in ("function", "head"):
         return int(function["line_defined" if name == "FIRST_LINE" else "last_line_defined"])
     if name.startswith("SOURCE_") and (kind == "function" or kind == "head" and at("HAS_SOURCE")):
-        return RIGHT if text(at("SOURCE_PLACE"), at("SOURCE_LENGTH"), its_source) else "source"
+        return RIGHT if text(at("SOURCE_PLACE"), at("SOURCE_LENGTH"), function["source"]) else "source"
     match kind, name:
         case "summary", _:
             h, warnings = dump["header"], dump["warnings"] + [{"place": 0, "code": ""}] * 2
@@ -229,8 +225,7 @@ def expected_item(kind, f, e, item, shown, dump, check, chunk):
                     "WARNING_2_PLACE": warnings[1]["place"], "PADDED": dump["padded_numbers"]}[name]
         case ("function" | "row" | "head"), _:
             own = {"DEPTH": function["depth"], "PARENT": function["parent"], "PARAMETERS": function["numparams"], "VARARG": function["is_vararg"], "STACK": function["maxstacksize"],
-                   "START": function["start"], "END": function["end"],
-                   "HAS_SOURCE": int((function.get("source") if kind == "head" else its_source) is not None)}
+                   "START": function["start"], "END": function["end"], "HAS_SOURCE": int(function["source"] is not None) if kind == "function" or f == 0 else None}
             if name == "INSTRUCTIONS_AT":
                 words = b"".join(i["word"].to_bytes(4, "little") for i in function["instructions"])
                 return RIGHT if text(at(name), len(words), {"hex": words.hex()}) else "words"
@@ -344,10 +339,6 @@ def walked(dump):
         yield from (b"  local %d from %d %s" % (at, local["startpc"], front(local["name"])) for at, local in enumerate(f["locals"]))
 
 
-def sanitized(*command):
-    return subprocess.run(command, capture_output=True, text=True, env=SANITIZED)
-
-
 def examples(folder):
     compiled(folder)
     path, out, seen = folder / "chunk", folder / "out", 0
@@ -356,9 +347,9 @@ def examples(folder):
         told = objects(subprocess.run([program, "dump", "--json", path], capture_output=True, text=True).stdout)
         if "refused" in told[0]:
             continue
-        printed = subprocess.run([folder / "walk", path], capture_output=True, check=True, env=SANITIZED).stdout
+        printed = subprocess.run([folder / "walk", path], capture_output=True, check=True).stdout
         assert printed == b"".join(line + b"\n" for line in walked(told[0])), name
-        shown = run(folder / "copy", path, out, env=SANITIZED)
+        shown = run(folder / "copy", path, out)
         assert shown.startswith(f"{len(chunk)} bytes, copy {out.stat().st_size} bytes, valid-for-analysis"), shown
         copy = subprocess.run([program, "copy", path, "-"], capture_output=True, check=True).stdout
         assert out.read_bytes() == copy, name
@@ -366,13 +357,10 @@ def examples(folder):
         seen += 1
     path.write_bytes(chunk[:40])
     for example, arguments in (("walk", [path]), ("copy", [path, out]), ("functions", [path])):
-        ran = sanitized(folder / example, *arguments)
+        ran = subprocess.run([folder / example, *arguments], capture_output=True, text=True)
         assert ran.returncode == 1 and "the file is cut short (CORE-TRUNC-001)" in ran.stderr, ran
-        ran = sanitized(folder / example, folder / "none", *arguments[1:])
+        ran = subprocess.run([folder / example, folder / "none", *arguments[1:]], capture_output=True, text=True)
         assert ran.returncode == 3, ran
-    path.write_bytes(chunk)
-    ran = sanitized(folder / "copy", path, folder / "none/copy")
-    assert ran.returncode == 3 and "none/copy: No such file or directory" in ran.stderr, ran
     path.write_bytes(b"")
     assert subprocess.run([folder / "functions", path], capture_output=True).returncode == 1
     return seen

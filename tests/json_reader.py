@@ -3,8 +3,7 @@ import json
 import re
 
 KINDS = {"object": dict, "array": list, "string": str, "null": type(None), "boolean": bool}
-KNOWN = {"$schema", "$defs", "$ref", "title", "description", "anyOf", "oneOf", "type", "enum", "const", "pattern",
-         "required", "properties", "additionalProperties", "items"}
+KNOWN = {"$schema", "$defs", "$ref", "title", "anyOf", "type", "enum", "const", "pattern", "required", "properties", "additionalProperties", "items"}
 
 
 def objects(text):
@@ -37,8 +36,6 @@ def fits(schema, value, whole):
         return fits(at, value, whole)
     if "anyOf" in schema and not any(fits(one, value, whole) for one in schema["anyOf"]):
         return False
-    if "oneOf" in schema and sum(fits(one, value, whole) for one in schema["oneOf"]) != 1:
-        return False
     kinds = schema.get("type", [])
     if kinds and not any(is_kind(kind, value) for kind in ([kinds] if isinstance(kinds, str) else kinds)):
         return False
@@ -54,11 +51,6 @@ def fits(schema, value, whole):
     if isinstance(value, list) and "items" in schema:
         return all(fits(schema["items"], item, whole) for item in value)
     return True
-
-
-def source(function, functions):
-    """The source of a function of `list` or `dump`: its own, or that of the function that it has it from."""
-    return function["source"] if "source" in function else functions[function["source_of"]]["source"]
 
 
 def as_bytes(shown):

@@ -20,10 +20,8 @@ def told(folder, late, terminal_out=False):
     os.mkfifo(names[1])
 
     def fill():
-        # Open at once: of a pipe that nobody has opened the program itself tells that it waits (pipes.py).
-        with open(names[1], "wb") as pipe:
-            time.sleep(late)
-            pipe.write(sample)
+        time.sleep(late)
+        names[1].write_bytes(sample)
     writer = threading.Thread(target=fill)
     writer.start()
     ours, theirs = pty.openpty()

@@ -149,6 +149,7 @@ fn copies() {
         assert_eq!(fs::read(&path).unwrap(), other);
     }
     fs::write(&path, "precious").unwrap();
+    run(&["copy", &recentre(), out]).says(3, "--force");
     run_on(&["copy", "--force", "-", out], b"no chunk").says(1, "refused");
     assert_eq!(fs::read(&path).unwrap(), b"precious");
     assert_eq!(run(&["copy", "--force", &recentre(), out]).text(0), "");
@@ -181,6 +182,8 @@ fn a_file_that_is_replaced() {
     assert!(fs::symlink_metadata(&link).unwrap().is_symlink());
     assert_eq!(fs::metadata(&path).unwrap().permissions().mode() & 0o777, 0o640);
     assert_eq!(fs::read(&path).unwrap(), fs::read(recentre()).unwrap());
+    let folder = fs::read_dir(env!("CARGO_TARGET_TMPDIR")).unwrap();
+    assert!(folder.flatten().all(|file| !file.file_name().to_str().unwrap().starts_with("replaced.luac.")));
     // What a link leads to may also be there already; or nothing may be there.
     assert_eq!(run(&["copy", &recentre(), link.to_str().unwrap()]).text(0), "");
     fs::remove_file(&path).unwrap();
@@ -214,6 +217,8 @@ fn a_copy_that_cannot_be_finished() {
     }
     assert_eq!(fs::read(&there).unwrap(), b"precious");
     assert!(!none.exists());
+    let folder = fs::read_dir(env!("CARGO_TARGET_TMPDIR")).unwrap();
+    assert!(folder.flatten().all(|file| !file.file_name().to_str().unwrap().starts_with("there.luac.")));
 }
 
 #[test]
@@ -327,6 +332,11 @@ fn a_reader_that_wants_no_more() {
     let path = fresh("long.luac");
     fs::write(&path, &bytes).unwrap();
     let output = program().arg("dump").arg(&path).stdout(unread()).stderr(Stdio::piped()).output().unwrap();
+    assert_eq!((output.status.code(), String::from_utf8(output.stderr).unwrap()), (Some(0), String::new()));
+    // The same where the reader goes once the program runs.
+    let mut child = program().arg("dump").arg(&path).stdout(Stdio::piped()).stderr(Stdio::piped()).spawn().unwrap();
+    drop(child.stdout.take());
+    let output = child.wait_with_output().unwrap();
     assert_eq!((output.status.code(), String::from_utf8(output.stderr).unwrap()), (Some(0), String::new()));
     // A copy that is not taken is not delivered.
     let output = program().arg("copy").arg(&path).arg("-").stdout(unread()).stderr(Stdio::piped()).output().unwrap();

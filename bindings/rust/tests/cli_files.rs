@@ -169,8 +169,6 @@ fn copies_into_a_folder() {
     let folder = folder("into");
     let out = folder.join("out");
     let to = out.to_str().unwrap();
-    let good = fs::read(folder.join("good.luac")).unwrap();
-    fs::write(folder.join("again/good.luac"), [&good[..], b"again"].concat()).unwrap();
     let printed = told(&folder, &["copy", "--into", to], "good.luac cut.luac again/good.luac odd.luac none.luac", 3);
     let expected = "\
 good.luac: copy of 2372 bytes
@@ -180,6 +178,7 @@ odd.luac: copy of 2373 bytes
 none.luac: No such file or directory (os error 2)
 ";
     assert_eq!(printed, expected);
+    let good = fs::read(folder.join("good.luac")).unwrap();
     assert_eq!(fs::read(out.join("good.luac")).unwrap(), good);
     assert_eq!(fs::read(out.join("odd.luac")).unwrap(), [&good[..], &[0]].concat());
     let mut there: Vec<_> = fs::read_dir(&out).unwrap().map(|file| file.unwrap().file_name()).collect();
@@ -195,8 +194,7 @@ none.luac: No such file or directory (os error 2)
     let printed = told(&folder, &["copy", "--into", to], "good.luac invalid.luac", 3);
     assert_eq!(
         printed,
-        "good.luac: out/good.luac: it exists already, and is no such copy; --force overwrites it\n\
-        invalid.luac: copy of 50 bytes\n"
+        "good.luac: out/good.luac: it exists already; --force overwrites it\ninvalid.luac: copy of 50 bytes\n"
     );
     assert_eq!(fs::read(out.join("good.luac")).unwrap(), b"precious");
     assert_eq!(told(&folder, &["copy", "--force", "--quiet", "--into", to], "good.luac", 0), "");
@@ -361,4 +359,9 @@ fn an_output_that_ends_early() {
         let output = command.args(arguments).args(names).stdout(unread()).stderr(Stdio::piped()).output().unwrap();
         assert_eq!((output.status.code(), output.stderr), (Some(status), vec![]), "{arguments:?}");
     }
+    // The same where the reader goes once the program runs.
+    let mut child = program().arg("list").args(&names).stdout(Stdio::piped()).stderr(Stdio::piped()).spawn().unwrap();
+    drop(child.stdout.take());
+    let output = child.wait_with_output().unwrap();
+    assert_eq!(String::from_utf8(output.stderr).unwrap(), "");
 }

@@ -6,10 +6,10 @@ pub fn undumped(dump: &str) -> Vec<String> {
     let (last, trailing) = blocks[blocks.len() - 1].split_once("\ntrailing bytes ").unwrap();
     let mut shown = head(blocks[0]);
     shown.push(trailing_line(trailing));
-    let mut sources = Vec::new();
-    for block in blocks[1..blocks.len() - 1].iter().chain([&last]) {
-        shown.extend(function(block, &mut sources));
+    for block in &blocks[1..blocks.len() - 1] {
+        shown.extend(function(block));
     }
+    shown.extend(function(last));
     shown
 }
 
@@ -41,21 +41,14 @@ fn trailing_line(block: &str) -> String {
     format!("trailing {place} {}", if bytes.is_empty() { "-" } else { &bytes })
 }
 
-/// A function; the sources are those of the functions before it, and its own is put behind them.
-fn function(block: &str, sources: &mut Vec<String>) -> Vec<String> {
+fn function(block: &str) -> Vec<String> {
     let mut lines = block.lines();
     let words: Vec<&str> = lines.next().unwrap().split(' ').collect();
     let mut shown = vec![format!(
         "function {} depth {} parent {} start {} end {}",
         words[0], words[2], words[4], words[6], words[8]
     )];
-    let source = lines.next().unwrap().strip_prefix("  source ").unwrap();
-    // A source is printed by the function that spells it; it is that of the functions in it which spell none.
-    sources.push(match source.strip_prefix("of function ") {
-        Some(other) => sources[other.parse::<usize>().unwrap()].clone(),
-        None => unquoted(source),
-    });
-    shown.push(format!("source {}", sources[sources.len() - 1]));
+    shown.push(format!("source {}", unquoted(lines.next().unwrap().strip_prefix("  source ").unwrap())));
     shown.push(lines.next().unwrap().trim_start().replace(" to ", " "));
     let words: Vec<&str> = lines.next().unwrap().split(' ').collect();
     shown.push(format!("bytes {} {} {}", words[3], words[5], words[7]));
