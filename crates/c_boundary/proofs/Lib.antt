@@ -1,4 +1,5 @@
 pub mod NumberCases
+pub mod Calls
 pub mod Complement
 pub mod Numbers
 pub mod Admitted

@@ -79,6 +79,13 @@ pub fn answered<const N: usize>(answer: Result<[u64; N], Refusal>, out: &mut [u6
     }
 }
 
+// One number in an array, and two.
+pub fn one(n: u64) -> [u64; 1]
+    ensures { result ≡ n ∷ [] }
+{
+    [n]
+}
+
 // Two numbers as an array.
 pub fn two(n: u64, m: u64) -> [u64; 2]
     ensures { result ≡ n ∷ m ∷ [] }

@@ -14,8 +14,8 @@ ghost use Rattle.c_findings.specs.FindingNumbers.{list_numbers, of_findings, num
 use c_boundary::{limits_of, refused, two};
 use c_finding::{put_finding, verdict_number};
 use format::limits::ResourceLimits;
-use validate_plan::{forward, prepare};
-use validate_search::search::{Position, Step};
+use validate_plan::{next_finding, prepare};
+use validate_search::search::Position;
 
 // The first `count` findings from a position on, at the front of the list.
 fn write_findings(
@@ -30,9 +30,7 @@ fn write_findings(
 {
     let mut p = start;
     for k in 0..count {
-        let Step::Found(finding, next) = forward(chunk, limits, p) else {
-            unreachable!();
-        };
+        let (finding, next) = next_finding(chunk, limits, p);
         put_finding(list, 4 * k, finding);
         p = next;
     }

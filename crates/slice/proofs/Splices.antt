@@ -5,6 +5,7 @@
 --     splice_set       one number is stored
 --     splice_then      two pieces, the second right behind the first, are one
 --     splice_mid       a part of the list is put back with other numbers in it
+--     copied_next      of a piece that is copied, one number more
 --     splice_four      four numbers are stored
 --     splice-before    two pieces, where the first is written last
 --     splice_three     three pieces, each right behind the one before
@@ -15,9 +16,9 @@ use Prim.Native.Nat.{ℕ, suc, ◌+◌, ◌-◌, ◌≤◌, ◌<◌}
 use native.Mathlib.Nat.{add_assoc, add-zero, zero-add}
 use native.Mathlib.Numerals.{add-one}
 use native.Mathlib.Omega.{arith}
-use lib.ListN.{length, take, drop, set, length-append, length-drop, take-append-drop}
+use lib.ListN.{length, take, drop, set, get_or, length-append, length-drop, take-append-drop}
 use borrow.Rule.Slice.PartMut.{put_mid, Post-is}
-use lib.Seq.{length-take-le, take-append_seam, drop-append-add, drop-drop, set_split, take-append-le, take-take, drop_at, sets-eq}
+use lib.Seq.{length-take-le, take-append_seam, drop-append-add, drop-drop, set_split, take-suc, get_or-drop, take-append-le, take-take, drop_at, sets-eq}
 use Rattle.slice.specs.Inner.Splice.{splice}
 
 pub splice-length : (at : ℕ) (s l : List ℕ) → at + length s ≤ length l → length (splice at s l) ≡ length l
@@ -46,6 +47,19 @@ splice_then at s t l fits =
     ap (λ (x : List ℕ). take (at + length s) x ++ (t ++ drop (at + length s + length t) x)) (sym (append_assoc (take at l) s (drop (at + length s) l)))
     ∙ then_at (take at l ++ s) t (drop (at + length s) l) (at + length s) (length-append (take at l) s ∙ ap (λ (k : ℕ). k + length s) (length-take-le at l (omega arith)))
     ∙ simp (append_assoc, drop-drop, length-append, add_assoc)
+
+pub copied_next : (s : List ℕ) (start w i len : ℕ) (l out : List ℕ) → len ≤ length s - start → w + len ≤ length l → i < len → out ≡ splice w (take i (drop start s)) l
+    → set out (w + i) (get_or s (start + i) 0) ≡ splice w (take (i + 1) (drop start s)) l
+copied_next s start w i len l out a b h e =
+    let size : length (take i (drop start s)) ≡ i = length-take-le i (drop start s) (rw length-drop (omega arith)) in
+    let inside : w + i < length out = rw (e, splice-length w (take i (drop start s)) l (omega arith)) (omega arith) in
+    let more : take (i + 1) (drop start s) ≡ take i (drop start s) ++ (get_or s (start + i) 0 ∷ []) =
+    rw (add-one, take-suc (drop start s) i 0 (rw length-drop (omega arith)), get_or-drop) in
+    splice_set (w + i) (get_or s (start + i) 0) out inside
+    ∙ ap (splice (w + i) (get_or s (start + i) 0 ∷ [])) e
+    ∙ ap (λ k. splice (w + k) (get_or s (start + i) 0 ∷ []) (splice w (take i (drop start s)) l)) (sym size)
+    ∙ splice_then w (take i (drop start s)) (get_or s (start + i) 0 ∷ []) l (omega arith)
+    ∙ ap (λ t. splice w t l) (sym more)
 
 pub splice_mid : (at end : ℕ) (xs ys l : List ℕ) → ys ≡ xs → end ≡ at + length xs → put_mid at (end - at) l ys ≡ splice at xs l
 unfolding splice

@@ -3,7 +3,7 @@ ghost use Rattle.std.specs.Prelude.{◌≡◌, ◌≤◌, ◌<◌, IfSome};
 ghost use Rattle.text_read.specs.Inner.Numbers.{digit_of, spelt};
 
 // What a byte is worth as a digit, `0` to `9` or `a` to `f`.
-fn digit(b: u8) -> Option<u8>
+pub fn digit(b: u8) -> Option<u8>
     ensures value { result ≡ digit_of b }
     ensures bound { IfSome result (λ d. d < 16) }
 {

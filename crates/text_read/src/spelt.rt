@@ -1,5 +1,7 @@
 // The numbers of a line, from a place on: decimal; `x` and hexadecimal digits stand for a number for each byte; behind
 // `=` stand those that are wanted.
+ghost use Rattle.std.specs.Prelude.{◌≤◌, length};
+
 use crate::number::pair;
 use crate::token;
 use text_list::Numbers;
@@ -12,8 +14,8 @@ pub struct Spelt {
     pub to: usize,
 }
 
-// Reads the numbers of a line, from `start` on, into `want`: in each turn a word or a space. None where a word spells
-// no number.
+// Reads the numbers of a line, from `start` on, into `want`: in each turn a word or the spaces behind it. None where a
+// word spells no number.
 pub fn numbers(line: &[u8], start: usize, want: &mut Numbers) -> Option<Spelt> {
     let mut s = Spelt {
         at: start,
@@ -21,16 +23,26 @@ pub fn numbers(line: &[u8], start: usize, want: &mut Numbers) -> Option<Spelt> {
         to: 0,
     };
     for _ in line {
-        s = word(line, want, s)?;
+        match line.get(s.at) {
+            None => break,
+            Some(b' ') => s.at += spaces(&line[s.at..]),
+            Some(_) => s = word(line, want, s)?,
+        }
     }
     Some(s)
 }
 
-// One word more, or a space, or nothing at the line's end.
+// How many spaces come first.
+fn spaces(rest: &[u8]) -> usize
+    ensures { result ≤ length rest.now }
+{
+    rest.iter().take_while(|b| **b == b' ').count()
+}
+
+// One word more, or nothing at the line's end.
 fn word(line: &[u8], want: &mut Numbers, s: Spelt) -> Option<Spelt> {
     match line.get(s.at) {
         None => Some(s),
-        Some(b' ') => Some(Spelt { at: s.at + 1, ..s }),
         Some(b'=') => Some(Spelt {
             at: s.at + 1,
             from: Some(s.to),

@@ -9,12 +9,11 @@ ghost use Rattle.validate_plan.specs.Validated.{shown_findings, findings_written
 
 use format::limits::ResourceLimits;
 use format::refusal::Refusal;
-use validate_plan::{forward, prepare};
+use validate_plan::{next_finding, prepare};
 use validate_rules::finding::{Finding, Verdict};
-use validate_search::search::Step;
 
 // The findings in the order found, in the first places of the list, and the verdict with their number. Every decision is
-// taken before the loop, whose steps have a finding each.
+// taken before the loop, and the loop has no branch.
 // Ruled out: success that writes nothing, a refusal that writes.
 pub fn validate_chunk_lua54(
     chunk: &[u8],
@@ -27,9 +26,7 @@ pub fn validate_chunk_lua54(
     let plan = prepare(chunk, limits, findings.len())?;
     let mut p = plan.start;
     for k in 0..plan.count {
-        let Step::Found(finding, next) = forward(chunk, limits, p) else {
-            unreachable!();
-        };
+        let (finding, next) = next_finding(chunk, limits, p);
         findings[k] = finding;
         p = next;
     }

@@ -1,5 +1,6 @@
 -- The steps of a search, one after the other: after k of them, what is left is the list without its first k.
 --     After l k rest       after k steps through l, rest is left
+--     left_over            so many are left
 --     step_found           a finding of step k is finding k
 --     step_done            where a step has none, there are k
 -- Assumes nothing.
@@ -27,7 +28,7 @@ pub at_first : (l : Listing) → After l 0 l
 at_first l = record { within = omega arith; findings = refl }
 
 module _ (l : Listing) (k : ℕ) (rest : Listing) (a : After l k rest) where
-  left_over : length rest.findings + k ≡ length l.findings
+  pub left_over : length rest.findings + k ≡ length l.findings
   left_over = omega (arith, a.within, ap (λ (x : List Finding). length x) a.findings, length-drop k l.findings)
 
   module _ (f : Finding) (next : Listing) (e : rest ≡ prepend (f ∷ []) next) where

@@ -1,10 +1,10 @@
 // What the writer goes by: every decision before it writes, and one step.
 #![tactic(auto)]
 
-ghost use Rattle.std.specs.Prelude.{◌≡◌, ◌<◌, ◌≤◌};
+ghost use Rattle.std.specs.Prelude.{◌≡◌, ◌<◌, ◌≤◌, [], ◌∷◌, length};
 ghost use Rattle.format.specs.Limits.{MOST};
 ghost use Rattle.format.specs.ReadChunk as format;
-ghost use Rattle.validate_rules.specs.Findings.{MAX-DIAGNOSTICS};
+ghost use Rattle.validate_rules.specs.Findings.{MAX-DIAGNOSTICS, prepend};
 ghost use Rattle.validate_search.specs.Inner.Position.{out_of, stepped, start_position};
 ghost use Rattle.validate_plan.specs.Inner.Plan.{plan_of, Planned};
 
@@ -13,7 +13,7 @@ use format::refusal::Refusal;
 use read_chunk::MAIN_AT;
 use read_chunk::summary::judge_chunk;
 use slice::cursor::Cursor;
-use validate_rules::finding::{MAX_DIAGNOSTICS, Verdict};
+use validate_rules::finding::{Finding, MAX_DIAGNOSTICS, Verdict};
 use validate_search::search::{Position, Step, advance, start};
 use validate_verdict::tally::{tally, verdict_of};
 use validate_verdict::verdict::kept_count;
@@ -67,4 +67,16 @@ pub fn forward(s: &[u8], limits: ResourceLimits, p: Position) -> Step
     ensures { out_of limits s.now MAX-DIAGNOSTICS p ≡ stepped limits s.now MAX-DIAGNOSTICS result }
 {
     advance(s, limits, MAX_DIAGNOSTICS, p)
+}
+
+// The next finding and the position behind it, where one is left: a writer's loop has no branch.
+// Ruled out: a finding passed over, one that is found again.
+pub fn next_finding(s: &[u8], limits: ResourceLimits, p: Position) -> (Finding, Position)
+    requires { (limits.max_total_instructions ≤ MOST) × (0 < length (out_of limits s.now MAX-DIAGNOSTICS p).findings) }
+    ensures { out_of limits s.now MAX-DIAGNOSTICS p ≡ prepend (result.0 ∷ []) (out_of limits s.now MAX-DIAGNOSTICS result.1) }
+{
+    let Step::Found(finding, next) = forward(s, limits, p) else {
+        unreachable!();
+    };
+    (finding, next)
 }

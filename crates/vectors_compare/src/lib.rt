@@ -19,6 +19,14 @@ pub fn first_difference(a: &[u64], b: &[u64]) -> usize
     a.len()
 }
 
+// Whether two lists are the same.
+// Ruled out: a comparison that cannot fail, one that stops before the end, lengths that are not compared.
+fn same(a: &[u64], b: &[u64]) -> bool
+    ensures { (result ≡ true → a.now ≡ b.now) × (a.now ≡ b.now → result ≡ true) }
+{
+    a == b
+}
+
 // Whether the first n numbers that came are those that are wanted, from one place to another. A list that is full
 // may have been cut, and agrees with none.
 // The places stand beside the lists, and not slices: whether a list is full is part of what is asked.
@@ -27,7 +35,7 @@ pub fn agrees(want: &[u64], from: usize, to: usize, got: &[u64], n: usize) -> bo
     ensures fitting { result ≡ true → Fitting want.now from to got.now n × Alike want.now from to got.now n }
     ensures value { Fitting want.now from to got.now n → Alike want.now from to got.now n → result ≡ true }
 {
-    from <= to && to < want.len() && n < got.len() && want[from..to] == got[..n]
+    from <= to && to < want.len() && n < got.len() && same(&want[from..to], &got[..n])
 }
 
 // How many answers agreed, and how many differed.

@@ -1,14 +1,13 @@
--- `slice::lent::copy_bytes` meets its contract. Assumes nothing.
-use mathlib.Core.Path.{◌≡◌, ◌∙◌}
-use Prim.Native.Nat.{◌+◌}
-use native.Mathlib.Omega.{arith}
-use lib.ListN.{length, take, drop, length-drop}
-use lib.Seq.{length-take-le}
-use Rattle.slice.proofs.Splices.{splice_mid}
+-- `slice::lent::copy_bytes` meets its contract: a byte more is written. Assumes nothing.
+use mathlib.Core.Path.{refl, sym}
+use borrow.Author.Rules.{rules}
+use Rattle.slice.proofs.Splices.{splice-none, copied_next}
 use Rattle.slice.proofs.lent.copy_bytes.Goals as goal
 
-pub returns : goal.returns
-returns c =
+pub loop-i-init : goal.loop-i-init
+loop-i-init c = (refl, sym (splice-none _ _))
+
+pub loop-i-preserved : goal.loop-i-preserved
+loop-i-preserved c =
     let a = c.args in
-    let size : length (take a.len (drop a.start a.s.now)) ≡ a.len = length-take-le a.len (drop a.start a.s.now) (rw length-drop c.requires.0) in
-    splice_mid a.at (a.at + a.len) (take a.len (drop a.start a.s.now)) c.copy_from_slice.new.self a.out.now (c.copy_from_slice.ensures.after ∙ c.bytes_at.ensures) (omega arith)
+    (search rules, copied_next a.s.now a.start _ _ a.len a.out.now _ c.requires.0 c.requires.1 c.loop-i-test.true c.loop-i.invariant.1)
